@@ -1,0 +1,5 @@
+pub mod Serves
+pub mod CoreOrder
+pub mod TreeInduction
+pub mod ItemOrder
+pub mod Antisymmetry

@@ -1,0 +1,8 @@
+pub mod Text
+pub mod ValueTree
+pub mod CoreTree
+pub mod ItemTree
+pub mod Order
+pub mod Same
+pub mod Laws
+pub mod Desc
