@@ -1,0 +1,10 @@
+pub mod Place
+pub mod Collection
+pub mod Content
+pub mod Key
+pub mod Sound
+pub mod Unfolding
+pub mod Height
+pub mod Tree
+pub mod Growth
+pub mod View

@@ -1,0 +1,21 @@
+//! The types of WebAssembly components, in collections whose ids always lead to an entry and never
+//! back to where they started.
+#![tactic(auto)]
+
+pub mod collection;
+pub mod defined;
+pub mod functions;
+pub mod ids;
+pub mod interfaces;
+pub mod items;
+pub mod resources;
+pub mod worlds;
+
+pub use collection::Types;
+pub use defined::{DefinedType, Enum, Flags, Record, Variant};
+pub use functions::{FuncKind, FuncType};
+pub use ids::{DefinedTypeId, FuncTypeId, InterfaceId, ModuleTypeId, ResourceId, WorldId};
+pub use interfaces::{Interface, UsedType};
+pub use items::{ItemKind, Type, ValueType};
+pub use resources::{Resource, ResourceAlias};
+pub use worlds::{ExternKind, World};
