@@ -4,10 +4,12 @@
 
 pub mod collection;
 pub mod defined;
+pub mod desc;
 pub mod functions;
 pub mod ids;
 pub mod interfaces;
 pub mod items;
+pub mod laws;
 pub mod resources;
 pub mod worlds;
 

@@ -1,0 +1,9 @@
+pub mod Keys
+pub mod Lists
+pub mod Unfolded
+pub mod Trees
+pub mod Kept
+pub mod Added
+pub mod Extended
+pub mod Adding
+pub mod Reading
