@@ -1,0 +1,41 @@
+-- Where there is a path the sides do not fit, and how a path is made.
+use Rattle.std.proofs.Common.{[], ◌∷◌}
+use Rattle.wac_mismatch.specs.Place.{Side, place, by_check, SideFits}
+use Rattle.wac_mismatch.specs.Holds.{Holds}
+use Rattle.wac_mismatch.specs.Path.{Leads, Explains, Refutes}
+use Rattle.wac_mismatch.specs.Laws.{APathRefutes}
+use Rattle.wac_mismatch.specs.Steps.{IsHere, IsUnder}
+use Rattle.wac_mismatch.proofs.FaultLemmas.{holds_refutes}
+use Rattle.wac_mismatch.proofs.PartLemmas.{lead_fits}
+use Rattle.wac_mismatch.specs.declared.check.SubtypeCheck.{SubtypeCheck}
+use Rattle.wac_mismatch.specs.declared.check.SubtypeCheck.TheVariants.{Covariant, Contravariant}
+use Rattle.wac_mismatch.specs.declared.frame.Frame.{Frame}
+use Rattle.wac_mismatch.specs.declared.fault.Fault.{Fault}
+use Rattle.wac_mismatch.specs.declared.error.SubtypeError.{SubtypeError}
+use Rattle.wac_mismatch.specs.declared.error.SubtypeError.TheVariants.{Mismatch, Memory}
+
+-- a path refutes that the left side fits
+pub path_refutes : APathRefutes
+path_refutes [] f p h fits = holds_refutes f p.check p.left p.right h fits
+path_refutes (frame ∷ frames) f p h fits = path_refutes frames f h.0 h.2 (lead_fits frame p h.0 h.1 fits)
+
+-- a refusal that explains itself refutes it
+pub explains_refutes : (e : SubtypeError) (c : SubtypeCheck) (a b : Side) → Explains e c a b → Refutes e (SideFits a b)
+explains_refutes (Mismatch frames f) c a b h = path_refutes frames.items f (place c a b) h
+explains_refutes Memory c a b h = tt
+
+-- what a fact of each pair gives, in either direction
+pub by_check-map : {X Y : Type 0} (c : SubtypeCheck) (P : X → X → Type 0) (Q : Y → Y → Type 0) (g : X → Y) → ((x y : X) → P x y → Q (g x) (g y)) → (x y : X) → by_check c P x y → by_check c Q (g x) (g y)
+by_check-map Covariant P Q g h x y p = h y x p
+by_check-map Contravariant P Q g h x y p = h x y p
+
+-- a refusal with no frame explains itself by its fault
+pub explains_here : (P : Fault → Type 0) (r : SubtypeError) (c : SubtypeCheck) (a b : Side) → IsHere P r → ((f : Fault) → P f → Holds f (place c a b)) → Explains r c a b
+explains_here P (Mismatch frames f) c a b h d = rw h.0 (d f h.1)
+explains_here P Memory c a b h d = tt
+
+-- one more frame outside explains the sides of which it names the parts
+pub explains_under : (P : Frame → Type 0) (e r : SubtypeError) (c : SubtypeCheck) (a b a' b' : Side) → IsUnder P e r → ((f : Frame) → P f → Leads f (place c a b) (place c a' b')) → Explains e c a' b' → Explains r c a b
+explains_under P e Memory c a b a' b' h l x = tt
+explains_under P Memory (Mismatch frames f) c a b a' b' h l x = absurd h
+explains_under P (Mismatch inner f) (Mismatch frames g) c a b a' b' h l x = rw (h.2, h.3) (place c a' b', l h.0 h.1, x)

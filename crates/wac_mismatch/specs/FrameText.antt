@@ -1,0 +1,20 @@
+-- The text of each frame.
+use Rattle.std.specs.Prelude.{[], ◌∷◌, codes, decimal, string_bytes}
+use Rattle.wac_model.specs.Text.{Text}
+use Rattle.wac_mismatch.specs.Joined.{joined}
+use Rattle.wac_mismatch.specs.declared.frame.Frame.{Frame}
+use Rattle.wac_mismatch.specs.declared.frame.Frame.TheVariants.{Parameter, FuncResult, ListElement, FixedSizeListElement, FuturePayload, StreamPayload, Option, Ok, Err, Field, Case, Item}
+
+abbrev pub frame_text : Frame → Text
+frame_text (Parameter n) = joined (codes "mismatched type for function parameter `" ∷ string_bytes n ∷ codes "`" ∷ [])
+frame_text FuncResult = codes "mismatched type for function result"
+frame_text ListElement = codes "mismatched type for list element"
+frame_text FixedSizeListElement = codes "mismatched type for fixed size list element"
+frame_text FuturePayload = codes "mismatched type for future payload"
+frame_text StreamPayload = codes "mismatched type for stream payload"
+frame_text Option = codes "mismatched type for option"
+frame_text Ok = codes "mismatched type for result `ok`"
+frame_text Err = codes "mismatched type for result `err`"
+frame_text (Field n) = joined (codes "mismatched type for record field `" ∷ string_bytes n ∷ codes "`" ∷ [])
+frame_text (Case n) = joined (codes "mismatched type for variant case `" ∷ string_bytes n ∷ codes "`" ∷ [])
+frame_text (Item i) = joined (codes "mismatched type for tuple item " ∷ decimal i ∷ [])

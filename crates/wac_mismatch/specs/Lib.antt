@@ -1,0 +1,10 @@
+pub mod Joined
+pub mod FrameText
+pub mod FaultText
+pub mod Error
+pub mod Place
+pub mod Part
+pub mod Holds
+pub mod Path
+pub mod Steps
+pub mod Laws

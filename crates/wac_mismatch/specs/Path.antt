@@ -1,0 +1,30 @@
+-- A path: frames that lead from a place to one where the fault holds.
+use Rattle.std.specs.Prelude.{◌≡◌, List, [], ◌∷◌, Some}
+use Rattle.wac_mismatch.specs.Place.{Side, Place, place}
+use Rattle.wac_mismatch.specs.Part.{part_of}
+use Rattle.wac_mismatch.specs.Holds.{Holds}
+use Rattle.wac_mismatch.specs.declared.frame.Frame.{Frame}
+use Rattle.wac_mismatch.specs.declared.fault.Fault.{Fault}
+use Rattle.wac_mismatch.specs.declared.error.SubtypeError.{SubtypeError}
+use Rattle.wac_mismatch.specs.declared.error.SubtypeError.TheVariants.{Mismatch, Memory}
+use Rattle.wac_mismatch.specs.declared.check.SubtypeCheck.{SubtypeCheck}
+
+-- from a place to the place below it: both sides have the part that the frame names
+pub record Leads (frame : Frame) (above below : Place) : Type 0 where
+  pub left : part_of frame above.left ≡ Some below.left
+  pub right : part_of frame above.right ≡ Some below.right
+  pub same_check : below.check ≡ above.check
+
+abbrev pub Path : List Frame → Fault → Place → Type 0
+Path [] f p = Holds f p
+Path (frame ∷ frames) f p = (below : Place) × Leads frame p below × Path frames f below
+
+-- a mismatch has a path from the two sides; nothing is said where there was no memory
+abbrev pub Explains : SubtypeError → SubtypeCheck → Side → Side → Type 0
+Explains (Mismatch frames f) c a b = Path frames.items f (place c a b)
+Explains Memory c a b = Unit {0}
+
+-- a mismatch says that the fact doesn't hold; nothing is said where there was no memory
+abbrev pub Refutes : SubtypeError → Type 0 → Type 0
+Refutes (Mismatch frames f) P = P → ⊥
+Refutes Memory P = Unit {0}

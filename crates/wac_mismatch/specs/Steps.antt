@@ -1,0 +1,51 @@
+-- How a refusal is built, from the innermost place outwards.
+use Rattle.std.specs.Prelude.{◌≡◌, ℕ, [], ◌∷◌, Bool, string_bytes}
+use Rattle.wac_model.specs.Text.{Text}
+use Rattle.wac_mismatch.specs.declared.frame.Frame.{Frame}
+use Rattle.wac_mismatch.specs.declared.frame.Frame.TheVariants as frame
+use Rattle.wac_mismatch.specs.declared.fault.NameOf.{NameOf}
+use Rattle.wac_mismatch.specs.declared.fault.Fault.{Fault}
+use Rattle.wac_mismatch.specs.declared.fault.Fault.TheVariants as fault
+use Rattle.wac_mismatch.specs.declared.error.SubtypeError.{SubtypeError}
+use Rattle.wac_mismatch.specs.declared.error.SubtypeError.TheVariants.{Mismatch, Memory}
+
+-- a mismatch with no frame, whose fault is such
+abbrev pub IsHere : (Fault → Type 0) → SubtypeError → Type 0
+IsHere P (Mismatch frames f) = (frames.items ≡ []) × P f
+IsHere P Memory = Unit {0}
+
+-- the second refusal is the first with one more frame outside, which is such
+abbrev pub IsUnder : (Frame → Type 0) → SubtypeError → SubtypeError → Type 0
+IsUnder P e Memory = Unit {0}
+IsUnder P Memory (Mismatch frames f) = ⊥
+IsUnder P (Mismatch inner f) (Mismatch frames g) = (frame : Frame) × P frame × (frames.items ≡ frame ∷ inner.items) × (g ≡ f)
+
+-- the frame of the parameter of a name
+abbrev pub IsParameter : Text → Frame → Type 0
+IsParameter n (frame.Parameter m) = string_bytes m ≡ n
+IsParameter n _ = ⊥
+
+-- the frame of the field of a name
+abbrev pub IsField : Text → Frame → Type 0
+IsField n (frame.Field m) = string_bytes m ≡ n
+IsField n _ = ⊥
+
+-- the frame of the case of a name
+abbrev pub IsCase : Text → Frame → Type 0
+IsCase n (frame.Case m) = string_bytes m ≡ n
+IsCase n _ = ⊥
+
+-- the fault of these two names at an index
+abbrev pub IsName : Fault → NameOf → ℕ → Text → Text → Type 0
+IsName (fault.Name o i e f) of index x y = (o ≡ of) × (i ≡ index) × (string_bytes e ≡ x) × (string_bytes f ≡ y)
+IsName _ of index x y = ⊥
+
+-- the fault of these two names of a parameter
+abbrev pub IsParamName : Fault → ℕ → Text → Text → Type 0
+IsParamName (fault.ParamName i e f) index x y = (i ≡ index) × (string_bytes e ≡ x) × (string_bytes f ≡ y)
+IsParamName _ index x y = ⊥
+
+-- the fault of a case of this name, which has a type on the expected side or hasn't
+abbrev pub IsCaseType : Fault → Text → Bool → Type 0
+IsCaseType (fault.CaseType n e) x b = (string_bytes n ≡ x) × (e ≡ b)
+IsCaseType _ x b = ⊥

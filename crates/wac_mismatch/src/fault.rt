@@ -1,0 +1,309 @@
+//! What is wrong at the end of a path.
+
+ghost use Rattle.std.specs.Prelude.{Some, string_bytes};
+ghost use Rattle.std.specs.Fmt.{WritesOnOk};
+ghost use Rattle.wac_mismatch.specs.FaultText.{async_text, func_result_text, result_part_text, payload_text, count_text, name_text, case_type_text};
+
+use std::fmt;
+
+/// What a `Fault::Count` counts the parts of.
+#[derive(Clone, Copy, PartialEq, Eq, Debug)]
+pub enum CountOf {
+    /// The cases of an enum.
+    Enum,
+    /// The flags of a flags type.
+    Flags,
+    /// The fields of a record.
+    Record,
+    /// The cases of a variant.
+    Variant,
+    /// The items of a tuple.
+    Tuple,
+}
+
+/// What a `Fault::Name` names a part of.
+#[derive(Clone, Copy, PartialEq, Eq, Debug)]
+pub enum NameOf {
+    /// A case of an enum.
+    Enum,
+    /// A flag of a flags type.
+    Flags,
+    /// A field of a record.
+    Record,
+    /// A case of a variant.
+    Variant,
+}
+
+/// A part of a result type.
+#[derive(Clone, Copy, PartialEq, Eq, Debug)]
+pub enum ResultPart {
+    /// The type of a success.
+    Ok,
+    /// The type of a failure.
+    Err,
+}
+
+/// What two types disagree in. An `expected` that stands without a `found` says that what the
+/// fault speaks of is there on the expected side, and not on the other, or else the other way
+/// round.
+#[derive(PartialEq, Eq, Debug, Drop)]
+pub enum Fault {
+    /// They are of different kinds.
+    Kind {
+        /// The description of the expected one.
+        expected: &'static str,
+        /// The description of the one found.
+        found: &'static str,
+    },
+    /// They are different resources.
+    Resource {
+        /// The name of the expected one.
+        expected: String,
+        /// The name of the one found.
+        found: String,
+    },
+    /// One of two functions is async.
+    Async {
+        /// Whether the expected one is.
+        expected: bool,
+    },
+    /// Two functions have different numbers of parameters.
+    ParamCount {
+        /// The number of the expected one.
+        expected: usize,
+        /// The number of the one found.
+        found: usize,
+    },
+    /// Two functions name a parameter differently.
+    ParamName {
+        /// The index of the parameter.
+        index: usize,
+        /// The name in the expected one.
+        expected: String,
+        /// The name in the one found.
+        found: String,
+    },
+    /// One of two functions has a result.
+    FuncResult {
+        /// Whether the expected one has.
+        expected: bool,
+    },
+    /// Two lists of fixed size have different sizes.
+    FixedSize,
+    /// One of two result types has a type for this part.
+    ResultPart {
+        /// The part.
+        part: ResultPart,
+        /// Whether the expected one has.
+        expected: bool,
+    },
+    /// One of two futures or streams has a payload.
+    Payload {
+        /// Whether the expected one has.
+        expected: bool,
+    },
+    /// They have different numbers of parts.
+    Count {
+        /// What has the parts.
+        of: CountOf,
+        /// The number of the expected one.
+        expected: usize,
+        /// The number of the one found.
+        found: usize,
+    },
+    /// They name a part differently.
+    Name {
+        /// What has the part.
+        of: NameOf,
+        /// The index of the part.
+        index: usize,
+        /// The name in the expected one.
+        expected: String,
+        /// The name in the one found.
+        found: String,
+    },
+    /// One of two variants has a type for this case.
+    CaseType {
+        /// The name of the case.
+        name: String,
+        /// Whether the expected one has.
+        expected: bool,
+    },
+}
+
+impl fmt::Display for Fault {
+    ghost use Rattle.wac_mismatch.specs.FaultText.{fault_text};
+
+    ghost output = { λ fault. Some (fault_text fault) };
+
+    fn fmt<W: fmt::Write>(&self, f: &mut fmt::Formatter<W>) -> fmt::Result {
+        match self {
+            Fault::Kind { expected, found } => write!(f, "expected {expected}, found {found}"),
+            Fault::Resource { expected, found } => write!(
+                f,
+                "expected resource `{expected}`, found resource `{found}`"
+            ),
+            Fault::Async { expected } => write_async(f, *expected),
+            Fault::ParamCount { expected, found } => write!(
+                f,
+                "expected function with parameter count {expected}, found parameter count {found}"
+            ),
+            Fault::ParamName {
+                index,
+                expected,
+                found,
+            } => write!(
+                f,
+                "expected function parameter {index} to be named `{expected}`, found name `{found}`"
+            ),
+            Fault::FuncResult { expected } => write_func_result(f, *expected),
+            Fault::FixedSize => write!(f, "mismatched size for fixed size list element"),
+            Fault::ResultPart { part, expected } => write_result_part(f, *part, *expected),
+            Fault::Payload { expected } => write_payload(f, *expected),
+            Fault::Count {
+                of,
+                expected,
+                found,
+            } => write_count(f, *of, *expected, *found),
+            Fault::Name {
+                of,
+                index,
+                expected,
+                found,
+            } => write_name(f, *of, *index, expected, found),
+            Fault::CaseType { name, expected } => write_case_type(f, name, *expected),
+        }
+    }
+}
+
+fn write_async<W: fmt::Write>(f: &mut fmt::Formatter<W>, expected: bool) -> fmt::Result
+    ensures { WritesOnOk W.write_str_gives f.old result (async_text expected) f.new }
+{
+    if expected {
+        write!(f, "expected async function, found sync function")
+    } else {
+        write!(f, "expected sync function, found async function")
+    }
+}
+
+fn write_func_result<W: fmt::Write>(f: &mut fmt::Formatter<W>, expected: bool) -> fmt::Result
+    ensures { WritesOnOk W.write_str_gives f.old result (func_result_text expected) f.new }
+{
+    if expected {
+        write!(
+            f,
+            "expected function with a result, found function without a result"
+        )
+    } else {
+        write!(
+            f,
+            "expected function without a result, found function with a result"
+        )
+    }
+}
+
+fn write_result_part<W: fmt::Write>(
+    f: &mut fmt::Formatter<W>,
+    part: ResultPart,
+    expected: bool,
+) -> fmt::Result
+    ensures { WritesOnOk W.write_str_gives f.old result (result_part_text part expected) f.new }
+{
+    match (part, expected) {
+        (ResultPart::Ok, true) => write!(f, "expected an `ok` for result type"),
+        (ResultPart::Ok, false) => write!(f, "expected no `ok` for result type"),
+        (ResultPart::Err, true) => write!(f, "expected an `err` for result type"),
+        (ResultPart::Err, false) => write!(f, "expected no `err` for result type"),
+    }
+}
+
+fn write_payload<W: fmt::Write>(f: &mut fmt::Formatter<W>, expected: bool) -> fmt::Result
+    ensures { WritesOnOk W.write_str_gives f.old result (payload_text expected) f.new }
+{
+    if expected {
+        write!(f, "expected a type payload, found none")
+    } else {
+        write!(f, "expected no type payload, found one")
+    }
+}
+
+fn write_count<W: fmt::Write>(
+    f: &mut fmt::Formatter<W>,
+    of: CountOf,
+    expected: usize,
+    found: usize,
+) -> fmt::Result
+    ensures { WritesOnOk W.write_str_gives f.old result (count_text of expected found) f.new }
+{
+    match of {
+        CountOf::Enum => write!(
+            f,
+            "expected an enum type case count of {expected}, found a count of {found}"
+        ),
+        CountOf::Flags => write!(
+            f,
+            "expected a flags type flag count of {expected}, found a count of {found}"
+        ),
+        CountOf::Record => write!(
+            f,
+            "expected a record field count of {expected}, found a count of {found}"
+        ),
+        CountOf::Variant => write!(
+            f,
+            "expected a variant case count of {expected}, found a count of {found}"
+        ),
+        CountOf::Tuple => write!(
+            f,
+            "expected a tuple of size {expected}, found a tuple of size {found}"
+        ),
+    }
+}
+
+fn write_name<W: fmt::Write>(
+    f: &mut fmt::Formatter<W>,
+    of: NameOf,
+    index: usize,
+    expected: &str,
+    found: &str,
+) -> fmt::Result
+    ensures { WritesOnOk W.write_str_gives f.old result (name_text of index expected.now found.now) f.new }
+{
+    match of {
+        NameOf::Enum => write!(
+            f,
+            "expected enum case {index} to be named `{expected}`, found an enum case named `{found}`"
+        ),
+        NameOf::Flags => write!(
+            f,
+            "expected flag {index} to be named `{expected}`, found a flag named `{found}`"
+        ),
+        NameOf::Record => write!(
+            f,
+            "expected record field {index} to be named `{expected}`, found a field named `{found}`"
+        ),
+        NameOf::Variant => write!(
+            f,
+            "expected variant case {index} to be named `{expected}`, found a case named `{found}`"
+        ),
+    }
+}
+
+fn write_case_type<W: fmt::Write>(
+    f: &mut fmt::Formatter<W>,
+    name: &str,
+    expected: bool,
+) -> fmt::Result
+    ensures { WritesOnOk W.write_str_gives f.old result (case_type_text name.now expected) f.new }
+{
+    if expected {
+        write!(
+            f,
+            "expected variant case `{name}` to be typed, found an untyped case"
+        )
+    } else {
+        write!(
+            f,
+            "expected variant case `{name}` to be untyped, found a typed case"
+        )
+    }
+}

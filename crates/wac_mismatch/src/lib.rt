@@ -1,0 +1,14 @@
+//! What a check of types answers where one doesn't fit another: a path of frames to the first
+//! place where the two disagree, and the fault there.
+#![tactic(auto)]
+
+pub mod check;
+pub mod error;
+pub mod fault;
+pub mod frame;
+pub mod laws;
+
+pub use check::SubtypeCheck;
+pub use error::SubtypeError;
+pub use fault::{CountOf, Fault, NameOf, ResultPart};
+pub use frame::Frame;
