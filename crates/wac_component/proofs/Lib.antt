@@ -7,3 +7,4 @@ pub mod Added
 pub mod Extended
 pub mod Adding
 pub mod Reading
+pub mod Members

@@ -1,0 +1,5 @@
+pub mod Content
+pub mod Items
+pub mod Verdict
+pub mod Cache
+pub mod Checker

@@ -1,0 +1,13 @@
+//! The subtype checker: which type fits where another is asked for, and a path to where it doesn't.
+#![tactic(auto)]
+
+pub(crate) mod cache;
+pub mod checker;
+pub(crate) mod functions;
+pub(crate) mod items;
+pub mod laws;
+pub(crate) mod leaves;
+pub(crate) mod refusals;
+pub(crate) mod values;
+
+pub use checker::SubtypeChecker;
