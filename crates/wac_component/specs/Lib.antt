@@ -8,3 +8,4 @@ pub mod Height
 pub mod Tree
 pub mod Growth
 pub mod View
+pub mod Texts
