@@ -85,13 +85,13 @@ module _ (c d : Collection) (s : Sort) (e : Entry) (adds : Adds c d s e) where
   longer t i h = let b = lists_begin t in rw b.1 (omega (arith, length-append (entries c t) b.0))
 
   stands_on : (k : Key) → Stands c k → Stands d k
-  stands_on k h = (h.0 ∙ sym adds.number, longer k.sort k.place.index h.1)
+  stands_on k h = (h.0 ∙ sym adds.number, longer k.sort k.id.index h.1)
 
   pub all_stand_on : (ks : List Key) → AllStand c ks → AllStand d ks
   all_stand_on = Each-map (Stands c) (Stands d) stands_on
 
   entry_same : (k : Key) → Stands c k → entry_at d k ≡ entry_at c k
-  entry_same k h = let b = lists_begin k.sort in ap (λ es. slice_get es k.place.index) b.1 ∙ slice_get-append (entries c k.sort) b.0 k.place.index h.1
+  entry_same k h = let b = lists_begin k.sort in ap (λ es. slice_get es k.id.index) b.1 ∙ slice_get-append (entries c k.sort) b.0 k.id.index h.1
 
   last_or_less : (n i : ℕ) → i < n + 1 → (i < n) ⊎ (i ≡ n)
   last_or_less n i h = grind arith
@@ -103,10 +103,10 @@ module _ (c d : Collection) (s : Sort) (e : Entry) (adds : Adds c d s e) where
       at_sort : k.sort ≡ s → Stands c k ⊎ (entry_at d k ≡ Some e)
       at_sort same =
           let long : entries d k.sort ≡ entries c k.sort ++ e ∷ [] = subst (λ t. entries d t ≡ entries c t ++ e ∷ []) (sym same) adds.list in
-          let below : k.place.index < length (entries c k.sort) + 1 = let g = h.1 in let l = length-append (entries c k.sort) (e ∷ []) in omega (arith, ap length long) in
-          elim (last_or_less (length (entries c k.sort)) k.place.index below) [
+          let below : k.id.index < length (entries c k.sort) + 1 = let g = h.1 in let l = length-append (entries c k.sort) (e ∷ []) in omega (arith, ap length long) in
+          elim (last_or_less (length (entries c k.sort)) k.id.index below) [
             | inl lt ↦ inl (h.0 ∙ adds.number, lt)
-            | inr is ↦ inr (ap (λ es. slice_get es k.place.index) long ∙ ap (λ i. slice_get (entries c k.sort ++ e ∷ []) i) is ∙ slice_get-last (entries c k.sort) e)
+            | inr is ↦ inr (ap (λ es. slice_get es k.id.index) long ∙ ap (λ i. slice_get (entries c k.sort ++ e ∷ []) i) is ∙ slice_get-last (entries c k.sort) e)
           ]
 
   module _ (sound : IsSound c) where

@@ -1,7 +1,7 @@
 -- What adding an entry that names what stands gives.
 use Rattle.std.proofs.Common.{◌≡◌, ◌<◌, ℕ, arith, map, length-append, List, [], ◌∷◌, ◌++◌, length, refl, ◌∙◌}
 use Rattle.std.proofs.lemmas.List.{length-map}
-use Rattle.wac_component.specs.Place.{Place}
+use Rattle.wac_component.specs.Id.{Id}
 use Rattle.wac_component.specs.Collection.{Collection, DefinedContent, ResourceContent, FuncContent}
 use Rattle.wac_component.specs.Key.{Entry, defined_entry, resource_entry, func_entry, entry_keys, Stands, AllStand, defined_keys, resource_keys, func_keys}
 use Rattle.wac_component.specs.Sound.{IsSound}
@@ -27,19 +27,19 @@ last_below f xs x = simp (length-map, length-append) (omega arith)
 keeps : (c : Collection) (e : Entry) → IsSound c → Keeps c (with_entry c e) (Stands c)
 keeps c e s = keeps_what_stood c (with_entry c e) (sort_of e) e (Adds-with_entry c e) s
 
-pub value_tree-with_defined : (c : Collection) (e : DefinedContent) (i : ℕ) (p : Place) → IsSound c → AllStand c (defined_keys e) → i ≡ length c.defined → p ≡ record { number = c.number; index = i } → value_tree (with_entry c (defined_entry e)) (Defined p) ≡ content_tree (value_tree c) e
+pub value_tree-with_defined : (c : Collection) (e : DefinedContent) (i : ℕ) (p : Id) → IsSound c → AllStand c (defined_keys e) → i ≡ length c.defined → p ≡ record { number = c.number; index = i } → value_tree (with_entry c (defined_entry e)) (Defined p) ≡ content_tree (value_tree c) e
 value_tree-with_defined c e i p s named last is =
     let d : Collection = with_entry c (defined_entry e) in
     value_tree-entry d p e (IsSound-with_entry c (defined_entry e) s named) (rw (is, last) (refl, last_below defined_entry c.defined e)) (rw (is, last) (slice_get-last c.defined e))
     ∙ content_tree-agree (Stands c) (value_tree d) (value_tree c) (value_tree-kept c d (Stands c) (keeps c (defined_entry e) s)) e named
 
-pub root_name-with_resource : (c : Collection) (e : ResourceContent) (i : ℕ) (p : Place) → IsSound c → AllStand c (resource_keys e) → i ≡ length c.resources → p ≡ record { number = c.number; index = i } → root_name (with_entry c (resource_entry e)) p ≡ content_name (root_name c) e
+pub root_name-with_resource : (c : Collection) (e : ResourceContent) (i : ℕ) (p : Id) → IsSound c → AllStand c (resource_keys e) → i ≡ length c.resources → p ≡ record { number = c.number; index = i } → root_name (with_entry c (resource_entry e)) p ≡ content_name (root_name c) e
 root_name-with_resource c e i p s named last is =
     let d : Collection = with_entry c (resource_entry e) in
     root_name-entry d p e (IsSound-with_entry c (resource_entry e) s named) (rw (is, last) (refl, last_below resource_entry c.resources e)) (rw (is, last) (slice_get-last c.resources e))
     ∙ entry_name-local (Stands c) (unfolded [] entry_name d) (unfolded [] entry_name c) (name-kept c d (Stands c) (keeps c (resource_entry e) s)) (resource_entry e) named
 
-pub func_tree-with_func : (c : Collection) (e : FuncContent) (i : ℕ) (p : Place) → IsSound c → AllStand c (func_keys e) → i ≡ length c.funcs → p ≡ record { number = c.number; index = i } → func_tree (with_entry c (func_entry e)) p ≡ func_content_tree c e
+pub func_tree-with_func : (c : Collection) (e : FuncContent) (i : ℕ) (p : Id) → IsSound c → AllStand c (func_keys e) → i ≡ length c.funcs → p ≡ record { number = c.number; index = i } → func_tree (with_entry c (func_entry e)) p ≡ func_content_tree c e
 func_tree-with_func c e i p s named last is =
     let d : Collection = with_entry c (func_entry e) in
     func_tree-entry d p e (rw (is, last) (slice_get-last c.funcs e))

@@ -8,3 +8,4 @@ pub mod Extended
 pub mod Adding
 pub mod Reading
 pub mod Members
+pub mod CloneLemmas

@@ -1,7 +1,7 @@
 -- What an entry of a sound collection names stands there, and is lower.
 use Rattle.std.proofs.Common.{◌≡◌, ◌<◌, Some, slice_get, ap, ◌∙◌}
 use Rattle.std.specs.Option.{option_map}
-use Rattle.wac_component.specs.Place.{Place}
+use Rattle.wac_component.specs.Id.{Id}
 use Rattle.wac_component.specs.Collection.{Collection, DefinedContent, ResourceContent, FuncContent}
 use Rattle.wac_component.specs.Key.{Key, Entry, defined_entry, resource_entry, func_entry, entry_keys, entry_at, defined_key, resource_key, func_key, defined_keys, resource_keys, func_keys, Stands, AllStand}
 use Rattle.wac_component.specs.Sound.{IsSound}
@@ -12,29 +12,29 @@ use Rattle.wac_component.proofs.Unfolded.{entry_below}
 entry_standing : (c : Collection) (k : Key) (e : Entry) → IsSound c → Stands c k → entry_at c k ≡ Some e → AllStand c (entry_keys e)
 entry_standing c k e s st is = rw is at (s.standing k st)
 
-defined_at : (c : Collection) (p : Place) (e : DefinedContent) → slice_get c.defined p.index ≡ Some e → entry_at c (defined_key p) ≡ Some (defined_entry e)
+defined_at : (c : Collection) (p : Id) (e : DefinedContent) → slice_get c.defined p.index ≡ Some e → entry_at c (defined_key p) ≡ Some (defined_entry e)
 defined_at c p e is = slice_get-map defined_entry c.defined p.index ∙ ap (option_map defined_entry) is
 
-resource_at : (c : Collection) (p : Place) (e : ResourceContent) → slice_get c.resources p.index ≡ Some e → entry_at c (resource_key p) ≡ Some (resource_entry e)
+resource_at : (c : Collection) (p : Id) (e : ResourceContent) → slice_get c.resources p.index ≡ Some e → entry_at c (resource_key p) ≡ Some (resource_entry e)
 resource_at c p e is = slice_get-map resource_entry c.resources p.index ∙ ap (option_map resource_entry) is
 
-func_at : (c : Collection) (p : Place) (e : FuncContent) → slice_get c.funcs p.index ≡ Some e → entry_at c (func_key p) ≡ Some (func_entry e)
+func_at : (c : Collection) (p : Id) (e : FuncContent) → slice_get c.funcs p.index ≡ Some e → entry_at c (func_key p) ≡ Some (func_entry e)
 func_at c p e is = slice_get-map func_entry c.funcs p.index ∙ ap (option_map func_entry) is
 
-pub defined_standing : (c : Collection) (p : Place) (e : DefinedContent) → IsSound c → Stands c (defined_key p) → slice_get c.defined p.index ≡ Some e → AllStand c (defined_keys e)
+pub defined_standing : (c : Collection) (p : Id) (e : DefinedContent) → IsSound c → Stands c (defined_key p) → slice_get c.defined p.index ≡ Some e → AllStand c (defined_keys e)
 defined_standing c p e s st is = entry_standing c (defined_key p) (defined_entry e) s st (defined_at c p e is)
 
-pub resource_standing : (c : Collection) (p : Place) (e : ResourceContent) → IsSound c → Stands c (resource_key p) → slice_get c.resources p.index ≡ Some e → AllStand c (resource_keys e)
+pub resource_standing : (c : Collection) (p : Id) (e : ResourceContent) → IsSound c → Stands c (resource_key p) → slice_get c.resources p.index ≡ Some e → AllStand c (resource_keys e)
 resource_standing c p e s st is = entry_standing c (resource_key p) (resource_entry e) s st (resource_at c p e is)
 
-pub func_standing : (c : Collection) (p : Place) (e : FuncContent) → IsSound c → Stands c (func_key p) → slice_get c.funcs p.index ≡ Some e → AllStand c (func_keys e)
+pub func_standing : (c : Collection) (p : Id) (e : FuncContent) → IsSound c → Stands c (func_key p) → slice_get c.funcs p.index ≡ Some e → AllStand c (func_keys e)
 func_standing c p e s st is = entry_standing c (func_key p) (func_entry e) s st (func_at c p e is)
 
-pub defined_lower : (c : Collection) (p : Place) (e : DefinedContent) → IsSound c → Stands c (defined_key p) → slice_get c.defined p.index ≡ Some e → keys_height c (defined_keys e) < height c (defined_key p)
+pub defined_lower : (c : Collection) (p : Id) (e : DefinedContent) → IsSound c → Stands c (defined_key p) → slice_get c.defined p.index ≡ Some e → keys_height c (defined_keys e) < height c (defined_key p)
 defined_lower c p e s st is = entry_below c (defined_key p) (defined_entry e) s st (defined_at c p e is)
 
-pub resource_lower : (c : Collection) (p : Place) (e : ResourceContent) → IsSound c → Stands c (resource_key p) → slice_get c.resources p.index ≡ Some e → keys_height c (resource_keys e) < height c (resource_key p)
+pub resource_lower : (c : Collection) (p : Id) (e : ResourceContent) → IsSound c → Stands c (resource_key p) → slice_get c.resources p.index ≡ Some e → keys_height c (resource_keys e) < height c (resource_key p)
 resource_lower c p e s st is = entry_below c (resource_key p) (resource_entry e) s st (resource_at c p e is)
 
-pub func_lower : (c : Collection) (p : Place) (e : FuncContent) → IsSound c → Stands c (func_key p) → slice_get c.funcs p.index ≡ Some e → keys_height c (func_keys e) < height c (func_key p)
+pub func_lower : (c : Collection) (p : Id) (e : FuncContent) → IsSound c → Stands c (func_key p) → slice_get c.funcs p.index ≡ Some e → keys_height c (func_keys e) < height c (func_key p)
 func_lower c p e s st is = entry_below c (func_key p) (func_entry e) s st (func_at c p e is)

@@ -6,7 +6,7 @@ use Rattle.wac_model.specs.Text.{Text}
 use Rattle.wac_model.specs.ValueTree.{ValueTree, FuncTree, node, parts_of, no_parts, borrow, own, tuple}
 use Rattle.wac_model.specs.CoreTree.{ModuleTree}
 use Rattle.wac_model.specs.ItemTree.{ItemTree, item, type_item, leaf, core_module, composite, interface, world, no_items, resource, func, value}
-use Rattle.wac_component.specs.Place.{Place}
+use Rattle.wac_component.specs.Id.{Id}
 use Rattle.wac_component.specs.Collection.{Collection, DefinedContent, alias_of, composed, ResourceContent, AliasContent, FuncContent, InterfaceContent, WorldContent}
 use Rattle.wac_component.specs.Key.{Key, defined_entry, resource_entry, func_entry, interface_entry, world_entry, module_entry, Each, defined_key, resource_key, func_key, interface_key, world_key, module_key, value_keys, type_keys, item_keys, defined_keys, func_keys, named_keys, optional_keys, alias_keys, use_keys, Stands}
 use Rattle.wac_component.specs.Sound.{IsSound}
@@ -26,7 +26,7 @@ use Rattle.wac_component.proofs.Unfolded.{Agrees, unfolded-entry}
 
 content_name_agree : (P : Key → Type 0) (f g : Key → Text) → ((k : Key) → P k → f k ≡ g k) → (name : Text) (o : Option AliasContent) → Each P (optional_keys alias_keys o) → option_map_or (λ (a : AliasContent). f (resource_key a.source)) o name ≡ option_map_or (λ (a : AliasContent). g (resource_key a.source)) o name
 content_name_agree P f g same name None all = refl
-content_name_agree P f g same name (Some a) all = same (resource_key a.source) (Each-right P (optional_keys (λ (o : Place). interface_key o ∷ []) a.owner) (resource_key a.source ∷ []) all).0
+content_name_agree P f g same name (Some a) all = same (resource_key a.source) (Each-right P (optional_keys (λ (o : Id). interface_key o ∷ []) a.owner) (resource_key a.source ∷ []) all).0
 
 pub entry_name-local : (P : Key → Type 0) → Agrees entry_name entry_name P
 entry_name-local P f g same (resource_entry r) all = content_name_agree P f g same r.name r.alias all
@@ -40,7 +40,7 @@ entry_name-local P f g same (module_entry d) all = refl
 
 -- the names of two collections agree on the resources of P
 abbrev pub SameNames : Collection → Collection → (Key → Type 0) → Type 0
-SameNames c d P = (r : Place) → P (resource_key r) → root_name c r ≡ root_name d r
+SameNames c d P = (r : Id) → P (resource_key r) → root_name c r ≡ root_name d r
 
 abbrev pub SameValues : Collection → Collection → (Key → Type 0) → Type 0
 SameValues c d P = (v : ValueType) → Each P (value_keys v) → value_tree c v ≡ value_tree d v
@@ -101,8 +101,8 @@ func_content_tree-agree c d P same f all =
 pub record SameLeaves (c d : Collection) (P : Key → Type 0) : Type 0 where
   pub names : SameNames c d P
   pub values : SameValues c d P
-  pub funcs : (f : Place) → P (func_key f) → func_tree c f ≡ func_tree d f
-  pub modules : (m : Place) → P (module_key m) → module_tree c m ≡ module_tree d m
+  pub funcs : (f : Id) → P (func_key f) → func_tree c f ≡ func_tree d f
+  pub modules : (m : Id) → P (module_key m) → module_tree c m ≡ module_tree d m
 
 type_tree_by-agree : (c d : Collection) (P : Key → Type 0) → SameLeaves c d P → (f g : Key → Externs) → ((k : Key) → P k → f k ≡ g k) → (t : TypeOf) → Each P (type_keys t) → type_tree_by c f t ≡ type_tree_by d g t
 type_tree_by-agree c d P s f g same (TypeResource r) all = ap (λ (x : Text). leaf type_item (resource x)) (s.names r all.0)
@@ -149,25 +149,25 @@ entry_externs-local c P = entry_externs-agree c c P (SameLeaves-refl c P)
 
 -- in a sound collection
 
-pub root_name-entry : (c : Collection) (r : Place) (e : ResourceContent) → IsSound c → Stands c (resource_key r) → slice_get c.resources r.index ≡ Some e → root_name c r ≡ content_name (root_name c) e
+pub root_name-entry : (c : Collection) (r : Id) (e : ResourceContent) → IsSound c → Stands c (resource_key r) → slice_get c.resources r.index ≡ Some e → root_name c r ≡ content_name (root_name c) e
 root_name-entry c r e s st is =
     unfolded-entry [] entry_name entry_name-local c (resource_key r) (resource_entry e) s st (slice_get-map resource_entry c.resources r.index ∙ ap (option_map resource_entry) is)
 
-pub value_tree-entry : (c : Collection) (p : Place) (e : DefinedContent) → IsSound c → Stands c (defined_key p) → slice_get c.defined p.index ≡ Some e → value_tree c (Defined p) ≡ content_tree (value_tree c) e
+pub value_tree-entry : (c : Collection) (p : Id) (e : DefinedContent) → IsSound c → Stands c (defined_key p) → slice_get c.defined p.index ≡ Some e → value_tree c (Defined p) ≡ content_tree (value_tree c) e
 value_tree-entry c p e s st is =
     unfolded-entry (node tuple no_parts) (entry_value c) (entry_value-local c) c (defined_key p) (defined_entry e) s st (slice_get-map defined_entry c.defined p.index ∙ ap (option_map defined_entry) is)
 
-pub func_tree-entry : (c : Collection) (p : Place) (e : FuncContent) → slice_get c.funcs p.index ≡ Some e → func_tree c p ≡ func_content_tree c e
+pub func_tree-entry : (c : Collection) (p : Id) (e : FuncContent) → slice_get c.funcs p.index ≡ Some e → func_tree c p ≡ func_content_tree c e
 func_tree-entry c p e is = rw is refl
 
-pub module_tree-entry : (c : Collection) (p : Place) (e : ModuleTree) → slice_get c.modules p.index ≡ Some e → module_tree c p ≡ e
+pub module_tree-entry : (c : Collection) (p : Id) (e : ModuleTree) → slice_get c.modules p.index ≡ Some e → module_tree c p ≡ e
 module_tree-entry c p e is = rw is refl
 
-pub interface-externs : (c : Collection) (p : Place) (e : InterfaceContent) → IsSound c → Stands c (interface_key p) → slice_get c.interfaces p.index ≡ Some e → externs c (interface_key p) ≡ record { imports = no_items; exports = items_of (item_tree c) e.exports }
+pub interface-externs : (c : Collection) (p : Id) (e : InterfaceContent) → IsSound c → Stands c (interface_key p) → slice_get c.interfaces p.index ≡ Some e → externs c (interface_key p) ≡ record { imports = no_items; exports = items_of (item_tree c) e.exports }
 interface-externs c p e s st is =
     unfolded-entry (record { imports = no_items; exports = no_items }) (entry_externs c) (entry_externs-local c) c (interface_key p) (interface_entry e) s st (slice_get-map interface_entry c.interfaces p.index ∙ ap (option_map interface_entry) is)
 
-pub world-externs : (c : Collection) (p : Place) (e : WorldContent) → IsSound c → Stands c (world_key p) → slice_get c.worlds p.index ≡ Some e → externs c (world_key p) ≡ record { imports = items_of (item_tree c) e.imports; exports = items_of (item_tree c) e.exports }
+pub world-externs : (c : Collection) (p : Id) (e : WorldContent) → IsSound c → Stands c (world_key p) → slice_get c.worlds p.index ≡ Some e → externs c (world_key p) ≡ record { imports = items_of (item_tree c) e.imports; exports = items_of (item_tree c) e.exports }
 world-externs c p e s st is =
     unfolded-entry (record { imports = no_items; exports = no_items }) (entry_externs c) (entry_externs-local c) c (world_key p) (world_entry e) s st (slice_get-map world_entry c.worlds p.index ∙ ap (option_map world_entry) is)
 

@@ -3,7 +3,7 @@ use Rattle.std.specs.Prelude.{ℕ, List, Option, Bool}
 use Rattle.wac_model.specs.Text.{Text}
 use Rattle.wac_model.specs.ValueTree.{ValueLabel}
 use Rattle.wac_model.specs.CoreTree.{ModuleTree}
-use Rattle.wac_component.specs.Place.{Place}
+use Rattle.wac_component.specs.Id.{Id}
 use Rattle.wac_component.specs.declared.items.ValueType.{ValueType}
 use Rattle.wac_component.specs.declared.items.ItemKind.{ItemKind}
 
@@ -14,8 +14,8 @@ pub data DefinedContent : Type 0 where
 
 -- what a resource that is another name of one leads to
 pub record AliasContent : Type 0 where
-  pub owner : Option Place
-  pub source : Place
+  pub owner : Option Id
+  pub source : Id
 
 pub record ResourceContent : Type 0 where
   pub name : Text
@@ -27,7 +27,7 @@ pub record FuncContent : Type 0 where
   pub is_async : Bool
 
 pub record UseContent : Type 0 where
-  pub interface : Place
+  pub interface : Id
   pub name : Option Text
 
 pub record InterfaceContent : Type 0 where

@@ -9,6 +9,10 @@ use Rattle.wac_component.specs.Collection.{DefinedContent, alias_of, composed, R
 use Rattle.wac_component.specs.declared.items.ValueType.{ValueType}
 use Rattle.wac_component.specs.declared.defined.DefinedType.{DefinedType}
 use Rattle.wac_component.specs.declared.defined.DefinedType.TheVariants.{Tuple, List as ListOf, FixedSizeList, Option as OptionOf, Result, Variant, Record, Flags, Enum, Alias, Stream, Future}
+use Rattle.wac_component.specs.declared.defined.Variant.{Variant as VariantCases}
+use Rattle.wac_component.specs.declared.defined.Record.{Record as RecordFields}
+use Rattle.wac_component.specs.declared.defined.Flags.{Flags as FlagNames}
+use Rattle.wac_component.specs.declared.defined.Enum.{Enum as EnumCases}
 use Rattle.wac_component.specs.declared.functions.FuncType.{FuncType}
 use Rattle.wac_component.specs.declared.resources.ResourceAlias.{ResourceAlias}
 use Rattle.wac_component.specs.declared.resources.Resource.{Resource}
@@ -33,6 +37,22 @@ abbrev pub case_types : List (String Global × Option ValueType) → List ValueT
 case_types [] = []
 case_types (e ∷ es) = option_to_list e.1 ++ case_types es
 
+-- the cases of a variant, each with its type if it has one
+abbrev pub cases_of : VariantCases → List (Text × Option ValueType)
+cases_of v = named (λ t. t) v.cases.entries
+
+-- the fields of a record, each with its type
+abbrev pub fields_of : RecordFields → List (Text × ValueType)
+fields_of r = named (λ t. t) r.fields.entries
+
+-- the names of flags
+abbrev pub flag_names : FlagNames → List Text
+flag_names f = map string_bytes f.0.keys
+
+-- the names of an enum's cases
+abbrev pub case_names : EnumCases → List Text
+case_names e = map string_bytes e.0.keys
+
 abbrev pub defined_content : DefinedType → DefinedContent
 defined_content (Tuple items) = composed tuple items.items
 defined_content (ListOf item) = composed list (item ∷ [])
@@ -41,8 +61,8 @@ defined_content (OptionOf item) = composed option (item ∷ [])
 defined_content (Result ok err) = composed (result_of (is_some ok) (is_some err)) (option_to_list ok ++ option_to_list err)
 defined_content (Variant v) = composed (variant (named is_some v.cases.entries)) (case_types v.cases.entries)
 defined_content (Record r) = composed (record_of (names r.fields.entries)) (types_of r.fields.entries)
-defined_content (Flags f) = composed (flags (map string_bytes f.0.keys)) []
-defined_content (Enum e) = composed (enum (map string_bytes e.0.keys)) []
+defined_content (Flags f) = composed (flags (flag_names f)) []
+defined_content (Enum e) = composed (enum (case_names e)) []
 defined_content (Alias of) = alias_of of
 defined_content (Stream payload) = composed (stream (is_some payload)) (option_to_list payload)
 defined_content (Future payload) = composed (future (is_some payload)) (option_to_list payload)

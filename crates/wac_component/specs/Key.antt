@@ -4,7 +4,7 @@ use Rattle.std.specs.List.{flat_map}
 use Rattle.std.specs.Option.{option_map_or}
 use Rattle.wac_model.specs.Text.{Text}
 use Rattle.wac_model.specs.CoreTree.{ModuleTree}
-use Rattle.wac_component.specs.Place.{Place}
+use Rattle.wac_component.specs.Id.{Id}
 use Rattle.wac_component.specs.Collection.{Collection, DefinedContent, alias_of, composed, ResourceContent, AliasContent, FuncContent, UseContent, InterfaceContent, WorldContent}
 use Rattle.wac_component.specs.declared.items.ValueType.{ValueType}
 use Rattle.wac_component.specs.declared.items.ValueType.TheVariants.{Primitive, Borrow, Own, Defined}
@@ -26,25 +26,25 @@ pub data Sort : Type 0 where
 -- an id with its sort
 pub record Key : Type 0 where
   pub sort : Sort
-  pub place : Place
+  pub id : Id
 
-abbrev pub defined_key : Place → Key
-defined_key p = record { sort = defined_sort; place = p }
+abbrev pub defined_key : Id → Key
+defined_key p = record { sort = defined_sort; id = p }
 
-abbrev pub resource_key : Place → Key
-resource_key p = record { sort = resource_sort; place = p }
+abbrev pub resource_key : Id → Key
+resource_key p = record { sort = resource_sort; id = p }
 
-abbrev pub func_key : Place → Key
-func_key p = record { sort = func_sort; place = p }
+abbrev pub func_key : Id → Key
+func_key p = record { sort = func_sort; id = p }
 
-abbrev pub interface_key : Place → Key
-interface_key p = record { sort = interface_sort; place = p }
+abbrev pub interface_key : Id → Key
+interface_key p = record { sort = interface_sort; id = p }
 
-abbrev pub world_key : Place → Key
-world_key p = record { sort = world_sort; place = p }
+abbrev pub world_key : Id → Key
+world_key p = record { sort = world_sort; id = p }
 
-abbrev pub module_key : Place → Key
-module_key p = record { sort = module_sort; place = p }
+abbrev pub module_key : Id → Key
+module_key p = record { sort = module_sort; id = p }
 
 -- an entry of any sort
 pub data Entry : Type 0 where
@@ -66,11 +66,11 @@ entries c module_sort = map module_entry c.modules
 
 -- the entry of an id
 abbrev pub entry_at : Collection → Key → Option Entry
-entry_at c k = slice_get (entries c k.sort) k.place.index
+entry_at c k = slice_get (entries c k.sort) k.id.index
 
 -- the id stands in the collection
 abbrev pub Stands : Collection → Key → Type 0
-Stands c k = (k.place.number ≡ c.number) × (k.place.index < length (entries c k.sort))
+Stands c k = (k.id.number ≡ c.number) × (k.id.index < length (entries c k.sort))
 
 -- the fact holds of each id
 abbrev pub Each : (Key → Type 0) → List Key → Type 0

@@ -2,7 +2,7 @@
 use Rattle.std.specs.Prelude.{◌≡◌, Some, slice_get}
 use Rattle.wac_model.specs.CoreTree.{ModuleTree}
 use Rattle.wac_model.specs.ItemTree.{item, composite, core_module, leaf, func, interface, world, no_items}
-use Rattle.wac_component.specs.Place.{Place}
+use Rattle.wac_component.specs.Id.{Id}
 use Rattle.wac_component.specs.Collection.{Collection, DefinedContent, ResourceContent, FuncContent, InterfaceContent, WorldContent}
 use Rattle.wac_component.specs.Key.{Stands, defined_key, resource_key, interface_key, world_key}
 use Rattle.wac_component.specs.Sound.{IsSound}
@@ -19,12 +19,12 @@ IsTransitive = (c d e : Collection) → Extends c d → Extends d e → Extends 
 
 -- each id stands for what its entry says, by what the ids in the entry stand for
 pub record FollowsEntries (c : Collection) : Type 0 where
-  pub names : (p : Place) (e : ResourceContent) → Stands c (resource_key p) → slice_get c.resources p.index ≡ Some e → root_name c p ≡ content_name (root_name c) e
-  pub values : (p : Place) (e : DefinedContent) → Stands c (defined_key p) → slice_get c.defined p.index ≡ Some e → value_tree c (Defined p) ≡ content_tree (value_tree c) e
-  pub funcs : (p : Place) (e : FuncContent) → slice_get c.funcs p.index ≡ Some e → item_tree c (Func p) ≡ leaf item (func (func_content_tree c e))
-  pub instances : (p : Place) (e : InterfaceContent) → Stands c (interface_key p) → slice_get c.interfaces p.index ≡ Some e → item_tree c (Instance p) ≡ composite item interface no_items (items_of (item_tree c) e.exports)
-  pub components : (p : Place) (e : WorldContent) → Stands c (world_key p) → slice_get c.worlds p.index ≡ Some e → item_tree c (Component p) ≡ composite item world (items_of (item_tree c) e.imports) (items_of (item_tree c) e.exports)
-  pub modules : (p : Place) (e : ModuleTree) → slice_get c.modules p.index ≡ Some e → item_tree c (Module p) ≡ core_module item e
+  pub names : (p : Id) (e : ResourceContent) → Stands c (resource_key p) → slice_get c.resources p.index ≡ Some e → root_name c p ≡ content_name (root_name c) e
+  pub values : (p : Id) (e : DefinedContent) → Stands c (defined_key p) → slice_get c.defined p.index ≡ Some e → value_tree c (Defined p) ≡ content_tree (value_tree c) e
+  pub funcs : (p : Id) (e : FuncContent) → slice_get c.funcs p.index ≡ Some e → item_tree c (Func p) ≡ leaf item (func (func_content_tree c e))
+  pub instances : (p : Id) (e : InterfaceContent) → Stands c (interface_key p) → slice_get c.interfaces p.index ≡ Some e → item_tree c (Instance p) ≡ composite item interface no_items (items_of (item_tree c) e.exports)
+  pub components : (p : Id) (e : WorldContent) → Stands c (world_key p) → slice_get c.worlds p.index ≡ Some e → item_tree c (Component p) ≡ composite item world (items_of (item_tree c) e.imports) (items_of (item_tree c) e.exports)
+  pub modules : (p : Id) (e : ModuleTree) → slice_get c.modules p.index ≡ Some e → item_tree c (Module p) ≡ core_module item e
 
 abbrev pub TreesFollowEntries : Type 0
 TreesFollowEntries = (c : Collection) → IsSound c → FollowsEntries c

@@ -1,4 +1,4 @@
-pub mod Place
+pub mod Id
 pub mod Collection
 pub mod Content
 pub mod Key
@@ -9,3 +9,4 @@ pub mod Tree
 pub mod Growth
 pub mod View
 pub mod Laws
+pub mod Texts

@@ -5,7 +5,7 @@ use Rattle.wac_model.specs.Text.{Text}
 use Rattle.wac_model.specs.ValueTree.{ValueTree, FuncTree, node, no_parts, parts_of, primitive, borrow, own, tuple}
 use Rattle.wac_model.specs.CoreTree.{ModuleTree}
 use Rattle.wac_model.specs.ItemTree.{ItemTree, Items, item, type_item, leaf, core_module, composite, interface, world, no_items, named, resource, func, value}
-use Rattle.wac_component.specs.Place.{Place}
+use Rattle.wac_component.specs.Id.{Id}
 use Rattle.wac_component.specs.Collection.{Collection, DefinedContent, alias_of, composed, ResourceContent, FuncContent}
 use Rattle.wac_component.specs.Key.{Key, Entry, defined_entry, resource_entry, interface_entry, world_entry, defined_key, resource_key, interface_key, world_key}
 use Rattle.wac_component.specs.Unfolding.{unfolded}
@@ -17,7 +17,7 @@ use Rattle.wac_component.specs.declared.items.Type.{«Type» as TypeOf}
 use Rattle.wac_component.specs.declared.items.Type.TheVariants.{Resource as TypeResource, Func as TypeFunc, Value as TypeValue, Interface as TypeInterface, World as TypeWorld, Module as TypeModule}
 
 -- the name of a resource is that of its source, if it is another name of one, else its own
-abbrev pub content_name : (Place → Text) → ResourceContent → Text
+abbrev pub content_name : (Id → Text) → ResourceContent → Text
 content_name f r = option_map_or (λ a. f a.source) r.alias r.name
 
 abbrev pub entry_name : Entry → (Key → Text) → Text
@@ -25,7 +25,7 @@ entry_name (resource_entry r) f = content_name (λ p. f (resource_key p)) r
 entry_name e f = []
 
 -- the name at the root of a resource's aliases
-abbrev pub root_name : Collection → Place → Text
+abbrev pub root_name : Collection → Id → Text
 root_name c r = unfolded [] entry_name c (resource_key r)
 
 -- the tree of a value type, by those of defined types
@@ -57,11 +57,11 @@ abbrev pub func_content_tree : Collection → FuncContent → FuncTree
 func_content_tree c f = record { params = map (λ p. (p.0, value_tree c p.1)) f.params; «result» = option_map (value_tree c) f.«result»; is_async = f.is_async }
 
 -- the tree of a function type
-abbrev pub func_tree : Collection → Place → FuncTree
+abbrev pub func_tree : Collection → Id → FuncTree
 func_tree c f = option_map_or (func_content_tree c) (slice_get c.funcs f.index) (record { params = []; «result» = None; is_async = false })
 
 -- the tree of a core module
-abbrev pub module_tree : Collection → Place → ModuleTree
+abbrev pub module_tree : Collection → Id → ModuleTree
 module_tree c m = option_map_or (λ t. t) (slice_get c.modules m.index) (record { imports = []; exports = [] })
 
 -- what an interface or a world imports and exports; an interface imports nothing
@@ -122,5 +122,5 @@ IsResolved c (Defined d) = ((of : ValueType) → slice_get c.defined d.index ≢
 IsResolved c v = Unit {0}
 
 -- the resource is no alias
-abbrev pub IsRoot : Collection → Place → Type 0
+abbrev pub IsRoot : Collection → Id → Type 0
 IsRoot c r = (e : ResourceContent) → slice_get c.resources r.index ≡ Some e → e.alias ≡ None

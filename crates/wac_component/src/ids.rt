@@ -1,7 +1,9 @@
 //! The ids of a collection's entries: the number of the collection, and an index in the list of its sort.
 
-ghost use Rattle.std.specs.Prelude.{◌≡◌};
+ghost use Rattle.std.specs.Prelude.{◌≡◌, Some};
+ghost use Rattle.std.specs.Fmt.{decimal};
 
+use std::fmt;
 use std::marker::Model;
 
 /// Identifies a defined value type in a collection.
@@ -12,9 +14,9 @@ pub struct DefinedTypeId {
 }
 
 impl Model for DefinedTypeId {
-    ghost use Rattle.wac_component.specs.Place.{Place};
+    ghost use Rattle.wac_component.specs.Id.{Id};
 
-    ghost Value = { Place };
+    ghost Value = { Id };
 
     ghost view = { λ a. record { number = a.number; index = a.index } };
 
@@ -43,6 +45,15 @@ impl DefinedTypeId {
     }
 }
 
+impl fmt::Display for DefinedTypeId {
+    ghost output = { λ p. Some (decimal p.index) };
+
+    fn fmt<W: fmt::Write>(&self, f: &mut fmt::Formatter<W>) -> fmt::Result {
+        let DefinedTypeId { index, .. } = self;
+        write!(f, "{index}")
+    }
+}
+
 /// Identifies a resource in a collection.
 #[derive(Clone, Copy, PartialEq, Eq, Hash, Debug)]
 pub struct ResourceId {
@@ -51,9 +62,9 @@ pub struct ResourceId {
 }
 
 impl Model for ResourceId {
-    ghost use Rattle.wac_component.specs.Place.{Place};
+    ghost use Rattle.wac_component.specs.Id.{Id};
 
-    ghost Value = { Place };
+    ghost Value = { Id };
 
     ghost view = { λ a. record { number = a.number; index = a.index } };
 
@@ -82,6 +93,15 @@ impl ResourceId {
     }
 }
 
+impl fmt::Display for ResourceId {
+    ghost output = { λ p. Some (decimal p.index) };
+
+    fn fmt<W: fmt::Write>(&self, f: &mut fmt::Formatter<W>) -> fmt::Result {
+        let ResourceId { index, .. } = self;
+        write!(f, "{index}")
+    }
+}
+
 /// Identifies a function type in a collection.
 #[derive(Clone, Copy, PartialEq, Eq, Hash, Debug)]
 pub struct FuncTypeId {
@@ -90,9 +110,9 @@ pub struct FuncTypeId {
 }
 
 impl Model for FuncTypeId {
-    ghost use Rattle.wac_component.specs.Place.{Place};
+    ghost use Rattle.wac_component.specs.Id.{Id};
 
-    ghost Value = { Place };
+    ghost Value = { Id };
 
     ghost view = { λ a. record { number = a.number; index = a.index } };
 
@@ -121,6 +141,15 @@ impl FuncTypeId {
     }
 }
 
+impl fmt::Display for FuncTypeId {
+    ghost output = { λ p. Some (decimal p.index) };
+
+    fn fmt<W: fmt::Write>(&self, f: &mut fmt::Formatter<W>) -> fmt::Result {
+        let FuncTypeId { index, .. } = self;
+        write!(f, "{index}")
+    }
+}
+
 /// Identifies an interface, which is an instance type of the Component Model, in a collection.
 #[derive(Clone, Copy, PartialEq, Eq, Hash, Debug)]
 pub struct InterfaceId {
@@ -129,9 +158,9 @@ pub struct InterfaceId {
 }
 
 impl Model for InterfaceId {
-    ghost use Rattle.wac_component.specs.Place.{Place};
+    ghost use Rattle.wac_component.specs.Id.{Id};
 
-    ghost Value = { Place };
+    ghost Value = { Id };
 
     ghost view = { λ a. record { number = a.number; index = a.index } };
 
@@ -160,6 +189,15 @@ impl InterfaceId {
     }
 }
 
+impl fmt::Display for InterfaceId {
+    ghost output = { λ p. Some (decimal p.index) };
+
+    fn fmt<W: fmt::Write>(&self, f: &mut fmt::Formatter<W>) -> fmt::Result {
+        let InterfaceId { index, .. } = self;
+        write!(f, "{index}")
+    }
+}
+
 /// Identifies a world, which is a component type of the Component Model, in a collection.
 #[derive(Clone, Copy, PartialEq, Eq, Hash, Debug)]
 pub struct WorldId {
@@ -168,9 +206,9 @@ pub struct WorldId {
 }
 
 impl Model for WorldId {
-    ghost use Rattle.wac_component.specs.Place.{Place};
+    ghost use Rattle.wac_component.specs.Id.{Id};
 
-    ghost Value = { Place };
+    ghost Value = { Id };
 
     ghost view = { λ a. record { number = a.number; index = a.index } };
 
@@ -199,6 +237,15 @@ impl WorldId {
     }
 }
 
+impl fmt::Display for WorldId {
+    ghost output = { λ p. Some (decimal p.index) };
+
+    fn fmt<W: fmt::Write>(&self, f: &mut fmt::Formatter<W>) -> fmt::Result {
+        let WorldId { index, .. } = self;
+        write!(f, "{index}")
+    }
+}
+
 /// Identifies a core module type in a collection.
 #[derive(Clone, Copy, PartialEq, Eq, Hash, Debug)]
 pub struct ModuleTypeId {
@@ -207,9 +254,9 @@ pub struct ModuleTypeId {
 }
 
 impl Model for ModuleTypeId {
-    ghost use Rattle.wac_component.specs.Place.{Place};
+    ghost use Rattle.wac_component.specs.Id.{Id};
 
-    ghost Value = { Place };
+    ghost Value = { Id };
 
     ghost view = { λ a. record { number = a.number; index = a.index } };
 
@@ -235,5 +282,14 @@ impl ModuleTypeId {
         ensures { result ≡ self.now.index }
     {
         self.index
+    }
+}
+
+impl fmt::Display for ModuleTypeId {
+    ghost output = { λ p. Some (decimal p.index) };
+
+    fn fmt<W: fmt::Write>(&self, f: &mut fmt::Formatter<W>) -> fmt::Result {
+        let ModuleTypeId { index, .. } = self;
+        write!(f, "{index}")
     }
 }

@@ -1,0 +1,5 @@
+use Rattle.wac_component.proofs.CloneLemmas.{texts-clones}
+use Rattle.wac_component.proofs.defined.FlagsClone.clone.Goals as goal
+
+pub returns : goal.returns
+returns c = record { cases = texts-clones c.args.self.now.0.keys c.in_ok-names.names.keys c.in_ok-names.ensures.cases }
