@@ -1,0 +1,2 @@
+pub use Rattle.wac_component.specs.Content
+pub use Rattle.wac_component.specs.Key
