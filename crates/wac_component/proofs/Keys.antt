@@ -1,7 +1,8 @@
 -- Facts of each id of a list.
-use Rattle.std.proofs.Common.{◌≡◌, ◌≤◌, ℕ, suc, zero, List, [], ◌∷◌, ◌++◌, Some, slice_get, Bool, true, false, ◌&&◌, refl, arith, max}
+use Rattle.std.proofs.Common.{◌≡◌, ◌≤◌, ℕ, suc, zero, List, [], ◌∷◌, ◌++◌, Some, slice_get, Bool, true, false, ◌&&◌, refl, ap, arith, max}
 use Rattle.std.specs.List.{flat_map, list_all}
-use Rattle.wac_component.specs.Key.{Key, Each}
+use Rattle.std.proofs.Math.Decide.{ℕ_discrete}
+use Rattle.wac_component.specs.Key.{Key, Sort-discrete, Each}
 use Rattle.wac_component.specs.Height.{largest}
 
 and_left : (a b : Bool) → (a && b) ≡ true → a ≡ true
@@ -52,3 +53,23 @@ largest-flat_map_at h f (x ∷ xs) (suc i) v e = omega (arith, largest-append h 
 pub largest-same : (P : Key → Type 0) (f g : Key → ℕ) → ((k : Key) → P k → f k ≡ g k) → (ks : List Key) → Each P ks → largest f ks ≡ largest g ks
 largest-same P f g same [] h = refl
 largest-same P f g same (k ∷ ks) h = rw (same k h.0, largest-same P f g same ks h.1) refl
+
+-- keys are equal where their sorts, numbers and indices are
+Key-parts : (j k : Key) → j.sort ≡ k.sort → j.id.number ≡ k.id.number → j.id.index ≡ k.id.index → j ≡ k
+Key-parts j k s n i = λ t. record { sort = s t; id = record { number = n t; index = i t } }
+
+-- whether two keys are equal is decided
+pub Key-discrete : Discrete Key
+Key-discrete j k = by_sort (Sort-discrete j.sort k.sort)
+  where
+    by_index : j.sort ≡ k.sort → j.id.number ≡ k.id.number → Dec (j.id.index ≡ k.id.index) → Dec (j ≡ k)
+    by_index s n (yes i) = yes (Key-parts j k s n i)
+    by_index s n (no h) = no (λ e. h (ap (λ (x : Key). x.id.index) e))
+
+    by_number : j.sort ≡ k.sort → Dec (j.id.number ≡ k.id.number) → Dec (j ≡ k)
+    by_number s (yes n) = by_index s n (ℕ_discrete j.id.index k.id.index)
+    by_number s (no h) = no (λ e. h (ap (λ (x : Key). x.id.number) e))
+
+    by_sort : Dec (j.sort ≡ k.sort) → Dec (j ≡ k)
+    by_sort (yes s) = by_number s (ℕ_discrete j.id.number k.id.number)
+    by_sort (no h) = no (λ e. h (ap (λ (x : Key). x.sort) e))

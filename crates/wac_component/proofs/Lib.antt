@@ -9,3 +9,4 @@ pub mod Adding
 pub mod Reading
 pub mod Members
 pub mod CloneLemmas
+pub mod Walks

@@ -4,8 +4,9 @@ use Rattle.wac_model.specs.CoreTree.{ModuleTree}
 use Rattle.wac_model.specs.ItemTree.{item, composite, core_module, leaf, func, interface, world, no_items}
 use Rattle.wac_component.specs.Id.{Id}
 use Rattle.wac_component.specs.Collection.{Collection, DefinedContent, ResourceContent, FuncContent, InterfaceContent, WorldContent}
-use Rattle.wac_component.specs.Key.{Stands, defined_key, resource_key, interface_key, world_key}
+use Rattle.wac_component.specs.Key.{Key, next, Stands, defined_key, resource_key, interface_key, world_key}
 use Rattle.wac_component.specs.Sound.{IsSound}
+use Rattle.wac_component.specs.Reach.{IsAmong, Reaches}
 use Rattle.wac_component.specs.Tree.{root_name, content_name, value_tree, content_tree, func_content_tree, item_tree, items_of}
 use Rattle.wac_component.specs.Growth.{Extends}
 use Rattle.wac_component.specs.declared.items.ValueType.TheVariants.{Defined}
@@ -28,3 +29,11 @@ pub record FollowsEntries (c : Collection) : Type 0 where
 
 abbrev pub TreesFollowEntries : Type 0
 TreesFollowEntries = (c : Collection) → IsSound c → FollowsEntries c
+
+-- what a walk leads to stands
+abbrev pub WalksStand : Type 0
+WalksStand = (c : Collection) → IsSound c → (k t : Key) → Stands c k → Reaches c k t → Stands c t
+
+-- no walk of a step or more leads back to its start
+abbrev pub NoWalkReturns : Type 0
+NoWalkReturns = (c : Collection) → IsSound c → (k j : Key) → Stands c k → IsAmong j (next c k) → Reaches c j k → ⊥

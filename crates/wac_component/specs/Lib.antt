@@ -3,6 +3,7 @@ pub mod Collection
 pub mod Content
 pub mod Key
 pub mod Sound
+pub mod Reach
 pub mod Unfolding
 pub mod Height
 pub mod Tree
