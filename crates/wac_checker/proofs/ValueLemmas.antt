@@ -1,17 +1,14 @@
 -- What the members of two value types say of the whole.
-use Rattle.std.proofs.Common.{◌≡◌, ◌≢◌, ℕ, suc, zero, ◌<◌, List, [], ◌∷◌, length, map, Some, slice_get, string_bytes, String, Global, Bool, true, false, if◌then◌else◌, refl, ap, sym, ◌∙◌, arith}
+use Rattle.std.proofs.Common.{◌≡◌, ℕ, suc, zero, ◌<◌, List, [], ◌∷◌, length, map, Some, slice_get, string_bytes, String, Global, Bool, true, false, if◌then◌else◌, refl, ap, arith}
 use Rattle.std.specs.Str.{bytes_eq}
 use Rattle.std.specs.Map.{lookup}
 use Rattle.std.proofs.lemmas.List.{length-map}
 use Rattle.wac_component.specs.declared.items.ValueType.{ValueType}
 use Rattle.wac_model.specs.Text.{Text}
 use Rattle.wac_model.specs.ValueTree.{ValueTree, ValueTrees, node, parts_of, part_at, tuple, record_of}
-use Rattle.wac_checker.specs.Items.{case_number, AreOtherKinds}
 use Rattle.wac_component.specs.Collection.{Collection}
-use Rattle.wac_component.specs.Content.{names, types_of, defined_content}
-use Rattle.wac_component.specs.Tree.{value_tree, content_tree}
-use Rattle.wac_component.specs.declared.defined.DefinedType.{DefinedType}
-use Rattle.wac_component.specs.declared.defined.DefinedType.TheVariants as defined
+use Rattle.wac_component.specs.Content.{names, types_of}
+use Rattle.wac_component.specs.Tree.{value_tree}
 use Rattle.wac_checker.specs.Content.{composed_side}
 use Rattle.wac_mismatch.specs.declared.frame.Frame.{Frame}
 use Rattle.wac_mismatch.specs.declared.frame.Frame.TheVariants as frame
@@ -78,30 +75,6 @@ leads_to_field c at bt vs1 vs2 n x y l m _ is = elim is [ ]
 pub explains_field : (at bt : Collection) (vs1 vs2 : List (String Global × ValueType)) (c : SubtypeCheck) (e r : SubtypeError) (n : Text) (x y : ValueType) → lookup (λ k. bytes_eq n (string_bytes k)) vs1 ≡ Some x → lookup (λ k. bytes_eq n (string_bytes k)) vs2 ≡ Some y → IsUnder (IsField n) e r → Explains e c (value_side (value_tree at x)) (value_side (value_tree bt y)) → Explains r c (composed_side at (record_of (names vs1)) (types_of vs1)) (composed_side bt (record_of (names vs2)) (types_of vs2))
 explains_field at bt vs1 vs2 c e r n x y l m u h =
     explains_under (IsField n) e r c (composed_side at (record_of (names vs1)) (types_of vs1)) (composed_side bt (record_of (names vs2)) (types_of vs2)) (value_side (value_tree at x)) (value_side (value_tree bt y)) u (leads_to_field c at bt vs1 vs2 n x y l m) h
-
--- the case of a defined type that is no alias, by number
-abbrev pub defined_number : DefinedType → ℕ
-defined_number (defined.Tuple items) = 3
-defined_number (defined.List item) = 4
-defined_number (defined.FixedSizeList item n) = 5
-defined_number (defined.Option item) = 6
-defined_number (defined.Result ok err) = 7
-defined_number (defined.Variant v) = 8
-defined_number (defined.Record r) = 9
-defined_number (defined.Flags f) = 10
-defined_number (defined.Enum e) = 11
-defined_number (defined.Stream p) = 12
-defined_number (defined.Future p) = 13
-defined_number (defined.Alias v) = 14
-
-case_number-content : (f : ValueType → ValueTree) (d : DefinedType) → ((of : ValueType) → d ≡ defined.Alias of → ⊥) → case_number (content_tree f (defined_content d)) ≡ defined_number d
-case_number-content f (defined.Alias of) h = absurd (h of refl)
-case_number-content f d h = refl
-
--- two defined types of different cases, neither another name of a type
-pub other_cases : (at bt : Collection) (x y : DefinedType) (s t : ValueTree) → s ≡ content_tree (value_tree at) (defined_content x) → t ≡ content_tree (value_tree bt) (defined_content y) → ((of : ValueType) → x ≡ defined.Alias of → ⊥) → ((of : ValueType) → y ≡ defined.Alias of → ⊥) → defined_number x ≢ defined_number y → AreOtherKinds s t
-other_cases at bt x y s t e g na nb h same =
-    h (sym (ap case_number e ∙ case_number-content (value_tree at) x na) ∙ same ∙ ap case_number g ∙ case_number-content (value_tree bt) y nb)
 
 -- members at a place whose trees are one
 pub same_at : (f g : ValueType → ValueTree) (vs1 vs2 : List ValueType) (i : ℕ) (x y : ValueType) → slice_get vs1 i ≡ Some x → slice_get vs2 i ≡ Some y → value_side (f x) ≡ value_side (g y) → slice_get (map f vs1) i ≡ slice_get (map g vs2) i

@@ -48,6 +48,7 @@ pub(crate) fn item_fits(
     requires one { at.now.number ≡ bt.now.number → at.now ≡ bt.now }
     ensures { MatchResult result (λ _. Fits (item_tree at.now a) (item_tree bt.now b)) (λ e. Explains e check (item_side (item_tree at.now a)) (item_side (item_tree bt.now b))) }
 {
+    // a collection has no interfaces, worlds or core modules yet, so the last arm isn't reached
     at.sound();
     match &a {
         ItemKind::Type(x) => match &b {
@@ -62,7 +63,6 @@ pub(crate) fn item_fits(
             ItemKind::Value(y) => same_values(check, alloc, *x, at, *y, bt),
             _ => Err(other_items(check, alloc, a, at, b, bt)),
         },
-        // there are no interfaces, worlds and core modules yet
         ItemKind::Instance(_) | ItemKind::Component(_) | ItemKind::Module(_) => unreachable!(),
     }
 }
@@ -81,33 +81,21 @@ fn type_fits(
     requires one { at.now.number ≡ bt.now.number → at.now ≡ bt.now }
     ensures { MatchResult result (λ _. Fits (type_tree at.now a) (type_tree bt.now b)) (λ e. Explains e check (item_side (type_tree at.now a)) (item_side (type_tree bt.now b))) }
 {
+    // a collection has no interfaces, worlds or core modules yet, so the last arm isn't reached
     at.sound();
     match &a {
         Type::Resource(x) => match &b {
             Type::Resource(y) => same_resources(check, alloc, *x, at, *y, bt),
-            _ => {
-                let a = ItemKind::Type(a);
-                let b = ItemKind::Type(b);
-                Err(other_items(check, alloc, a, at, b, bt))
-            }
+            _ => Err(other_items(check, alloc, ItemKind::Type(a), at, ItemKind::Type(b), bt)),
         },
         Type::Func(x) => match &b {
             Type::Func(y) => same_funcs(check, alloc, *x, at, *y, bt),
-            _ => {
-                let a = ItemKind::Type(a);
-                let b = ItemKind::Type(b);
-                Err(other_items(check, alloc, a, at, b, bt))
-            }
+            _ => Err(other_items(check, alloc, ItemKind::Type(a), at, ItemKind::Type(b), bt)),
         },
         Type::Value(x) => match &b {
             Type::Value(y) => same_values(check, alloc, *x, at, *y, bt),
-            _ => {
-                let a = ItemKind::Type(a);
-                let b = ItemKind::Type(b);
-                Err(other_items(check, alloc, a, at, b, bt))
-            }
+            _ => Err(other_items(check, alloc, ItemKind::Type(a), at, ItemKind::Type(b), bt)),
         },
-        // there are no interfaces, worlds and core modules yet
         Type::Interface(_) | Type::World(_) | Type::Module(_) => unreachable!(),
     }
 }

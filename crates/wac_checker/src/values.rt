@@ -1,9 +1,9 @@
 //! Comparisons of value types: equality, and where it fails a path to the first part that differs.
 
-ghost use Rattle.std.specs.Prelude.{◌≡◌, MatchResult};
+ghost use Rattle.std.specs.Prelude.{◌≡◌, [], ◌∷◌, MatchResult};
 ghost use Rattle.std.specs.List.{flat_map};
 ghost use Rattle.std.specs.Option.{option_to_list};
-ghost use Rattle.wac_model.specs.ValueTree.{tuple, record_of};
+ghost use Rattle.wac_model.specs.ValueTree.{tuple, fixed_size_list, record_of};
 ghost use Rattle.wac_component.specs.Content.{names, types_of, case_types};
 ghost use Rattle.wac_component.specs.Key.{Stands, AllStand, defined_key, value_keys};
 ghost use Rattle.wac_component.specs.Tree.{value_tree, IsResolved};
@@ -86,13 +86,7 @@ fn same_defined_types(
             same_values(check, alloc, *x, at, *y, bt).map_err(|e| under(e, Frame::ListElement))
         }
         (DefinedType::FixedSizeList(x, m), DefinedType::FixedSizeList(y, n)) => {
-            if *m != *n {
-                return Err(here(alloc, Fault::FixedSize));
-            }
-            same_values(check, alloc, *x, at, *y, bt).map_err(|e| under(
-                e,
-                Frame::FixedSizeListElement,
-            ))
+            same_fixed_size_lists(check, alloc, *x, *m, at, *y, *n, bt)
         }
         (DefinedType::Option(x), DefinedType::Option(y)) => {
             same_values(check, alloc, *x, at, *y, bt).map_err(|e| under(e, Frame::Option))
@@ -125,6 +119,29 @@ fn same_defined_types(
             Err(other_kinds(check, alloc, a, at, b, bt))
         }
     }
+}
+
+// Whether two lists of fixed sizes are one.
+#[cycle(values)]
+fn same_fixed_size_lists(
+    check: SubtypeCheck,
+    alloc: Global,
+    a: ValueType,
+    a_size: u32,
+    at: &Types,
+    b: ValueType,
+    b_size: u32,
+    bt: &Types,
+) -> Result<(), SubtypeError>
+    requires left { AllStand at.now (value_keys a) }
+    requires right { AllStand bt.now (value_keys b) }
+    requires one { at.now.number ≡ bt.now.number → at.now ≡ bt.now }
+    ensures { IsVerdict result check (composed_side at.now (fixed_size_list a_size) (a ∷ [])) (composed_side bt.now (fixed_size_list b_size) (b ∷ [])) }
+{
+    if a_size != b_size {
+        return Err(here(alloc, Fault::FixedSize));
+    }
+    same_values(check, alloc, a, at, b, bt).map_err(|e| under(e, Frame::FixedSizeListElement))
 }
 
 // Whether two lists of items are one.
