@@ -1,0 +1,13 @@
+//! Examples of the library's answers and texts, as tests.
+#![tactic(auto)]
+
+#[cfg(test)]
+mod building;
+#[cfg(test)]
+mod order;
+#[cfg(test)]
+mod paths;
+#[cfg(test)]
+mod shapes;
+#[cfg(test)]
+mod standing;
