@@ -11,3 +11,5 @@ mod paths;
 mod shapes;
 #[cfg(test)]
 mod standing;
+#[cfg(test)]
+mod texts;
