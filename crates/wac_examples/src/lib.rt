@@ -4,6 +4,10 @@
 #[cfg(test)]
 mod building;
 #[cfg(test)]
+mod checking;
+#[cfg(test)]
+mod collections;
+#[cfg(test)]
 mod order;
 #[cfg(test)]
 mod paths;
@@ -13,3 +17,5 @@ mod shapes;
 mod standing;
 #[cfg(test)]
 mod texts;
+#[cfg(test)]
+mod values;
