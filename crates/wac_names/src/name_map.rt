@@ -224,9 +224,11 @@ impl<K: Clone + Eq + Hash + Drop, V: Clone + Drop> Clone for NameMap<K, V> {
     ghost is_clone = { λ m n. IsNameMapClone K.eq K.is_clone V.is_clone m n };
 
     fn clone(&self) -> Result<NameMap<K, V>, AllocError> {
+        let definitions = self.definitions.clone()?;
+        let alternate_lookups = self.alternate_lookups.clone()?;
         Ok(NameMap {
-            definitions: self.definitions.clone()?,
-            alternate_lookups: self.alternate_lookups.clone()?,
+            definitions,
+            alternate_lookups,
         })
     }
 }

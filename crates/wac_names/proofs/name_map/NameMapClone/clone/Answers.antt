@@ -4,6 +4,6 @@ use Rattle.wac_names.proofs.name_map.NameMapClone.clone.Goals as goal
 pub returns : goal.returns
 returns g c = record {
   cases = λ equal f ps law s.
-      stands_clone g.K.PartialEq.eq g.met.K.Eq.laws g.K.Clone.is_clone g.V.Clone.is_clone equal f law c.args.self.now _ ps c.in_ok-clone.ensures.cases
-      (notes_clone g.K.Clone.is_clone c.args.self.now.alternate_lookups.entries c.in_ok-clone-2.field-0.entries c.in_ok-clone-2.ensures.cases) s;
+      stands_clone g.K.PartialEq.eq g.met.K.Eq.laws g.K.Clone.is_clone g.V.Clone.is_clone equal f law c.args.self.now _ ps c.in_ok-definitions.ensures.cases
+      (notes_clone g.K.Clone.is_clone c.args.self.now.alternate_lookups.entries c.in_ok-alternate_lookups.alternate_lookups.entries c.in_ok-alternate_lookups.ensures.cases) s;
 }
