@@ -108,11 +108,21 @@ key_of-sound name key e = step (version_parts (after_first is_at name)) refl e w
       let k = key_parts (before_first is_at name) key p h in
       (p, record { base = before_first is_at name; versioned = read_after_at name p at; release = k.0; key_text = k.1 })
 
-pub keys_are_tracks : KeysAreTracks
-keys_are_tracks name = at (key_of name) refl where
+key_of-is : (name : List ℕ) → IsKeyOf name (key_of name)
+key_of-is name = at (key_of name) refl where
   at : (o : Option (List ℕ)) → key_of name ≡ o → IsKeyOf name o
   at (Some key) e = key_of-sound name key e
   at None e = λ key h. cc (key_of-complete name key h.0 h.1, e)
+
+key_of-only : (name : List ℕ) (o : Option (List ℕ)) → IsKeyOf name o → o ≡ key_of name
+key_of-only name (Some key) h = sym (key_of-complete name key h.0 h.1)
+key_of-only name None none = at (key_of name) refl where
+  at : (o : Option (List ℕ)) → key_of name ≡ o → ◌≡◌ {A = Option (List ℕ)} None (key_of name)
+  at (Some key) e = absurd (none key (key_of-sound name key e))
+  at None e = sym e
+
+pub keys_are_tracks : KeysAreTracks
+keys_are_tracks = record { is_key = key_of-is; only_key = key_of-only }
 
 -- ---- classes
 

@@ -10,7 +10,7 @@ use Rattle.wac_names.proofs.Standing.{version_total}
 use Rattle.wac_names.proofs.Tracks.{compatible_equivalence, versions_tell}
 
 both_le : (r s : Ordering) → r ≡ ordering_reverse s → is_le r ≡ true → is_le s ≡ true → r ≡ Equal
-both_le r Less e p q = cc (ap is_le e, p)
+both_le r Less e p q = cc p
 both_le r Equal e p q = e
 both_le r Greater e p q = cc q
 

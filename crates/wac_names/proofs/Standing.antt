@@ -53,7 +53,7 @@ le_from_not_lt v w e = ap is_le (version_total.antisymm w v) ∙ not_lt (version
 
 lt_le : (r : Ordering) → is_lt r ≡ true → is_le r ≡ true
 lt_le Less e = refl
-lt_le Equal e = cc e
+lt_le Equal e = refl
 lt_le Greater e = cc e
 
 le_trans : (u v w : Parts) → is_le (version_cmp u v) ≡ true → is_le (version_cmp v w) ≡ true → is_le (version_cmp u w) ≡ true

@@ -54,9 +54,10 @@ class_of name = class_with name (key_of name)
 
 -- ---- laws
 
--- the key of a name is its track key
-abbrev pub KeysAreTracks : Type 0
-KeysAreTracks = (name : Text) → IsKeyOf name (key_of name)
+-- the key of a name is its track key, and no other is
+pub record KeysAreTracks : Type 0 where
+  pub is_key : (name : Text) → IsKeyOf name (key_of name)
+  pub only_key : (name : Text) (key : Option Text) → IsKeyOf name key → key ≡ key_of name
 
 -- names are compatible exactly where their classes are equal
 abbrev pub ClassesTellNames : Type 0

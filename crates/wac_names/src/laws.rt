@@ -1,9 +1,10 @@
 //! Laws of the definitions, each as the contract of a function.
 
+ghost use Rattle.std.specs.Cmp.{IsTotalOrder};
 ghost use Rattle.wac_names.specs.Class.{ClassesAreDecided, ClassesTellNames, KeysAreTracks};
 ghost use Rattle.wac_names.specs.NameMap.{StandsAsInternerGrows};
 ghost use Rattle.wac_names.specs.Pairs.{FindsOne};
-ghost use Rattle.wac_names.specs.Track.{IsEquivalenceOfNames, KeysHaveNoKey, NamesHaveOneTrack, VersionsTellNames};
+ghost use Rattle.wac_names.specs.Track.{IsEquivalenceOfNames, KeysHaveNoKey, NamesHaveOneTrack, VersionsTellNames, version_cmp};
 
 use crate::NameMap;
 use std::hash::Hash;
@@ -21,6 +22,11 @@ pub fn names_have_one_track()
 /// On one track equal versions mean equal names.
 pub fn versions_tell_names()
     ensures { VersionsTellNames }
+{}
+
+/// The order of versions is total.
+pub fn versions_are_ordered()
+    ensures { IsTotalOrder version_cmp }
 {}
 
 /// The text of a track key has no track key: as a name it stands alone.
@@ -44,7 +50,7 @@ pub fn classes_are_decided()
 {}
 
 /// What is found at a name is one value or none.
-pub fn finds_one<V>(_values: &[V])
+pub fn finds_one<V>()
     ensures { FindsOne V }
 {}
 

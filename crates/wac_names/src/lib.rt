@@ -15,7 +15,7 @@ pub use intern::{NameMapIntern, NameMapNoIntern};
 pub use laws::{
     classes_are_decided, classes_tell_names, compatibility_is_an_equivalence, finds_one,
     key_of_a_name_is_its_track, keys_have_no_key, names_have_one_track, stands_as_interner_grows,
-    versions_tell_names,
+    versions_are_ordered, versions_tell_names,
 };
 pub use name_map::NameMap;
 pub use track::{are_semver_compatible, track_of};

@@ -184,7 +184,8 @@ impl<K: Eq + Hash + Drop, V> NameMap<K, V> {
     }
 
     /// The value at a name; where the name is not there, the value at the greatest version on its track;
-    /// else none. `Err` is want of memory.
+    /// else none. The greatest is told by the order of `semver::Version`: that of SemVer 2.0.0, item 11,
+    /// and then build metadata. `Err` is want of memory.
     pub fn get<I: NameMapIntern<Key = K>>(
         &self,
         name: &str,

@@ -1,6 +1,6 @@
 //! Interners that number texts.
 
-ghost use Rattle.std.specs.Prelude.{◌≡◌, [], Some, IfOk};
+ghost use Rattle.std.specs.Prelude.{◌≡◌, ℕ, false, [], Some, IfOk};
 ghost use Rattle.wac_model.specs.Text.{Text};
 ghost use Rattle.wac_names_examples.specs.Places.{AddsAt, counts_down_to, is_place, place_of};
 ghost use Rattle.wac_names_examples.specs.PlaceLaws.{countdown_lawful, numbers_lawful};
@@ -53,7 +53,7 @@ pub struct Numbers {
 impl Numbers {
     /// No texts.
     pub fn new(alloc: Global) -> Numbers
-        ensures { result.texts.texts.items ≡ [] }
+        ensures { (text : Text) (key : ℕ) → ⟦<Numbers as NameMapIntern>⟧.is_key result text key ≡ false }
     {
         Numbers {
             texts: Texts::new(alloc),
@@ -86,7 +86,7 @@ pub struct Countdown {
 impl Countdown {
     /// No texts.
     pub fn new(alloc: Global) -> Countdown
-        ensures { result.texts.texts.items ≡ [] }
+        ensures { (text : Text) (key : ℕ) → ⟦<Countdown as NameMapIntern>⟧.is_key result text key ≡ false }
     {
         Countdown {
             texts: Texts::new(alloc),
