@@ -1,0 +1,9 @@
+pub mod Tracks
+pub mod Cuts
+pub mod PairFacts
+pub mod Standing
+pub mod Cloning
+pub mod Finding
+pub mod Refusals
+pub mod Classes
+pub mod KeyTexts

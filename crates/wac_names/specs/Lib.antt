@@ -1,0 +1,10 @@
+pub mod Track
+pub mod Reading
+pub mod Class
+pub mod Interner
+pub mod InternerLaws
+pub mod Pairs
+pub mod NameErrorText
+pub mod NameMap
+pub mod Placing
+pub mod Lends
