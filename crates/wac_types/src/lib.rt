@@ -1,5 +1,5 @@
-//! Types of WebAssembly components: collections of them, and which type fits where another is
-//! asked for.
+//! Types of WebAssembly components: collections of them, which type fits where another is asked
+//! for, and which names with versions are compatible.
 #![tactic(auto)]
 
 pub use wac_checker::SubtypeChecker;
@@ -10,3 +10,6 @@ pub use wac_component::{
 };
 pub use wac_mismatch::{CountOf, Fault, Frame, NameOf, ResultPart, SubtypeCheck, SubtypeError};
 pub use wac_model::PrimitiveType;
+pub use wac_names::{
+    NameError, NameMap, NameMapIntern, NameMapNoIntern, are_semver_compatible, track_of,
+};

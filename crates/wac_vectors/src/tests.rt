@@ -26,8 +26,8 @@ fn each_command_line_has_its_output_and_status(rt: HostRuntime) -> Result<(), Fa
         &["row"],
         &["rows", "1"],
         &["track"],
-        &["track", "x:y/z@1.0.0"],
-        &["compatible", "a:b/c@0.2.0", "a:b/c@0.3.0"],
+        &["track", "x:y/z", "x:y/z"],
+        &["compatible", "a:b/c@0.2.0"],
     ];
     for words in no_commands {
         let mut out = Vec::new(alloc);
@@ -36,11 +36,20 @@ fn each_command_line_has_its_output_and_status(rt: HostRuntime) -> Result<(), Fa
         assert_eq!(rt; out.as_slice(), b"".as_slice());
         assert_eq!(rt; err.as_slice(), USAGE.as_bytes());
     }
-    let mut out = Vec::new(alloc);
-    let mut err = Vec::new(alloc);
-    assert_eq!(rt; run(alloc, &["rows"], &mut out, &mut err), 0);
-    assert_eq!(rt; out.as_slice(), ROWS.as_bytes());
-    assert_eq!(rt; err.as_slice(), b"".as_slice());
+    let commands: [(&[&str], &str); 5] = [
+        (&["rows"], ROWS),
+        (&["track", "x:y/z"], "none\n"),
+        (&["track", "x:y/z@0.2.3+abc"], "x:y/z@0.2\n"),
+        (&["compatible", "a:b/c@0.2.0", "a:b/c@0.2.3"], "yes\n"),
+        (&["compatible", "a:b/c@0.2.0", "a:b/c@0.3.0"], "no\n"),
+    ];
+    for (words, text) in commands {
+        let mut out = Vec::new(alloc);
+        let mut err = Vec::new(alloc);
+        assert_eq!(rt; run(alloc, words, &mut out, &mut err), 0);
+        assert_eq!(rt; out.as_slice(), text.as_bytes());
+        assert_eq!(rt; err.as_slice(), b"".as_slice());
+    }
     Ok(())
 }
 
