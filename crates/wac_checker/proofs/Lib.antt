@@ -6,3 +6,6 @@ pub mod FuncLemmas
 pub mod ItemLemmas
 pub mod CacheLemmas
 pub mod TruthLemmas
+pub mod Lookups
+pub mod ExternLemmas
+pub mod CoreLemmas

@@ -12,10 +12,10 @@ ghost use Rattle.wac_checker.specs.Items.{AreOtherKinds};
 ghost use Rattle.wac_component.specs.Content.{names, types_of};
 ghost use Rattle.indexmap.specs.IndexMap.{get_by_text};
 
-use super::refusals::{expected_found, here, here_with};
 use indexmap::{IndexMap, IndexSet};
 use std::alloc::{AllocError, Global};
 use wac_component::{ResourceId, Types, ValueType};
+use wac_mismatch::refusals::{expected_found, here, here_with};
 use wac_mismatch::{CountOf, Fault, NameOf, SubtypeCheck, SubtypeError};
 use wac_model::PrimitiveType;
 

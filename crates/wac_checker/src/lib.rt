@@ -3,11 +3,11 @@
 
 pub(crate) mod cache;
 pub mod checker;
+pub(crate) mod composites;
 pub(crate) mod functions;
 pub(crate) mod items;
 pub mod laws;
 pub(crate) mod leaves;
-pub(crate) mod refusals;
 pub(crate) mod values;
 
 pub use checker::SubtypeChecker;

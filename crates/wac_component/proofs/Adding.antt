@@ -1,18 +1,19 @@
 -- What adding an entry that names what stands gives.
 use Rattle.std.proofs.Common.{◌≡◌, ◌<◌, ℕ, arith, map, length-append, List, [], ◌∷◌, ◌++◌, length, refl, ◌∙◌}
 use Rattle.std.proofs.lemmas.List.{length-map}
+use Rattle.wac_model.specs.CoreTree.{ModuleTree}
 use Rattle.wac_component.specs.Id.{Id}
-use Rattle.wac_component.specs.Collection.{Collection, DefinedContent, ResourceContent, FuncContent}
-use Rattle.wac_component.specs.Key.{Entry, defined_entry, resource_entry, func_entry, entry_keys, Stands, AllStand, defined_keys, resource_keys, func_keys}
+use Rattle.wac_component.specs.Collection.{Collection, DefinedContent, ResourceContent, FuncContent, InterfaceContent, WorldContent}
+use Rattle.wac_component.specs.Key.{Entry, defined_entry, resource_entry, func_entry, interface_entry, world_entry, module_entry, entry_keys, Stands, AllStand, interface_key, world_key, defined_keys, resource_keys, func_keys, interface_keys, world_keys}
 use Rattle.wac_component.specs.Sound.{IsSound}
 use Rattle.wac_component.specs.Unfolding.{unfolded}
-use Rattle.wac_component.specs.Tree.{value_tree, content_tree, root_name, content_name, entry_name, func_tree, func_content_tree}
+use Rattle.wac_component.specs.Tree.{value_tree, content_tree, root_name, content_name, entry_name, func_tree, func_content_tree, module_tree, externs, interface_externs, world_externs, item_tree}
 use Rattle.wac_component.specs.Growth.{Extends, with_entry}
 use Rattle.wac_component.specs.declared.items.ValueType.TheVariants.{Defined}
 use Rattle.wac_component.proofs.Lists.{slice_get-last}
 use Rattle.wac_component.proofs.Unfolded.{Keeps}
-use Rattle.wac_component.proofs.Trees.{value_tree-entry, root_name-entry, func_tree-entry, content_tree-agree, func_content_tree-agree, entry_name-local}
-use Rattle.wac_component.proofs.Kept.{value_tree-kept, name-kept}
+use Rattle.wac_component.proofs.Trees.{value_tree-entry, root_name-entry, func_tree-entry, module_tree-entry, interface-externs, world-externs, interface_externs-agree, world_externs-agree, content_tree-agree, func_content_tree-agree, entry_name-local}
+use Rattle.wac_component.proofs.Kept.{value_tree-kept, name-kept, item_tree-kept}
 use Rattle.wac_component.proofs.Added.{Adds-with_entry, sort_of, IsSound-Adds, Extends-Adds, keeps_what_stood}
 
 pub IsSound-with_entry : (c : Collection) (e : Entry) → IsSound c → AllStand c (entry_keys e) → IsSound (with_entry c e)
@@ -44,3 +45,18 @@ func_tree-with_func c e i p s named last is =
     let d : Collection = with_entry c (func_entry e) in
     func_tree-entry d p e (rw (is, last) (slice_get-last c.funcs e))
     ∙ func_content_tree-agree d c (Stands c) (value_tree-kept c d (Stands c) (keeps c (func_entry e) s)) e named
+
+pub externs-with_interface : (c : Collection) (e : InterfaceContent) (i : ℕ) (p : Id) → IsSound c → AllStand c (interface_keys e) → i ≡ length c.interfaces → p ≡ record { number = c.number; index = i } → externs (with_entry c (interface_entry e)) (interface_key p) ≡ interface_externs (item_tree c) e
+externs-with_interface c e i p s named last is =
+    let d : Collection = with_entry c (interface_entry e) in
+    interface-externs d p e (IsSound-with_entry c (interface_entry e) s named) (rw (is, last) (refl, last_below interface_entry c.interfaces e)) (rw (is, last) (slice_get-last c.interfaces e))
+    ∙ interface_externs-agree (Stands c) (item_tree d) (item_tree c) (item_tree-kept c d (Stands c) (keeps c (interface_entry e) s)) e named
+
+pub externs-with_world : (c : Collection) (e : WorldContent) (i : ℕ) (p : Id) → IsSound c → AllStand c (world_keys e) → i ≡ length c.worlds → p ≡ record { number = c.number; index = i } → externs (with_entry c (world_entry e)) (world_key p) ≡ world_externs (item_tree c) e
+externs-with_world c e i p s named last is =
+    let d : Collection = with_entry c (world_entry e) in
+    world-externs d p e (IsSound-with_entry c (world_entry e) s named) (rw (is, last) (refl, last_below world_entry c.worlds e)) (rw (is, last) (slice_get-last c.worlds e))
+    ∙ world_externs-agree (Stands c) (item_tree d) (item_tree c) (item_tree-kept c d (Stands c) (keeps c (world_entry e) s)) e named
+
+pub module_tree-with_module : (c : Collection) (e : ModuleTree) (i : ℕ) (p : Id) → i ≡ length c.modules → p ≡ record { number = c.number; index = i } → module_tree (with_entry c (module_entry e)) p ≡ e
+module_tree-with_module c e i p last is = module_tree-entry (with_entry c (module_entry e)) p e (rw (is, last) (slice_get-last c.modules e))

@@ -2,8 +2,8 @@
 use Rattle.std.proofs.Common.{◌≡◌, ◌<◌, Some, slice_get, ap, ◌∙◌}
 use Rattle.std.specs.Option.{option_map}
 use Rattle.wac_component.specs.Id.{Id}
-use Rattle.wac_component.specs.Collection.{Collection, DefinedContent, ResourceContent, FuncContent}
-use Rattle.wac_component.specs.Key.{Key, Entry, defined_entry, resource_entry, func_entry, entry_keys, entry_at, defined_key, resource_key, func_key, defined_keys, resource_keys, func_keys, Stands, AllStand}
+use Rattle.wac_component.specs.Collection.{Collection, DefinedContent, ResourceContent, FuncContent, InterfaceContent, WorldContent}
+use Rattle.wac_component.specs.Key.{Key, Entry, defined_entry, resource_entry, func_entry, interface_entry, world_entry, entry_keys, entry_at, defined_key, resource_key, func_key, interface_key, world_key, defined_keys, resource_keys, func_keys, interface_keys, world_keys, Stands, AllStand}
 use Rattle.wac_component.specs.Sound.{IsSound}
 use Rattle.wac_component.specs.Height.{height, keys_height}
 use Rattle.wac_component.proofs.Lists.{slice_get-map}
@@ -38,3 +38,21 @@ resource_lower c p e s st is = entry_below c (resource_key p) (resource_entry e)
 
 pub func_lower : (c : Collection) (p : Id) (e : FuncContent) → IsSound c → Stands c (func_key p) → slice_get c.funcs p.index ≡ Some e → keys_height c (func_keys e) < height c (func_key p)
 func_lower c p e s st is = entry_below c (func_key p) (func_entry e) s st (func_at c p e is)
+
+interface_at : (c : Collection) (p : Id) (e : InterfaceContent) → slice_get c.interfaces p.index ≡ Some e → entry_at c (interface_key p) ≡ Some (interface_entry e)
+interface_at c p e is = slice_get-map interface_entry c.interfaces p.index ∙ ap (option_map interface_entry) is
+
+pub interface_standing : (c : Collection) (p : Id) (e : InterfaceContent) → IsSound c → Stands c (interface_key p) → slice_get c.interfaces p.index ≡ Some e → AllStand c (interface_keys e)
+interface_standing c p e s st is = entry_standing c (interface_key p) (interface_entry e) s st (interface_at c p e is)
+
+pub interface_lower : (c : Collection) (p : Id) (e : InterfaceContent) → IsSound c → Stands c (interface_key p) → slice_get c.interfaces p.index ≡ Some e → keys_height c (interface_keys e) < height c (interface_key p)
+interface_lower c p e s st is = entry_below c (interface_key p) (interface_entry e) s st (interface_at c p e is)
+
+world_at : (c : Collection) (p : Id) (e : WorldContent) → slice_get c.worlds p.index ≡ Some e → entry_at c (world_key p) ≡ Some (world_entry e)
+world_at c p e is = slice_get-map world_entry c.worlds p.index ∙ ap (option_map world_entry) is
+
+pub world_standing : (c : Collection) (p : Id) (e : WorldContent) → IsSound c → Stands c (world_key p) → slice_get c.worlds p.index ≡ Some e → AllStand c (world_keys e)
+world_standing c p e s st is = entry_standing c (world_key p) (world_entry e) s st (world_at c p e is)
+
+pub world_lower : (c : Collection) (p : Id) (e : WorldContent) → IsSound c → Stands c (world_key p) → slice_get c.worlds p.index ≡ Some e → keys_height c (world_keys e) < height c (world_key p)
+world_lower c p e s st is = entry_below c (world_key p) (world_entry e) s st (world_at c p e is)

@@ -8,10 +8,10 @@ use Rattle.wac_model.specs.CoreTree.{ModuleTree}
 use Rattle.wac_model.specs.ItemTree.{ItemTree, item, type_item, leaf, core_module, composite, interface, world, no_items, resource, func, value}
 use Rattle.wac_component.specs.Id.{Id}
 use Rattle.wac_component.specs.Collection.{Collection, DefinedContent, alias_of, composed, ResourceContent, AliasContent, FuncContent, InterfaceContent, WorldContent}
-use Rattle.wac_component.specs.Key.{Key, defined_entry, resource_entry, func_entry, interface_entry, world_entry, module_entry, Each, defined_key, resource_key, func_key, interface_key, world_key, module_key, value_keys, type_keys, item_keys, defined_keys, func_keys, named_keys, optional_keys, alias_keys, use_keys, Stands}
+use Rattle.wac_component.specs.Key.{Key, defined_entry, resource_entry, func_entry, interface_entry, world_entry, module_entry, Each, defined_key, resource_key, func_key, interface_key, world_key, module_key, value_keys, type_keys, item_keys, defined_keys, func_keys, interface_keys, world_keys, named_keys, optional_keys, alias_keys, use_keys, Stands}
 use Rattle.wac_component.specs.Sound.{IsSound}
 use Rattle.wac_component.specs.Laws.{FollowsEntries}
-use Rattle.wac_component.specs.Tree.{content_name, entry_name, root_name, value_tree_by, content_tree, entry_value, value_tree, func_content_tree, func_tree, module_tree, Externs, type_tree_by, item_tree_by, items_of, entry_externs, externs, item_tree}
+use Rattle.wac_component.specs.Tree.{content_name, entry_name, root_name, value_tree_by, content_tree, entry_value, value_tree, func_content_tree, func_tree, module_tree, Externs, type_tree_by, item_tree_by, items_of, interface_externs, world_externs, entry_externs, externs, item_tree}
 use Rattle.wac_component.specs.declared.items.ValueType.{ValueType}
 use Rattle.wac_component.specs.declared.items.ValueType.TheVariants.{Primitive, Borrow, Own, Defined}
 use Rattle.wac_component.specs.declared.items.ItemKind.{ItemKind}
@@ -127,15 +127,21 @@ items_of-agree P f g same (e ∷ es) all =
     let others = items_of-agree P f g same es (Each-right P (item_keys e.1) (named_keys item_keys es) all) in
     rw (first, others) refl
 
-pub entry_externs-agree : (c d : Collection) (P : Key → Type 0) → SameLeaves c d P → Agrees (entry_externs c) (entry_externs d) P
-entry_externs-agree c d P s f g same (interface_entry e) all =
-    let es = items_of-agree P (item_tree_by c f) (item_tree_by d g) (item_tree_by-agree c d P s f g same) e.exports (Each-right P (named_keys use_keys e.uses) (named_keys item_keys e.exports) all) in
+pub interface_externs-agree : (P : Key → Type 0) (f g : ItemKind → ItemTree) → ((i : ItemKind) → Each P (item_keys i) → f i ≡ g i) → (e : InterfaceContent) → Each P (interface_keys e) → interface_externs f e ≡ interface_externs g e
+interface_externs-agree P f g same e all =
+    let es = items_of-agree P f g same e.exports (Each-right P (named_keys use_keys e.uses) (named_keys item_keys e.exports) all) in
     λ i. record { imports = no_items; exports = es i }
-entry_externs-agree c d P s f g same (world_entry e) all =
+
+pub world_externs-agree : (P : Key → Type 0) (f g : ItemKind → ItemTree) → ((i : ItemKind) → Each P (item_keys i) → f i ≡ g i) → (e : WorldContent) → Each P (world_keys e) → world_externs f e ≡ world_externs g e
+world_externs-agree P f g same e all =
     let front = Each-left P (named_keys use_keys e.uses ++ named_keys item_keys e.imports) (named_keys item_keys e.exports) all in
-    let is = items_of-agree P (item_tree_by c f) (item_tree_by d g) (item_tree_by-agree c d P s f g same) e.imports (Each-right P (named_keys use_keys e.uses) (named_keys item_keys e.imports) front) in
-    let es = items_of-agree P (item_tree_by c f) (item_tree_by d g) (item_tree_by-agree c d P s f g same) e.exports (Each-right P (named_keys use_keys e.uses ++ named_keys item_keys e.imports) (named_keys item_keys e.exports) all) in
+    let is = items_of-agree P f g same e.imports (Each-right P (named_keys use_keys e.uses) (named_keys item_keys e.imports) front) in
+    let es = items_of-agree P f g same e.exports (Each-right P (named_keys use_keys e.uses ++ named_keys item_keys e.imports) (named_keys item_keys e.exports) all) in
     λ i. record { imports = is i; exports = es i }
+
+pub entry_externs-agree : (c d : Collection) (P : Key → Type 0) → SameLeaves c d P → Agrees (entry_externs c) (entry_externs d) P
+entry_externs-agree c d P s f g same (interface_entry e) all = interface_externs-agree P (item_tree_by c f) (item_tree_by d g) (item_tree_by-agree c d P s f g same) e all
+entry_externs-agree c d P s f g same (world_entry e) all = world_externs-agree P (item_tree_by c f) (item_tree_by d g) (item_tree_by-agree c d P s f g same) e all
 entry_externs-agree c d P s f g same (defined_entry e) all = refl
 entry_externs-agree c d P s f g same (resource_entry e) all = refl
 entry_externs-agree c d P s f g same (func_entry e) all = refl
@@ -163,11 +169,11 @@ func_tree-entry c p e is = rw is refl
 pub module_tree-entry : (c : Collection) (p : Id) (e : ModuleTree) → slice_get c.modules p.index ≡ Some e → module_tree c p ≡ e
 module_tree-entry c p e is = rw is refl
 
-pub interface-externs : (c : Collection) (p : Id) (e : InterfaceContent) → IsSound c → Stands c (interface_key p) → slice_get c.interfaces p.index ≡ Some e → externs c (interface_key p) ≡ record { imports = no_items; exports = items_of (item_tree c) e.exports }
+pub interface-externs : (c : Collection) (p : Id) (e : InterfaceContent) → IsSound c → Stands c (interface_key p) → slice_get c.interfaces p.index ≡ Some e → externs c (interface_key p) ≡ interface_externs (item_tree c) e
 interface-externs c p e s st is =
     unfolded-entry (record { imports = no_items; exports = no_items }) (entry_externs c) (entry_externs-local c) c (interface_key p) (interface_entry e) s st (slice_get-map interface_entry c.interfaces p.index ∙ ap (option_map interface_entry) is)
 
-pub world-externs : (c : Collection) (p : Id) (e : WorldContent) → IsSound c → Stands c (world_key p) → slice_get c.worlds p.index ≡ Some e → externs c (world_key p) ≡ record { imports = items_of (item_tree c) e.imports; exports = items_of (item_tree c) e.exports }
+pub world-externs : (c : Collection) (p : Id) (e : WorldContent) → IsSound c → Stands c (world_key p) → slice_get c.worlds p.index ≡ Some e → externs c (world_key p) ≡ world_externs (item_tree c) e
 world-externs c p e s st is =
     unfolded-entry (record { imports = no_items; exports = no_items }) (entry_externs c) (entry_externs-local c) c (world_key p) (world_entry e) s st (slice_get-map world_entry c.worlds p.index ∙ ap (option_map world_entry) is)
 

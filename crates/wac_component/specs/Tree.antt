@@ -6,7 +6,7 @@ use Rattle.wac_model.specs.ValueTree.{ValueTree, FuncTree, node, no_parts, parts
 use Rattle.wac_model.specs.CoreTree.{ModuleTree}
 use Rattle.wac_model.specs.ItemTree.{ItemTree, Items, item, type_item, leaf, core_module, composite, interface, world, no_items, named, resource, func, value}
 use Rattle.wac_component.specs.Id.{Id}
-use Rattle.wac_component.specs.Collection.{Collection, DefinedContent, alias_of, composed, ResourceContent, FuncContent}
+use Rattle.wac_component.specs.Collection.{Collection, DefinedContent, alias_of, composed, ResourceContent, FuncContent, InterfaceContent, WorldContent}
 use Rattle.wac_component.specs.Key.{Key, Entry, defined_entry, resource_entry, interface_entry, world_entry, defined_key, resource_key, interface_key, world_key}
 use Rattle.wac_component.specs.Unfolding.{unfolded}
 use Rattle.wac_component.specs.declared.items.ValueType.{ValueType}
@@ -92,9 +92,16 @@ abbrev pub items_of : (ItemKind → ItemTree) → List (Text × ItemKind) → It
 items_of f [] = no_items
 items_of f (e ∷ es) = named e.0 (f e.1) (items_of f es)
 
+-- what an interface and a world say that they import and export, by the trees of items
+abbrev pub interface_externs : (ItemKind → ItemTree) → InterfaceContent → Externs
+interface_externs f i = record { imports = no_items; exports = items_of f i.exports }
+
+abbrev pub world_externs : (ItemKind → ItemTree) → WorldContent → Externs
+world_externs f w = record { imports = items_of f w.imports; exports = items_of f w.exports }
+
 abbrev pub entry_externs : Collection → Entry → (Key → Externs) → Externs
-entry_externs c (interface_entry i) f = record { imports = no_items; exports = items_of (item_tree_by c f) i.exports }
-entry_externs c (world_entry w) f = record { imports = items_of (item_tree_by c f) w.imports; exports = items_of (item_tree_by c f) w.exports }
+entry_externs c (interface_entry i) f = interface_externs (item_tree_by c f) i
+entry_externs c (world_entry w) f = world_externs (item_tree_by c f) w
 entry_externs c e f = record { imports = no_items; exports = no_items }
 
 -- what an interface or a world imports and exports

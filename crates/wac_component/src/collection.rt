@@ -5,13 +5,17 @@ ghost use Rattle.std.specs.Slice.Iter.{iter_rest};
 
 use super::defined::DefinedType;
 use super::functions::FuncType;
-use super::ids::{DefinedTypeId, FuncTypeId, ResourceId};
+use super::ids::{DefinedTypeId, FuncTypeId, InterfaceId, ModuleTypeId, ResourceId, WorldId};
+use super::interfaces::Interface;
 use super::items::{Type, ValueType};
 use super::resources::Resource;
+use super::worlds::World;
 use std::alloc::{AllocError, Global};
 use std::marker::Model;
-use std::ops::Index;
 use std::slice;
+use wac_core::ModuleType;
+
+mod index;
 
 /// A collection of types.
 ///
@@ -23,6 +27,9 @@ pub struct Types {
     defined: Vec<DefinedType>,
     resources: Vec<Resource>,
     funcs: Vec<FuncType>,
+    interfaces: Vec<Interface>,
+    worlds: Vec<World>,
+    modules: Vec<ModuleType>,
 }
 
 impl Model for Types {
@@ -39,11 +46,12 @@ impl Model for Types {
 }
 
 impl Types {
-    ghost use Rattle.wac_component.specs.Content.{defined_content, resource_content, func_content};
-    ghost use Rattle.wac_component.specs.Key.{Stands, AllStand, value_keys, type_keys, defined_key, resource_key, func_key, defined_keys, resource_keys, func_keys};
+    ghost use Rattle.wac_core.specs.Content.{module_content};
+    ghost use Rattle.wac_component.specs.Content.{defined_content, resource_content, func_content, interface_content, world_content};
+    ghost use Rattle.wac_component.specs.Key.{Stands, AllStand, value_keys, type_keys, defined_key, resource_key, func_key, interface_key, world_key, module_key, defined_keys, resource_keys, func_keys, interface_keys, world_keys};
     ghost use Rattle.wac_component.specs.Sound.{IsSound};
     ghost use Rattle.wac_component.specs.Height.{keys_height};
-    ghost use Rattle.wac_component.specs.Tree.{value_tree, content_tree, root_name, content_name, func_tree, func_content_tree, IsResolved, IsRoot};
+    ghost use Rattle.wac_component.specs.Tree.{value_tree, content_tree, root_name, content_name, func_tree, func_content_tree, module_tree, item_tree, externs, interface_externs, world_externs, IsResolved, IsRoot};
     ghost use Rattle.wac_component.specs.Growth.{Extends};
     ghost use Rattle.wac_component.specs.declared.items.ValueType.TheVariants.{Defined};
 
@@ -56,6 +64,9 @@ impl Types {
             defined: Vec::new(alloc),
             resources: Vec::new(alloc),
             funcs: Vec::new(alloc),
+            interfaces: Vec::new(alloc),
+            worlds: Vec::new(alloc),
+            modules: Vec::new(alloc),
         }
     }
 
@@ -85,6 +96,27 @@ impl Types {
         ensures { map func_content (iter_rest result) ≡ self.now.funcs }
     {
         self.funcs.iter()
+    }
+
+    /// The interfaces in order.
+    pub fn interfaces(&self) -> slice::Iter<'_, Interface>
+        ensures { map interface_content (iter_rest result) ≡ self.now.interfaces }
+    {
+        self.interfaces.iter()
+    }
+
+    /// The worlds in order.
+    pub fn worlds(&self) -> slice::Iter<'_, World>
+        ensures { map world_content (iter_rest result) ≡ self.now.worlds }
+    {
+        self.worlds.iter()
+    }
+
+    /// The core module types in order.
+    pub fn modules(&self) -> slice::Iter<'_, ModuleType>
+        ensures { map module_content (iter_rest result) ≡ self.now.modules }
+    {
+        self.modules.iter()
     }
 
     /// Puts a defined type last; without memory the collection is unchanged.
@@ -132,6 +164,50 @@ impl Types {
         Ok(FuncTypeId::at(self.number, index))
     }
 
+    /// Puts an interface last; without memory the collection is unchanged.
+    pub fn add_interface(&mut self, interface: Interface) -> Result<InterfaceId, AllocError>
+        requires { AllStand self.old (interface_keys (interface_content interface)) }
+        ensures added { OnOk result (self.new ≡ record self.old { interfaces = self.old.interfaces ++ interface_content interface ∷ [] }) }
+        ensures id { IfOk result (λ id. id ≡ record { number = self.old.number; index = length self.old.interfaces }) }
+        ensures stands { IfOk result (λ id. Stands self.new (interface_key id)) }
+        ensures tree { IfOk result (λ id. externs self.new (interface_key id) ≡ interface_externs (item_tree self.old) (interface_content interface)) }
+        ensures grows { Extends self.old self.new }
+        ensures err { OnErr result (self.new ≡ self.old) }
+    {
+        let index = self.interfaces.len();
+        self.interfaces.push(interface)?;
+        Ok(InterfaceId::at(self.number, index))
+    }
+
+    /// Puts a world last; without memory the collection is unchanged.
+    pub fn add_world(&mut self, world: World) -> Result<WorldId, AllocError>
+        requires { AllStand self.old (world_keys (world_content world)) }
+        ensures added { OnOk result (self.new ≡ record self.old { worlds = self.old.worlds ++ world_content world ∷ [] }) }
+        ensures id { IfOk result (λ id. id ≡ record { number = self.old.number; index = length self.old.worlds }) }
+        ensures stands { IfOk result (λ id. Stands self.new (world_key id)) }
+        ensures tree { IfOk result (λ id. externs self.new (world_key id) ≡ world_externs (item_tree self.old) (world_content world)) }
+        ensures grows { Extends self.old self.new }
+        ensures err { OnErr result (self.new ≡ self.old) }
+    {
+        let index = self.worlds.len();
+        self.worlds.push(world)?;
+        Ok(WorldId::at(self.number, index))
+    }
+
+    /// Puts a core module type last; without memory the collection is unchanged.
+    pub fn add_module_type(&mut self, ty: ModuleType) -> Result<ModuleTypeId, AllocError>
+        ensures added { OnOk result (self.new ≡ record self.old { modules = self.old.modules ++ module_content ty ∷ [] }) }
+        ensures id { IfOk result (λ id. id ≡ record { number = self.old.number; index = length self.old.modules }) }
+        ensures stands { IfOk result (λ id. Stands self.new (module_key id)) }
+        ensures tree { IfOk result (λ id. module_tree self.new id ≡ module_content ty) }
+        ensures grows { Extends self.old self.new }
+        ensures err { OnErr result (self.new ≡ self.old) }
+    {
+        let index = self.modules.len();
+        self.modules.push(ty)?;
+        Ok(ModuleTypeId::at(self.number, index))
+    }
+
     /// Whether the ids of a type stand in the collection; a primitive type has none.
     pub fn contains(&self, ty: Type) -> bool
         ensures { IsTrue result ↔ AllStand self.now (type_keys ty) }
@@ -140,7 +216,11 @@ impl Types {
             Type::Resource(id) => self.contains_resource(id),
             Type::Func(id) => id.number() == self.number && id.index() < self.funcs.len(),
             Type::Value(ty) => self.contains_value(ty),
-            Type::Interface(_) | Type::World(_) | Type::Module(_) => false,
+            Type::Interface(id) => {
+                id.number() == self.number && id.index() < self.interfaces.len()
+            }
+            Type::World(id) => id.number() == self.number && id.index() < self.worlds.len(),
+            Type::Module(id) => id.number() == self.number && id.index() < self.modules.len(),
         }
     }
 
@@ -192,10 +272,7 @@ impl Types {
 
     /// What is known of every collection; this does nothing.
     pub fn sound(&self)
-        ensures sound { IsSound self.now }
-        ensures no_interfaces { self.now.interfaces ≡ [] }
-        ensures no_worlds { self.now.worlds ≡ [] }
-        ensures no_modules { self.now.modules ≡ [] }
+        ensures { IsSound self.now }
     {
         let _ = &self.number;
     }
@@ -223,80 +300,27 @@ impl Types {
     {
         &self.funcs[id.index()]
     }
-}
 
-impl Index<DefinedTypeId> for Types {
-    ghost use Rattle.std.specs.Prelude.{◌≡◌, ◌<◌, Some, slice_get};
-    ghost use Rattle.wac_component.specs.Content.{defined_content};
-    ghost use Rattle.wac_component.specs.Key.{Stands, AllStand, defined_key, defined_keys};
-    ghost use Rattle.wac_component.specs.Height.{height, keys_height};
-    ghost use Rattle.wac_component.specs.Tree.{value_tree, content_tree};
-    ghost use Rattle.wac_component.specs.declared.items.ValueType.TheVariants.{Defined};
-
-    type Output = DefinedType;
-
-    ghost can_index = { λ c id. Stands c (defined_key id) };
-
-    ghost index_gives = { λ c id e. slice_get c.defined id.index ≡ Some (defined_content e) };
-
-    /// The entry of a defined type. What it names stands in the collection, and is lower.
-    fn index(&self, id: DefinedTypeId) -> &DefinedType
-        requires { Stands self.now (defined_key id) }
-        ensures entry { slice_get self.now.defined id.index ≡ Some (defined_content result.now) }
-        ensures tree { value_tree self.now (Defined id) ≡ content_tree (value_tree self.now) (defined_content result.now) }
-        ensures standing { AllStand self.now (defined_keys (defined_content result.now)) }
-        ensures lower { keys_height self.now (defined_keys (defined_content result.now)) < height self.now (defined_key id) }
+    fn interface_entry(&self, id: InterfaceId) -> &Interface
+        requires { Stands self.now (interface_key id) }
+        ensures entry { slice_get self.now.interfaces id.index ≡ Some (interface_content result.now) }
+        ensures sound { IsSound self.now }
     {
-        self.defined_entry(id)
+        &self.interfaces[id.index()]
     }
-}
 
-impl Index<ResourceId> for Types {
-    ghost use Rattle.std.specs.Prelude.{◌≡◌, ◌<◌, Some, slice_get};
-    ghost use Rattle.wac_component.specs.Content.{resource_content};
-    ghost use Rattle.wac_component.specs.Key.{Stands, AllStand, resource_key, resource_keys};
-    ghost use Rattle.wac_component.specs.Height.{height, keys_height};
-    ghost use Rattle.wac_component.specs.Tree.{root_name, content_name};
-
-    type Output = Resource;
-
-    ghost can_index = { λ c id. Stands c (resource_key id) };
-
-    ghost index_gives = { λ c id e. slice_get c.resources id.index ≡ Some (resource_content e) };
-
-    /// The entry of a resource. What it names stands in the collection, and is lower.
-    fn index(&self, id: ResourceId) -> &Resource
-        requires { Stands self.now (resource_key id) }
-        ensures entry { slice_get self.now.resources id.index ≡ Some (resource_content result.now) }
-        ensures name { root_name self.now id ≡ content_name (root_name self.now) (resource_content result.now) }
-        ensures standing { AllStand self.now (resource_keys (resource_content result.now)) }
-        ensures lower { keys_height self.now (resource_keys (resource_content result.now)) < height self.now (resource_key id) }
+    fn world_entry(&self, id: WorldId) -> &World
+        requires { Stands self.now (world_key id) }
+        ensures entry { slice_get self.now.worlds id.index ≡ Some (world_content result.now) }
+        ensures sound { IsSound self.now }
     {
-        self.resource_entry(id)
+        &self.worlds[id.index()]
     }
-}
 
-impl Index<FuncTypeId> for Types {
-    ghost use Rattle.std.specs.Prelude.{◌≡◌, ◌<◌, Some, slice_get};
-    ghost use Rattle.wac_component.specs.Content.{func_content};
-    ghost use Rattle.wac_component.specs.Key.{Stands, AllStand, func_key, func_keys};
-    ghost use Rattle.wac_component.specs.Height.{height, keys_height};
-    ghost use Rattle.wac_component.specs.Tree.{func_tree, func_content_tree};
-
-    type Output = FuncType;
-
-    ghost can_index = { λ c id. Stands c (func_key id) };
-
-    ghost index_gives = { λ c id e. slice_get c.funcs id.index ≡ Some (func_content e) };
-
-    /// The entry of a function type. What it names stands in the collection, and is lower.
-    fn index(&self, id: FuncTypeId) -> &FuncType
-        requires { Stands self.now (func_key id) }
-        ensures entry { slice_get self.now.funcs id.index ≡ Some (func_content result.now) }
-        ensures tree { func_tree self.now id ≡ func_content_tree self.now (func_content result.now) }
-        ensures standing { AllStand self.now (func_keys (func_content result.now)) }
-        ensures lower { keys_height self.now (func_keys (func_content result.now)) < height self.now (func_key id) }
+    fn module_entry(&self, id: ModuleTypeId) -> &ModuleType
+        requires { Stands self.now (module_key id) }
+        ensures { slice_get self.now.modules id.index ≡ Some (module_content result.now) }
     {
-        self.func_entry(id)
+        &self.modules[id.index()]
     }
 }

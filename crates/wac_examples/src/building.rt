@@ -1,14 +1,13 @@
 //! Adds what a table describes to a collection, and asks a checker about it.
 
 use super::shapes::{Item, Params, Shape};
-use super::standing::{func_stands, item_stands, members_stand};
 use indexmap::{IndexMap, IndexSet};
 use std::alloc::Global;
-use std::collections::HashSet;
 use std::test::Fail;
+use wac_standing::{func_stands, members_stand};
 use wac_types::{
-    DefinedType, Enum, Flags, FuncType, FuncTypeId, ItemKind, Record, Resource, ResourceId,
-    SubtypeChecker, SubtypeError, Type, Types, ValueType, Variant,
+    DefinedType, Enum, Flags, FuncType, FuncTypeId, ItemKind, Record, Resource, ResourceId, Type,
+    Types, ValueType, Variant,
 };
 
 // How deep the shapes of the tables are at most.
@@ -202,46 +201,4 @@ pub(crate) fn add_item(alloc: Global, types: &mut Types, item: Item) -> Result<I
             Ok(ItemKind::Type(Type::Resource(id)))
         }
     }
-}
-
-// Asks a checker with an empty cache whether one item fits where another is asked for, and gives
-// `yes`, or the texts of the frames and of the fault.
-pub(crate) fn ask(
-    alloc: Global,
-    inverted: bool,
-    a: ItemKind,
-    at: &Types,
-    b: ItemKind,
-    bt: &Types,
-) -> Result<String, Fail> {
-    let apart = at.number() != bt.number();
-    if !apart || !item_stands(at, a) || !item_stands(bt, b) {
-        return Err(Fail::new("an item stands in another collection"));
-    }
-    let mut cache = HashSet::new(alloc);
-    let mut checker = SubtypeChecker::new(&mut cache);
-    if inverted {
-        checker.invert();
-    }
-    match checker.is_subtype(alloc, a, at, b, bt) {
-        Ok(()) => Ok(String::from_str(alloc, "yes")?),
-        Err(error) => path_text(alloc, &error),
-    }
-}
-
-// The texts of the frames and of the fault.
-pub(crate) fn path_text(alloc: Global, error: &SubtypeError) -> Result<String, Fail> {
-    let mut text = String::new(alloc);
-    for frame in error.frames() {
-        let frame = format!(in alloc; "{frame} / ")?;
-        text.push_str(&frame)?;
-    }
-    match error.fault() {
-        Some(fault) => {
-            let fault = format!(in alloc; "{fault}")?;
-            text.push_str(&fault)?;
-        }
-        None => text.push_str("no fault")?,
-    }
-    Ok(text)
 }

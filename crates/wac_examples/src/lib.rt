@@ -1,20 +1,16 @@
-//! Examples of the library's answers and texts, as tests.
+//! Examples of the answers of a check and of printed texts, as tests.
 #![tactic(auto)]
 
 #[cfg(test)]
 mod building;
 #[cfg(test)]
-mod checking;
-#[cfg(test)]
-mod collections;
+mod extern_texts;
 #[cfg(test)]
 mod order;
 #[cfg(test)]
 mod paths;
 #[cfg(test)]
 mod shapes;
-#[cfg(test)]
-mod standing;
 #[cfg(test)]
 mod texts;
 #[cfg(test)]

@@ -1,10 +1,11 @@
 //! Where two items disagree, and what is wrong there.
 
-use super::building::{add_item, ask};
+use super::building::add_item;
 use super::shapes::{Item, S8, STRING, Shape, U8};
 use std::alloc::Global;
 use std::process::Abort;
 use std::test::Fail;
+use wac_standing::ask_afresh;
 use wac_types::{ItemKind, Types};
 
 // An item of collection 1, an item of collection 2, and what a covariant and a contravariant check
@@ -382,7 +383,7 @@ fn check_answer<R: Abort>(
     pair: &Pair,
     wanted: &str,
 ) -> Result<(), Fail> {
-    let answer = ask(alloc, inverted, pair.a, &pair.at, pair.b, &pair.bt)?;
+    let answer = ask_afresh(alloc, inverted, &pair.a, &pair.at, &pair.b, &pair.bt)?;
     assert_eq!(rt; answer.as_str(), wanted);
     Ok(())
 }

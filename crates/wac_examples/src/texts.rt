@@ -2,11 +2,11 @@
 
 use super::building::{add_defined, add_func, add_item, add_resource, add_shape};
 use super::shapes::{Item, STRING, Shape, U8};
-use super::standing::item_stands;
 use std::alloc::{AllocError, Global};
 use std::fmt::Display;
 use std::process::Abort;
 use std::test::Fail;
+use wac_standing::item_stands;
 use wac_types::{
     CountOf, DefinedType, ExternKind, Fault, Frame, FuncKind, FuncType, ItemKind, NameOf,
     PrimitiveType, ResultPart, SubtypeError, Type, Types, ValueType,
@@ -67,7 +67,7 @@ fn assert_text<R: Abort>(rt: &R, found: &str, wanted: &str) {
 }
 
 // Asserts that a value prints as this text.
-fn assert_shows<R: Abort, D: Display>(
+pub(crate) fn assert_shows<R: Abort, D: Display>(
     rt: &R,
     alloc: Global,
     value: &D,

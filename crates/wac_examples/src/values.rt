@@ -1,10 +1,11 @@
 //! Which value types are one.
 
-use super::building::{add_shape, ask};
+use super::building::add_shape;
 use super::shapes::{S8, Shape, U8};
 use std::alloc::Global;
 use std::process::Abort;
 use std::test::Fail;
+use wac_standing::ask_afresh;
 use wac_types::{ItemKind, PrimitiveType, Types, ValueType};
 
 // A value type that the collections get, and whether it is one with the shape before it; else it
@@ -217,7 +218,7 @@ fn is_one(
 ) -> Result<bool, Fail> {
     let a = ItemKind::Value(*a);
     let b = ItemKind::Value(*b);
-    let answer = ask(alloc, inverted, a, at, b, bt)?;
+    let answer = ask_afresh(alloc, inverted, &a, at, &b, bt)?;
     Ok(answer.as_str() == "yes")
 }
 

@@ -1,11 +1,12 @@
 -- Of whatever a fault holds does not fit.
-use Rattle.std.proofs.Common.{◌≡◌, ◌≢◌, ℕ, List, [], Bool, Some, string_bytes, slice_get, length, map, refl, ap, sym, ◌∙◌, is_some}
-use Rattle.wac_model.specs.Text.{Text}
+use Rattle.std.proofs.Common.{◌≡◌, ◌≢◌, ℕ, List, [], Bool, Some, string_bytes, slice_get, length, map, refl, ap, sym, ◌∙◌, is_some, Option, None, inl, inr}
+use Rattle.wac_model.specs.Text.{Text, ImportName}
 use Rattle.wac_model.specs.ValueTree.{ValueTree, FuncTree, node, part_count, primitive, borrow, own, tuple, list, fixed_size_list, option, result_of, variant, record_of, flags, enum, stream, future}
+use Rattle.wac_model.specs.CoreTree.{CoreTree, RefTree, CoreTypeTree, CoreFits, Serves, plain, limited, func as core_func, tag, global, table, memory}
 use Rattle.wac_model.specs.ItemTree.{ItemTree, Kind, Leaf, leaf, core_module, composite, no_items, item, type_item, resource, func, value, interface, world}
-use Rattle.wac_model.specs.Order.{Fits, leaves, modules, composites}
-use Rattle.wac_mismatch.specs.Place.{Side, item_side, value_side, absent, SideFits}
-use Rattle.wac_mismatch.specs.Holds.{IsResource, IsCount, DifferAt, IsFixedSize, IsOfNames, IsOfResult, IsOfVariant, IsOfFunc, HoldsOfValues, HoldsOfLeaves, HoldsOfItems, HoldsOfSides, Holds}
+use Rattle.wac_model.specs.Order.{Fits, FitsAt, leaves, modules, composites, not_asked, there}
+use Rattle.wac_mismatch.specs.Place.{Side, item_side, core_side, value_side, absent, SideFits, by_check}
+use Rattle.wac_mismatch.specs.Holds.{IsResource, IsCount, DifferAt, IsFixedSize, IsOfNames, IsOfResult, IsOfVariant, IsOfFunc, HoldsOfValues, HoldsOfLeaves, HoldsOfItems, IsCoreFunc, IsTableElement, IsGlobalType, HoldsOfCore, HoldsOfSides, LacksExport, LacksImport, LacksCoreImport, DifferIn, HoldsOfPlace, Holds}
 use Rattle.wac_mismatch.specs.declared.check.SubtypeCheck.{SubtypeCheck}
 use Rattle.wac_mismatch.specs.declared.check.SubtypeCheck.TheVariants.{Covariant, Contravariant}
 use Rattle.wac_mismatch.specs.declared.fault.CountOf.{CountOf}
@@ -13,6 +14,8 @@ use Rattle.wac_mismatch.specs.declared.fault.CountOf.TheVariants as count_of
 use Rattle.wac_mismatch.specs.declared.fault.NameOf.{NameOf}
 use Rattle.wac_mismatch.specs.declared.fault.NameOf.TheVariants as name_of
 use Rattle.wac_mismatch.specs.declared.fault.ResultPart.TheVariants as result_part
+use Rattle.wac_mismatch.specs.declared.fault.CoreField.{CoreField}
+use Rattle.wac_mismatch.specs.declared.fault.CoreField.TheVariants as core_field
 use Rattle.wac_mismatch.specs.declared.fault.Fault.{Fault}
 use Rattle.wac_mismatch.specs.declared.fault.Fault.TheVariants as fault
 
@@ -107,20 +110,102 @@ items_differ f (composite type_item interface is es) (composite type_item interf
 items_differ f (composite type_item world is es) (composite type_item world is' es') h same = elim h [ ]
 items_differ f x y h same = cc
 
+-- what a core extern is, but for its limits
+abbrev core_outline : CoreTree → CoreTree
+core_outline (plain l) = plain l
+core_outline (limited l limits) = limited l (record { initial = 0; maximum = None })
+
+core_outline-same : (a b : CoreTree) → CoreFits a b → core_outline a ≡ core_outline b
+core_outline-same (limited k a) (limited l b) h = ap (λ x. limited x (record { initial = 0; maximum = None })) h.0
+core_outline-same (limited k a) (plain l) h = absurd (cc)
+core_outline-same (plain k) (limited l b) h = absurd (cc)
+core_outline-same (plain k) (plain l) h = h
+
+core_func_differ : (f : Fault) (x y : List CoreTypeTree × List CoreTypeTree) → IsCoreFunc f x y → x ≢ y
+core_func_differ (fault.CoreFunc e g) x y h = h.0
+core_func_differ _ x y h = elim h [ ]
+
+element_differ : (f : Fault) (x y : RefTree) → IsTableElement f x y → x ≢ y
+element_differ (fault.TableElement e g) x y h = h.0
+element_differ _ x y h = elim h [ ]
+
+global_differ : (f : Fault) (x y : CoreTypeTree) → IsGlobalType f x y → x ≢ y
+global_differ (fault.GlobalType e g) x y h = h.0
+global_differ _ x y h = elim h [ ]
+
+pair_same : {A B : Type 0} (x x' : A) (y y' : B) → x ≡ x' → y ≡ y' → (let p : A × B = (x, y) in p) ≡ (x', y')
+pair_same x x' y y' e g = λ i. (e i, g i)
+
+core_differ : (f : Fault) (x y : CoreTree) → HoldsOfCore f x y → core_outline x ≢ core_outline y
+core_differ f (plain (core_func ps rs)) (plain (core_func ps' rs')) h same = core_func_differ f (ps, rs) (ps', rs') h (pair_same ps ps' rs rs' (cc) (cc))
+core_differ f (plain (tag ps rs)) (plain (tag ps' rs')) h same = core_func_differ f (ps, rs) (ps', rs') h (pair_same ps ps' rs rs' (cc) (cc))
+core_differ f (plain (global v m s)) (plain (global v' m' s')) h same = global_differ f v v' h (cc)
+core_differ f (limited (table e t s) l) (limited (table e' t' s') l') h same = element_differ f e e' h (cc)
+core_differ f (limited (memory m s p) l) (limited (memory m' s' p') l') h same = elim h [ ]
+core_differ f x y h same = cc
+
 -- neither side fits where the other is asked for
 expected_refutes : (f : Fault) (x y : Side) → HoldsOfSides f x y → SideFits x y → ⊥
 expected_refutes f (item_side x) (item_side y) h fits = items_differ f x y h (outline-same fits)
+expected_refutes f (core_side x) (core_side y) h fits = core_differ f x y h (core_outline-same x y fits)
 expected_refutes f (value_side x) (value_side y) h fits = values_differ f x y h fits
 expected_refutes f absent absent h fits = elim h [ ]
 expected_refutes f x y h fits = elim fits [ ]
 
 found_refutes : (f : Fault) (x y : Side) → HoldsOfSides f x y → SideFits y x → ⊥
 found_refutes f (item_side x) (item_side y) h fits = items_differ f x y h (sym (outline-same fits))
+found_refutes f (core_side x) (core_side y) h fits = core_differ f x y h (sym (core_outline-same y x fits))
 found_refutes f (value_side x) (value_side y) h fits = values_differ f x y h (sym fits)
 found_refutes f absent absent h fits = elim h [ ]
 found_refutes f x y h fits = elim fits [ ]
 
+sides_refute : (f : Fault) (c : SubtypeCheck) (a b : Side) → by_check c (HoldsOfSides f) a b → SideFits a b → ⊥
+sides_refute f Covariant a b h = found_refutes f b a h
+sides_refute f Contravariant a b h = expected_refutes f a b h
+
+-- what is lacking refutes that the left side fits
+not_there : {a b : Option ItemTree} → FitsAt a b → a ≡ None → (t : ItemTree) → b ≡ Some t → ⊥
+not_there not_asked none t some = cc
+not_there (there p) none t some = cc
+
+core_not_there : (a b : Option CoreTree) → Serves CoreFits a b → a ≡ None → (t : CoreTree) → b ≡ Some t → ⊥
+core_not_there a None h none t some = cc
+core_not_there None (Some u) h none t some = h
+core_not_there (Some s) (Some u) h none t some = cc
+
+export_refutes : (h k n : Text) (a b : Side) → LacksExport h k n a b → SideFits a b → ⊥
+export_refutes h k n (item_side (composite i s is es)) (item_side (composite i' s' is' es')) lacks (composites p q) = not_there (p n) lacks.1 lacks.2.0 lacks.2.1
+export_refutes h k n (item_side (core_module i m)) (item_side (core_module i' m')) lacks (modules p) = core_not_there _ _ (p.exports n) lacks.1 lacks.2.0 lacks.2.1
+export_refutes h k n a b lacks fits = elim lacks [ ]
+
+import_refutes : (k n : Text) (a b : Side) → LacksImport k n a b → SideFits a b → ⊥
+import_refutes k n (item_side (composite i world is es)) (item_side (composite i' world is' es')) lacks (composites p q) = not_there (q n) lacks.0 lacks.1.0 lacks.1.1
+import_refutes k n a b lacks fits = elim lacks [ ]
+
+core_import_refutes : (k : Text) (n : ImportName) (a b : Side) → LacksCoreImport k n a b → SideFits a b → ⊥
+core_import_refutes k n (item_side (core_module i m)) (item_side (core_module i' m')) lacks (modules p) = core_not_there _ _ (p.imports n) lacks.0 lacks.1.0 lacks.1.1
+core_import_refutes k n a b lacks fits = elim lacks [ ]
+
+field_refutes : (field : CoreField) (a b : Side) → DifferIn field a b → SideFits a b → ⊥
+field_refutes core_field.TableLimits (core_side (limited (table e t s) l)) (core_side (limited (table e' t' s') l')) h fits = h fits.1
+field_refutes core_field.Table64 (core_side (limited (table e t s) l)) (core_side (limited (table e' t' s') l')) h fits = let same = fits.0 in h (cc)
+field_refutes core_field.TableShared (core_side (limited (table e t s) l)) (core_side (limited (table e' t' s') l')) h fits = let same = fits.0 in h (cc)
+field_refutes core_field.MemoryShared (core_side (limited (memory m s p) l)) (core_side (limited (memory m' s' p') l')) h fits = let same = fits.0 in h (cc)
+field_refutes core_field.Memory64 (core_side (limited (memory m s p) l)) (core_side (limited (memory m' s' p') l')) h fits = let same = fits.0 in h (cc)
+field_refutes core_field.MemoryLimits (core_side (limited (memory m s p) l)) (core_side (limited (memory m' s' p') l')) h fits = h fits.1
+field_refutes core_field.PageSizeLog2 (core_side (limited (memory m s p) l)) (core_side (limited (memory m' s' p') l')) h fits = let same = fits.0 in h (cc)
+field_refutes core_field.GlobalMutable (core_side (plain (global v m s))) (core_side (plain (global v' m' s'))) h fits = h (cc)
+field_refutes core_field.GlobalShared (core_side (plain (global v m s))) (core_side (plain (global v' m' s'))) h fits = h (cc)
+field_refutes field a b h fits = elim h [ ]
+
 -- a fault of a place refutes its left side
+place_refutes : (f : Fault) (c : SubtypeCheck) (a b : Side) → HoldsOfPlace f (record { check = c; left = a; right = b }) → SideFits a b → ⊥
+place_refutes (fault.MissingExport h k n check) c a b holds = export_refutes h.now k.now (string_bytes n) a b holds.1
+place_refutes (fault.MissingImport k n check) c a b holds = import_refutes k.now (string_bytes n) a b holds.1
+place_refutes (fault.MissingCoreImport k m n check) c a b holds = core_import_refutes k.now (string_bytes m, string_bytes n) a b holds.1
+place_refutes (fault.Core field) c a b holds = field_refutes field a b holds
+place_refutes f c a b holds = elim holds [ ]
+
 pub holds_refutes : (f : Fault) (c : SubtypeCheck) (a b : Side) → Holds f (record { check = c; left = a; right = b }) → SideFits a b → ⊥
-holds_refutes f Covariant a b h = found_refutes f b a h
-holds_refutes f Contravariant a b h = expected_refutes f a b h
+holds_refutes f c a b (inl h) = sides_refute f c a b h
+holds_refutes f c a b (inr h) = place_refutes f c a b h

@@ -1,11 +1,13 @@
 -- The text of each frame.
 use Rattle.std.specs.Prelude.{[], ◌∷◌, codes, decimal, string_bytes}
-use Rattle.wac_model.specs.Text.{Text}
-use Rattle.wac_mismatch.specs.Joined.{joined}
+use Rattle.wac_model.specs.Text.{Text, joined}
 use Rattle.wac_mismatch.specs.declared.frame.Frame.{Frame}
-use Rattle.wac_mismatch.specs.declared.frame.Frame.TheVariants.{Parameter, FuncResult, ListElement, FixedSizeListElement, FuturePayload, StreamPayload, Option, Ok, Err, Field, Case, Item}
+use Rattle.wac_mismatch.specs.declared.frame.Frame.TheVariants.{Export, Import, CoreImport, Parameter, FuncResult, ListElement, FixedSizeListElement, FuturePayload, StreamPayload, Option, Ok, Err, Field, Case, Item}
 
 abbrev pub frame_text : Frame → Text
+frame_text (Export n) = joined (codes "mismatched type for export `" ∷ string_bytes n ∷ codes "`" ∷ [])
+frame_text (Import n) = joined (codes "mismatched type for import `" ∷ string_bytes n ∷ codes "`" ∷ [])
+frame_text (CoreImport m n) = joined (codes "mismatched type for import `" ∷ string_bytes m ∷ codes "::" ∷ string_bytes n ∷ codes "`" ∷ [])
 frame_text (Parameter n) = joined (codes "mismatched type for function parameter `" ∷ string_bytes n ∷ codes "`" ∷ [])
 frame_text FuncResult = codes "mismatched type for function result"
 frame_text ListElement = codes "mismatched type for list element"

@@ -1,15 +1,21 @@
 -- What each fault says of the side that is expected and the one that is found.
-use Rattle.std.specs.Prelude.{◌≡◌, ◌≢◌, ℕ, List, Bool, true, false, Some, string_bytes, slice_get, length, map, is_some}
-use Rattle.wac_model.specs.Text.{Text}
+use Rattle.std.specs.Prelude.{◌≡◌, ◌≢◌, ℕ, List, Bool, true, false, Some, None, string_bytes, slice_get, length, map, is_some, ◌⊎◌}
+use Rattle.std.specs.Str.{bytes_eq}
+use Rattle.wac_model.specs.Text.{Text, ImportName, import_name_eq, lookup}
 use Rattle.wac_model.specs.Desc.{value_desc, item_desc}
 use Rattle.wac_model.specs.ValueTree.{ValueTree, FuncTree, node, part_count, primitive, borrow, own, tuple, list, fixed_size_list, option, result_of, variant, record_of, flags, enum, stream, future}
-use Rattle.wac_model.specs.ItemTree.{ItemTree, Kind, Leaf, leaf, core_module, composite, item, type_item, resource, func, value, interface, world}
-use Rattle.wac_mismatch.specs.Place.{Side, item_side, value_side, absent, Place, by_check}
+use Rattle.wac_model.specs.CoreTree.{CoreTree, RefTree, CoreTypeTree, LimitsFit, plain, limited, func as core_func, tag, global, table, memory}
+use Rattle.wac_model.specs.ItemTree.{ItemTree, Kind, Leaf, leaf, core_module, composite, item, type_item, resource, func, value, interface, world, item_at}
+use Rattle.wac_core.specs.Content.{ref_tree, core_type_tree, func_content}
+use Rattle.wac_core.specs.Texts.{core_extern_text}
+use Rattle.wac_mismatch.specs.Place.{Side, item_side, core_side, value_side, absent, Place, by_check}
 use Rattle.wac_mismatch.specs.declared.fault.CountOf.{CountOf}
 use Rattle.wac_mismatch.specs.declared.fault.CountOf.TheVariants as count_of
 use Rattle.wac_mismatch.specs.declared.fault.NameOf.{NameOf}
 use Rattle.wac_mismatch.specs.declared.fault.NameOf.TheVariants as name_of
 use Rattle.wac_mismatch.specs.declared.fault.ResultPart.TheVariants as result_part
+use Rattle.wac_mismatch.specs.declared.fault.CoreField.{CoreField}
+use Rattle.wac_mismatch.specs.declared.fault.CoreField.TheVariants as core_field
 use Rattle.wac_mismatch.specs.declared.fault.Fault.{Fault}
 use Rattle.wac_mismatch.specs.declared.fault.Fault.TheVariants as fault
 
@@ -92,7 +98,7 @@ HoldsOfLeaves f k (func x) (func y) = IsOfFunc f x y
 HoldsOfLeaves f k (value x) (value y) = HoldsOfValues f x y
 HoldsOfLeaves f k x y = IsKind f (item_desc (leaf k x)) (item_desc (leaf k y))
 
--- a fault of two items; none is told yet of two interfaces, two worlds or two core modules
+-- a fault of two items; what two interfaces, two worlds or two core modules lack is told below
 abbrev pub HoldsOfItems : Fault → ItemTree → ItemTree → Type 0
 HoldsOfItems f (leaf item x) (leaf item y) = HoldsOfLeaves f item x y
 HoldsOfItems f (leaf type_item x) (leaf type_item y) = HoldsOfLeaves f type_item x y
@@ -104,14 +110,76 @@ HoldsOfItems f (composite type_item interface is es) (composite type_item interf
 HoldsOfItems f (composite type_item world is es) (composite type_item world is' es') = ⊥
 HoldsOfItems f x y = IsKind f (item_desc x) (item_desc y)
 
+-- two core functions or tags of different types
+abbrev pub IsCoreFunc : Fault → List CoreTypeTree × List CoreTypeTree → List CoreTypeTree × List CoreTypeTree → Type 0
+IsCoreFunc (fault.CoreFunc e f) x y = (x ≢ y) × (func_content e ≡ x) × (func_content f ≡ y)
+IsCoreFunc _ x y = ⊥
+
+-- tables with elements of different types
+abbrev pub IsTableElement : Fault → RefTree → RefTree → Type 0
+IsTableElement (fault.TableElement e f) x y = (x ≢ y) × (ref_tree e ≡ x) × (ref_tree f ≡ y)
+IsTableElement _ x y = ⊥
+
+-- globals with values of different types
+abbrev pub IsGlobalType : Fault → CoreTypeTree → CoreTypeTree → Type 0
+IsGlobalType (fault.GlobalType e f) x y = (x ≢ y) × (core_type_tree e ≡ x) × (core_type_tree f ≡ y)
+IsGlobalType _ x y = ⊥
+
+-- a fault of two core externs
+abbrev pub HoldsOfCore : Fault → CoreTree → CoreTree → Type 0
+HoldsOfCore f (plain (core_func ps rs)) (plain (core_func ps' rs')) = IsCoreFunc f (ps, rs) (ps', rs')
+HoldsOfCore f (plain (tag ps rs)) (plain (tag ps' rs')) = IsCoreFunc f (ps, rs) (ps', rs')
+HoldsOfCore f (plain (global v m s)) (plain (global v' m' s')) = IsGlobalType f v v'
+HoldsOfCore f (limited (table e t s) l) (limited (table e' t' s') l') = IsTableElement f e e'
+HoldsOfCore f (limited (memory m s p) l) (limited (memory m' s' p') l') = ⊥
+HoldsOfCore f x y = IsKind f (core_extern_text x) (core_extern_text y)
+
 -- a fault of an expected side and a found one
 abbrev pub HoldsOfSides : Fault → Side → Side → Type 0
 HoldsOfSides f (item_side x) (item_side y) = HoldsOfItems f x y
+HoldsOfSides f (core_side x) (core_side y) = HoldsOfCore f x y
 HoldsOfSides f (value_side x) (value_side y) = HoldsOfValues f x y
 HoldsOfSides f (value_side x) absent = IsPayload f true
 HoldsOfSides f absent (value_side y) = IsPayload f false
 HoldsOfSides f x y = ⊥
 
--- a fault of a place
+-- what the right side exports under the name, with its description, and the left side, which is such a holder, doesn't
+abbrev pub LacksExport : Text → Text → Text → Side → Side → Type 0
+LacksExport h k n (item_side (composite i s is es)) (item_side (composite i' s' is' es')) = (h ≡ item_desc (composite item s is es)) × (item_at es n ≡ None) × ((t : ItemTree) × (item_at es' n ≡ Some t) × (k ≡ item_desc t))
+LacksExport h k n (item_side (core_module i m)) (item_side (core_module i' m')) = (h ≡ item_desc (core_module item m)) × (lookup bytes_eq m.exports n ≡ None) × ((t : CoreTree) × (lookup bytes_eq m'.exports n ≡ Some t) × (k ≡ core_extern_text t))
+LacksExport h k n a b = ⊥
+
+-- what the left world imports under the name, with its description, and the right one doesn't
+abbrev pub LacksImport : Text → Text → Side → Side → Type 0
+LacksImport k n (item_side (composite i world is es)) (item_side (composite i' world is' es')) = (item_at is' n ≡ None) × ((t : ItemTree) × (item_at is n ≡ Some t) × (k ≡ item_desc t))
+LacksImport k n a b = ⊥
+
+-- what the left core module imports under the name, of this sort, and the right one doesn't
+abbrev pub LacksCoreImport : Text → ImportName → Side → Side → Type 0
+LacksCoreImport k n (item_side (core_module i m)) (item_side (core_module i' m')) = (lookup import_name_eq m'.imports n ≡ None) × ((t : CoreTree) × (lookup import_name_eq m.imports n ≡ Some t) × (k ≡ core_extern_text t))
+LacksCoreImport k n a b = ⊥
+
+-- two core externs of one sort that differ in this, or whose limits don't fit
+abbrev pub DifferIn : CoreField → Side → Side → Type 0
+DifferIn core_field.TableLimits (core_side (limited (table e t s) l)) (core_side (limited (table e' t' s') l')) = ¬ (LimitsFit l l')
+DifferIn core_field.Table64 (core_side (limited (table e t s) l)) (core_side (limited (table e' t' s') l')) = t ≢ t'
+DifferIn core_field.TableShared (core_side (limited (table e t s) l)) (core_side (limited (table e' t' s') l')) = s ≢ s'
+DifferIn core_field.MemoryShared (core_side (limited (memory m s p) l)) (core_side (limited (memory m' s' p') l')) = s ≢ s'
+DifferIn core_field.Memory64 (core_side (limited (memory m s p) l)) (core_side (limited (memory m' s' p') l')) = m ≢ m'
+DifferIn core_field.MemoryLimits (core_side (limited (memory m s p) l)) (core_side (limited (memory m' s' p') l')) = ¬ (LimitsFit l l')
+DifferIn core_field.PageSizeLog2 (core_side (limited (memory m s p) l)) (core_side (limited (memory m' s' p') l')) = p ≢ p'
+DifferIn core_field.GlobalMutable (core_side (plain (global v m s))) (core_side (plain (global v' m' s'))) = m ≢ m'
+DifferIn core_field.GlobalShared (core_side (plain (global v m s))) (core_side (plain (global v' m' s'))) = s ≢ s'
+DifferIn field a b = ⊥
+
+-- a fault that speaks of the left side and the right one
+abbrev pub HoldsOfPlace : Fault → Place → Type 0
+HoldsOfPlace (fault.MissingExport h k n c) p = (c ≡ p.check) × LacksExport h.now k.now (string_bytes n) p.left p.right
+HoldsOfPlace (fault.MissingImport k n c) p = (c ≡ p.check) × LacksImport k.now (string_bytes n) p.left p.right
+HoldsOfPlace (fault.MissingCoreImport k m n c) p = (c ≡ p.check) × LacksCoreImport k.now (string_bytes m, string_bytes n) p.left p.right
+HoldsOfPlace (fault.Core field) p = DifferIn field p.left p.right
+HoldsOfPlace f p = ⊥
+
+-- a fault of a place: of what is expected there and what is found, or of its left side and its right one
 abbrev pub Holds : Fault → Place → Type 0
-Holds f p = by_check p.check (HoldsOfSides f) p.left p.right
+Holds f p = by_check p.check (HoldsOfSides f) p.left p.right ⊎ HoldsOfPlace f p

@@ -1,4 +1,3 @@
-pub mod Joined
 pub mod FrameText
 pub mod FaultText
 pub mod Error

@@ -1,12 +1,13 @@
 -- The part of a type that a frame names (Component Model explainer, "Type Definitions").
 use Rattle.std.specs.Prelude.{List, [], ◌∷◌, Bool, true, false, Option as Opt, Some, None, string_bytes, if◌then◌else◌}
 use Rattle.std.specs.Str.{bytes_eq}
-use Rattle.wac_model.specs.Text.{Text, lookup}
+use Rattle.wac_model.specs.Text.{Text, lookup, import_name_eq}
 use Rattle.wac_model.specs.ValueTree.{ValueTree, ValueTrees, FuncTree, node, no_parts, part, part_at, tuple, list, fixed_size_list, option, result_of, variant, record_of, stream, future}
-use Rattle.wac_model.specs.ItemTree.{leaf, core_module, composite, resource, func, value}
+use Rattle.wac_model.specs.CoreTree.{CoreTree, ModuleTree}
+use Rattle.wac_model.specs.ItemTree.{ItemTree, Items, Shape, leaf, core_module, composite, world, item_at, resource, func, value}
 use Rattle.wac_mismatch.specs.declared.frame.Frame.{Frame}
-use Rattle.wac_mismatch.specs.declared.frame.Frame.TheVariants.{Parameter, FuncResult, ListElement, FixedSizeListElement, FuturePayload, StreamPayload, Option, Ok, Err, Field, Case, Item}
-use Rattle.wac_mismatch.specs.Place.{Side, item_side, value_side, absent}
+use Rattle.wac_mismatch.specs.declared.frame.Frame.TheVariants.{Export, Import, CoreImport, Parameter, FuncResult, ListElement, FixedSizeListElement, FuturePayload, StreamPayload, Option, Ok, Err, Field, Case, Item}
+use Rattle.wac_mismatch.specs.Place.{Side, item_side, core_side, value_side, absent}
 
 -- the value type, as a side
 abbrev pub sided : Opt ValueTree → Opt Side
@@ -52,12 +53,34 @@ func_part (Parameter n) t = sided (lookup bytes_eq t.params (string_bytes n))
 func_part FuncResult t = sided t.«result»
 func_part f t = None
 
+-- the item, or the core extern, as a side
+abbrev pub item_sided : Opt ItemTree → Opt Side
+item_sided None = None
+item_sided (Some t) = Some (item_side t)
+
+abbrev pub core_sided : Opt CoreTree → Opt Side
+core_sided None = None
+core_sided (Some t) = Some (core_side t)
+
+-- the part of a core module that a frame names
+abbrev pub module_part : Frame → ModuleTree → Opt Side
+module_part (Export n) m = core_sided (lookup bytes_eq m.exports (string_bytes n))
+module_part (CoreImport m' n) m = core_sided (lookup import_name_eq m.imports (string_bytes m', string_bytes n))
+module_part f m = None
+
+-- the part of an interface or a world that a frame names; an interface imports nothing
+abbrev pub composite_part : Frame → Shape → Items → Items → Opt Side
+composite_part (Export n) s is es = item_sided (item_at es (string_bytes n))
+composite_part (Import n) world is es = item_sided (item_at is (string_bytes n))
+composite_part f s is es = None
+
 -- the part of a side that a frame names
 abbrev pub part_of : Frame → Side → Opt Side
 part_of f (value_side t) = value_part f t
 part_of f (item_side (leaf k (value t))) = value_part f t
 part_of f (item_side (leaf k (func t))) = func_part f t
 part_of f (item_side (leaf k (resource r))) = None
-part_of f (item_side (core_module k m)) = None
-part_of f (item_side (composite k s is es)) = None
+part_of f (item_side (core_module k m)) = module_part f m
+part_of f (item_side (composite k s is es)) = composite_part f s is es
+part_of f (core_side t) = None
 part_of f absent = None

@@ -1,19 +1,33 @@
 -- A path: frames that lead from a place to one where the fault holds.
 use Rattle.std.specs.Prelude.{◌≡◌, List, [], ◌∷◌, Some}
-use Rattle.wac_mismatch.specs.Place.{Side, Place, place}
+use Rattle.wac_model.specs.ItemTree.{core_module}
+use Rattle.wac_mismatch.specs.Place.{Side, item_side, Place, place, turned}
 use Rattle.wac_mismatch.specs.Part.{part_of}
 use Rattle.wac_mismatch.specs.Holds.{Holds}
 use Rattle.wac_mismatch.specs.declared.frame.Frame.{Frame}
+use Rattle.wac_mismatch.specs.declared.frame.Frame.TheVariants.{Export, Import, CoreImport}
 use Rattle.wac_mismatch.specs.declared.fault.Fault.{Fault}
 use Rattle.wac_mismatch.specs.declared.error.SubtypeError.{SubtypeError}
 use Rattle.wac_mismatch.specs.declared.error.SubtypeError.TheVariants.{Mismatch, Memory}
 use Rattle.wac_mismatch.specs.declared.check.SubtypeCheck.{SubtypeCheck}
+use Rattle.wac_mismatch.specs.declared.check.SubtypeCheck.TheVariants.{Covariant}
+
+-- an import is asked for of the right side by the left one: the sides change places, and the direction turns
+abbrev pub entered : Frame → Place → Place
+entered (Import n) p = place (turned p.check) p.right p.left
+entered (CoreImport m n) p = place (turned p.check) p.right p.left
+entered f p = p
+
+-- the exports of core modules are checked covariantly, whatever the direction
+abbrev pub check_below : Frame → Side → SubtypeCheck → SubtypeCheck
+check_below (Export n) (item_side (core_module k m)) c = Covariant
+check_below f a c = c
 
 -- from a place to the place below it: both sides have the part that the frame names
 pub record Leads (frame : Frame) (above below : Place) : Type 0 where
-  pub left : part_of frame above.left ≡ Some below.left
-  pub right : part_of frame above.right ≡ Some below.right
-  pub same_check : below.check ≡ above.check
+  pub left : part_of frame (entered frame above).left ≡ Some below.left
+  pub right : part_of frame (entered frame above).right ≡ Some below.right
+  pub same_check : below.check ≡ check_below frame above.left (entered frame above).check
 
 abbrev pub Path : List Frame → Fault → Place → Type 0
 Path [] f p = Holds f p

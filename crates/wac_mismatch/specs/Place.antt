@@ -1,14 +1,16 @@
 -- Where a check stands: two sides, and which of them is expected.
 use Rattle.std.specs.Prelude.{◌≡◌}
 use Rattle.wac_model.specs.ValueTree.{ValueTree}
+use Rattle.wac_model.specs.CoreTree.{CoreTree, CoreFits}
 use Rattle.wac_model.specs.ItemTree.{ItemTree}
 use Rattle.wac_model.specs.Order.{Fits}
 use Rattle.wac_mismatch.specs.declared.check.SubtypeCheck.{SubtypeCheck}
 use Rattle.wac_mismatch.specs.declared.check.SubtypeCheck.TheVariants.{Covariant, Contravariant}
 
--- one side of a check: an item, a value type, or a payload that isn't there
+-- one side of a check: an item, a core extern, a value type, or a payload that isn't there
 pub data Side : Type 0 where
   item_side : (tree : ItemTree) → Side
+  core_side : (tree : CoreTree) → Side
   value_side : (tree : ValueTree) → Side
   absent : Side
 
@@ -44,6 +46,7 @@ by_check c P a b = P (expected_of c a b) (found_of c a b)
 -- value types, and payloads that aren't there, fit only themselves
 abbrev pub SideFits : Side → Side → Type 0
 SideFits (item_side a) (item_side b) = Fits a b
+SideFits (core_side a) (core_side b) = CoreFits a b
 SideFits (value_side t) (value_side u) = t ≡ u
 SideFits absent absent = Unit {0}
 SideFits a b = ⊥

@@ -49,3 +49,18 @@ IsParamName _ index x y = ⊥
 abbrev pub IsCaseType : Fault → Text → Bool → Type 0
 IsCaseType (fault.CaseType n e) x b = (string_bytes n ≡ x) × (e ≡ b)
 IsCaseType _ x b = ⊥
+
+-- the frame of the export of a name
+abbrev pub IsExport : Text → Frame → Type 0
+IsExport n (frame.Export m) = string_bytes m ≡ n
+IsExport n _ = ⊥
+
+-- the frame of the import of a name
+abbrev pub IsImportOf : Text → Frame → Type 0
+IsImportOf n (frame.Import m) = string_bytes m ≡ n
+IsImportOf n _ = ⊥
+
+-- the frame of the import of a module and a name
+abbrev pub IsCoreImportOf : Text → Text → Frame → Type 0
+IsCoreImportOf m n (frame.CoreImport k l) = (string_bytes k ≡ m) × (string_bytes l ≡ n)
+IsCoreImportOf m n _ = ⊥

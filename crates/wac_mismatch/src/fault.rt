@@ -2,9 +2,11 @@
 
 ghost use Rattle.std.specs.Prelude.{Some, string_bytes};
 ghost use Rattle.std.specs.Fmt.{WritesOnOk};
-ghost use Rattle.wac_mismatch.specs.FaultText.{async_text, func_result_text, result_part_text, payload_text, count_text, name_text, case_type_text};
+ghost use Rattle.wac_mismatch.specs.FaultText.{async_text, func_result_text, result_part_text, payload_text, count_text, name_text, case_type_text, missing_export_text, missing_import_text, missing_core_import_text, core_field_text};
 
+use super::check::SubtypeCheck;
 use std::fmt;
+use wac_core::{CoreFuncType, CoreRefType, CoreType};
 
 /// What a `Fault::Count` counts the parts of.
 #[derive(Clone, Copy, PartialEq, Eq, Debug)]
@@ -41,6 +43,29 @@ pub enum ResultPart {
     Ok,
     /// The type of a failure.
     Err,
+}
+
+/// What two core externs of one sort differ in, but for their types.
+#[derive(Clone, Copy, PartialEq, Eq, Debug)]
+pub enum CoreField {
+    /// The limits of tables, which don't fit.
+    TableLimits,
+    /// Whether tables are indexed by 64-bit integers.
+    Table64,
+    /// Whether tables are shared.
+    TableShared,
+    /// Whether memories are shared.
+    MemoryShared,
+    /// Whether memories are indexed by 64-bit integers.
+    Memory64,
+    /// The limits of memories, which don't fit.
+    MemoryLimits,
+    /// The sizes of the pages of memories.
+    PageSizeLog2,
+    /// Whether globals can change.
+    GlobalMutable,
+    /// Whether globals are shared.
+    GlobalShared,
 }
 
 /// What two types disagree in. An `expected` that stands without a `found` says that what the
@@ -129,6 +154,60 @@ pub enum Fault {
         /// Whether the expected one has.
         expected: bool,
     },
+    /// Two core functions or two tags have different types.
+    CoreFunc {
+        /// The type of the expected one.
+        expected: CoreFuncType,
+        /// The type of the one found.
+        found: CoreFuncType,
+    },
+    /// The right side exports what the left doesn't.
+    MissingExport {
+        /// What doesn't export it: `instance`, `component` or `module`.
+        holder: &'static str,
+        /// The description of the export.
+        kind: &'static str,
+        /// The name of the export.
+        name: String,
+        /// The direction, by which it is missing or unexpected.
+        check: SubtypeCheck,
+    },
+    /// The left world imports what the right doesn't.
+    MissingImport {
+        /// The description of the import.
+        kind: &'static str,
+        /// The name of the import.
+        name: String,
+        /// The direction, by which it is missing or unexpected.
+        check: SubtypeCheck,
+    },
+    /// The left core module imports what the right doesn't.
+    MissingCoreImport {
+        /// The sort of the import.
+        kind: &'static str,
+        /// The module that it is imported from.
+        module: String,
+        /// Its name there.
+        name: String,
+        /// The direction, by which it is missing or unexpected.
+        check: SubtypeCheck,
+    },
+    /// Two tables have elements of different types.
+    TableElement {
+        /// The type of the expected ones.
+        expected: CoreRefType,
+        /// The type of those found.
+        found: CoreRefType,
+    },
+    /// Two globals have values of different types.
+    GlobalType {
+        /// The type of the expected one.
+        expected: CoreType,
+        /// The type of the one found.
+        found: CoreType,
+    },
+    /// Two core externs of one sort differ in this.
+    Core(CoreField),
 }
 
 impl fmt::Display for Fault {
@@ -172,6 +251,30 @@ impl fmt::Display for Fault {
                 found,
             } => write_name(f, *of, *index, expected, found),
             Fault::CaseType { name, expected } => write_case_type(f, name, *expected),
+            Fault::CoreFunc { expected, found } => write!(f, "expected {expected}, found {found}"),
+            Fault::MissingExport {
+                holder,
+                kind,
+                name,
+                check,
+            } => write_missing_export(f, holder, kind, name, *check),
+            Fault::MissingImport { kind, name, check } => {
+                write_missing_import(f, kind, name, *check)
+            }
+            Fault::MissingCoreImport {
+                kind,
+                module,
+                name,
+                check,
+            } => write_missing_core_import(f, kind, module, name, *check),
+            Fault::TableElement { expected, found } => write!(
+                f,
+                "expected table element type {expected}, found {found}"
+            ),
+            Fault::GlobalType { expected, found } => {
+                write!(f, "expected global type {expected}, found {found}")
+            }
+            Fault::Core(field) => write_core_field(f, *field),
         }
     }
 }
@@ -305,5 +408,78 @@ fn write_case_type<W: fmt::Write>(
             f,
             "expected variant case `{name}` to be untyped, found a typed case"
         )
+    }
+}
+
+fn write_missing_export<W: fmt::Write>(
+    f: &mut fmt::Formatter<W>,
+    holder: &str,
+    kind: &str,
+    name: &str,
+    check: SubtypeCheck,
+) -> fmt::Result
+    ensures { WritesOnOk W.write_str_gives f.old result (missing_export_text holder.now kind.now name.now check) f.new }
+{
+    match check {
+        SubtypeCheck::Covariant => write!(f, "{holder} is missing expected {kind} export `{name}`"),
+        SubtypeCheck::Contravariant => {
+            write!(f, "{holder} has unexpected {kind} export `{name}`")
+        }
+    }
+}
+
+fn write_missing_import<W: fmt::Write>(
+    f: &mut fmt::Formatter<W>,
+    kind: &str,
+    name: &str,
+    check: SubtypeCheck,
+) -> fmt::Result
+    ensures { WritesOnOk W.write_str_gives f.old result (missing_import_text kind.now name.now check) f.new }
+{
+    match check {
+        SubtypeCheck::Covariant => {
+            write!(f, "component is missing expected {kind} import `{name}`")
+        }
+        SubtypeCheck::Contravariant => {
+            write!(f, "component has unexpected import {kind} `{name}`")
+        }
+    }
+}
+
+fn write_missing_core_import<W: fmt::Write>(
+    f: &mut fmt::Formatter<W>,
+    kind: &str,
+    from: &str,
+    name: &str,
+    check: SubtypeCheck,
+) -> fmt::Result
+    ensures { WritesOnOk W.write_str_gives f.old result (missing_core_import_text kind.now from.now name.now check) f.new }
+{
+    match check {
+        SubtypeCheck::Covariant => {
+            write!(
+                f,
+                "module is missing expected {kind} import `{from}::{name}`"
+            )
+        }
+        SubtypeCheck::Contravariant => {
+            write!(f, "module has unexpected {kind} import `{from}::{name}`")
+        }
+    }
+}
+
+fn write_core_field<W: fmt::Write>(f: &mut fmt::Formatter<W>, field: CoreField) -> fmt::Result
+    ensures { WritesOnOk W.write_str_gives f.old result (core_field_text field) f.new }
+{
+    match field {
+        CoreField::TableLimits => write!(f, "mismatched table limits"),
+        CoreField::Table64 => write!(f, "mismatched table64 flag for tables"),
+        CoreField::TableShared => write!(f, "mismatched shared flag for tables"),
+        CoreField::MemoryShared => write!(f, "mismatched shared flag for memories"),
+        CoreField::Memory64 => write!(f, "mismatched memory64 flag for memories"),
+        CoreField::MemoryLimits => write!(f, "mismatched memory limits"),
+        CoreField::PageSizeLog2 => write!(f, "mismatched page_size_log2 for memories"),
+        CoreField::GlobalMutable => write!(f, "mismatched mutable flag for globals"),
+        CoreField::GlobalShared => write!(f, "mismatched shared flag for globals"),
     }
 }

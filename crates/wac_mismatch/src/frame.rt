@@ -5,6 +5,13 @@ use std::fmt;
 /// A step from two types to a part that both have.
 #[derive(PartialEq, Eq, Debug, Drop)]
 pub enum Frame {
+    /// To the exports of this name, of two interfaces, worlds or core modules.
+    Export(String),
+    /// To the imports of this name of two worlds, with the sides exchanged and the direction turned.
+    Import(String),
+    /// To the imports of this module and name of two core modules, with the sides exchanged and the
+    /// direction turned.
+    CoreImport(String, String),
     /// To the types of the parameter of this name.
     Parameter(String),
     /// To the results of two functions.
@@ -39,6 +46,11 @@ impl fmt::Display for Frame {
 
     fn fmt<W: fmt::Write>(&self, f: &mut fmt::Formatter<W>) -> fmt::Result {
         match self {
+            Frame::Export(name) => write!(f, "mismatched type for export `{name}`"),
+            Frame::Import(name) => write!(f, "mismatched type for import `{name}`"),
+            Frame::CoreImport(from, name) => {
+                write!(f, "mismatched type for import `{from}::{name}`")
+            }
             Frame::Parameter(name) => {
                 write!(f, "mismatched type for function parameter `{name}`")
             }

@@ -7,8 +7,9 @@ pub mod error;
 pub mod fault;
 pub mod frame;
 pub mod laws;
+pub mod refusals;
 
 pub use check::SubtypeCheck;
 pub use error::SubtypeError;
-pub use fault::{CountOf, Fault, NameOf, ResultPart};
+pub use fault::{CoreField, CountOf, Fault, NameOf, ResultPart};
 pub use frame::Frame;

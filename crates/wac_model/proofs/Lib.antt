@@ -3,3 +3,4 @@ pub mod CoreOrder
 pub mod TreeInduction
 pub mod ItemOrder
 pub mod Antisymmetry
+pub mod Lookups

@@ -1,5 +1,5 @@
 -- Texts, and lists of named values.
-use Rattle.std.specs.Prelude.{ℕ, List, [], ◌∷◌, Option, Some, None, if◌then◌else◌, Bool, ◌&&◌}
+use Rattle.std.specs.Prelude.{ℕ, List, [], ◌∷◌, ◌++◌, Option, Some, None, if◌then◌else◌, Bool, ◌&&◌}
 use Rattle.std.specs.Str.{bytes_eq}
 
 -- a text, by the bytes of its UTF-8
@@ -18,3 +18,9 @@ import_name_eq m n = bytes_eq m.0 n.0 && bytes_eq m.1 n.1
 abbrev pub lookup : {K V : Type 0} → (K → K → Bool) → List (K × V) → K → Option V
 lookup is_same [] n = None
 lookup is_same (e ∷ es) n = if is_same n e.0 then Some e.1 else lookup is_same es n
+
+-- the texts one after another
+abbrev pub joined : List Text → Text
+joined [] = []
+joined (x ∷ []) = x
+joined (x ∷ y ∷ zs) = x ++ joined (y ∷ zs)

@@ -8,7 +8,10 @@ pub use wac_component::{
     InterfaceId, ItemKind, ModuleTypeId, Record, Resource, ResourceAlias, ResourceId, Type, Types,
     UsedType, ValueType, Variant, World, WorldId,
 };
-pub use wac_mismatch::{CountOf, Fault, Frame, NameOf, ResultPart, SubtypeCheck, SubtypeError};
+pub use wac_core::{CoreExtern, CoreFuncType, CoreRefType, CoreType, HeapType, ModuleType};
+pub use wac_mismatch::{
+    CoreField, CountOf, Fault, Frame, NameOf, ResultPart, SubtypeCheck, SubtypeError,
+};
 pub use wac_model::PrimitiveType;
 pub use wac_names::{
     NameError, NameMap, NameMapIntern, NameMapNoIntern, are_semver_compatible, track_of,

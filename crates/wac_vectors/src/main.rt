@@ -3,6 +3,7 @@
 
 mod rows;
 mod run;
+mod sides;
 #[cfg(test)]
 mod tests;
 

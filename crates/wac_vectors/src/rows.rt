@@ -1,42 +1,14 @@
 //! The built-in rows: questions whether one item fits where another is asked for.
 
-ghost use Rattle.std.specs.Prelude.{◌≡◌, [], IfOk};
-ghost use Rattle.wac_types.specs.Content.{defined_content, func_content};
-ghost use Rattle.wac_types.specs.Key.{AllStand, item_keys, defined_keys, func_keys};
-
-use indexmap::IndexMap;
+use super::sides::{Side, add_side};
 use std::alloc::{AllocError, Global};
 use std::collections::HashSet;
 use std::io;
 use std::io::Write;
-use wac_types::{
-    DefinedType, FuncType, ItemKind, PrimitiveType, Resource, SubtypeChecker, SubtypeError, Type,
-    Types, ValueType,
-};
-
-// What stands on one side of a row.
-#[derive(Clone, Copy)]
-enum Side {
-    // A value of a primitive type.
-    Value(PrimitiveType),
-    // A value of a list.
-    List(PrimitiveType),
-    // A value of a stream, with a payload or none.
-    Stream(Option<PrimitiveType>),
-    // A function, with the name of a parameter of type `u8` if it has one.
-    Func(Option<&'static str>),
-    // A function without parameters that gives this.
-    FuncGiving(PrimitiveType),
-    // The type of a resource of this name.
-    Resource(&'static str),
-    // A primitive type.
-    Type(PrimitiveType),
-    // Another name of a primitive type.
-    Alias(PrimitiveType),
-}
+use wac_types::{PrimitiveType, SubtypeChecker, SubtypeError, Types};
 
 // Which item is asked about, and which is asked for.
-static ROWS: [(Side, Side); 8] = [
+static ROWS: [(Side, Side); 14] = [
     (
         Side::Value(PrimitiveType::U8),
         Side::Value(PrimitiveType::U8),
@@ -54,6 +26,12 @@ static ROWS: [(Side, Side); 8] = [
         Side::Alias(PrimitiveType::U8),
         Side::Type(PrimitiveType::U8),
     ),
+    (Side::Instance(&["f", "g"]), Side::Instance(&["f"])),
+    (Side::Instance(&["f"]), Side::Instance(&["f", "g"])),
+    (Side::Component(&["x"]), Side::Component(&[])),
+    (Side::Module(2, Some(5)), Side::Module(1, None)),
+    (Side::Module(1, None), Side::Module(2, Some(5))),
+    (Side::Value(PrimitiveType::U8), Side::Func(None)),
 ];
 
 /// Prints each row's number and answer: `yes`, or `no:` and the outermost text of the error.
@@ -81,76 +59,5 @@ fn print_row<W: Write>(
         Ok(()) => writeln!(out, "{number} yes"),
         Err(SubtypeError::Memory) => Err(io::Error::from(AllocError)),
         Err(error) => writeln!(out, "{number} no: {error}"),
-    }
-}
-
-// Adds what a side needs to a collection, and gives its item.
-fn add_side(alloc: Global, types: &mut Types, side: Side) -> Result<ItemKind, AllocError>
-    ensures stands { IfOk result (λ item. AllStand types.new (item_keys item)) }
-    ensures number { types.new.number ≡ types.old.number }
-{
-    match side {
-        Side::Value(ty) => Ok(ItemKind::Value(ValueType::Primitive(ty))),
-        Side::List(ty) => add_value(types, DefinedType::List(ValueType::Primitive(ty))),
-        Side::Stream(None) => add_value(types, DefinedType::Stream(None)),
-        Side::Stream(Some(ty)) => {
-            add_value(types, DefinedType::Stream(Some(ValueType::Primitive(ty))))
-        }
-        Side::Func(None) => add_func(types, FuncType::new(alloc)),
-        Side::Func(Some(name)) => add_func(types, func_taking(alloc, name)?),
-        Side::FuncGiving(ty) => add_func(types, func_giving(alloc, ty)),
-        Side::Resource(name) => {
-            let name = String::from_str(alloc, name)?;
-            let id = types.add_resource(Resource { name, alias: None })?;
-            Ok(ItemKind::Type(Type::Resource(id)))
-        }
-        Side::Type(ty) => Ok(ItemKind::Type(Type::Value(ValueType::Primitive(ty)))),
-        Side::Alias(ty) => {
-            let id = types.add_defined_type(DefinedType::Alias(ValueType::Primitive(ty)))?;
-            Ok(ItemKind::Type(Type::Value(ValueType::Defined(id))))
-        }
-    }
-}
-
-fn add_value(types: &mut Types, ty: DefinedType) -> Result<ItemKind, AllocError>
-    requires { defined_keys (defined_content ty) ≡ [] }
-    ensures stands { IfOk result (λ item. AllStand types.new (item_keys item)) }
-    ensures number { types.new.number ≡ types.old.number }
-{
-    let id = types.add_defined_type(ty)?;
-    Ok(ItemKind::Value(ValueType::Defined(id)))
-}
-
-fn add_func(types: &mut Types, ty: FuncType) -> Result<ItemKind, AllocError>
-    requires { func_keys (func_content ty) ≡ [] }
-    ensures stands { IfOk result (λ item. AllStand types.new (item_keys item)) }
-    ensures number { types.new.number ≡ types.old.number }
-{
-    let id = types.add_func_type(ty)?;
-    Ok(ItemKind::Func(id))
-}
-
-// A function with one parameter of type `u8`.
-fn func_taking(alloc: Global, name: &str) -> Result<FuncType, AllocError>
-    ensures { IfOk result (λ f. func_keys (func_content f) ≡ []) }
-{
-    let mut params = IndexMap::new(alloc);
-    let name = String::from_str(alloc, name)?;
-    params.insert(name, ValueType::Primitive(PrimitiveType::U8))?;
-    Ok(FuncType {
-        params,
-        result: None,
-        is_async: false,
-    })
-}
-
-// A function without parameters that gives this.
-fn func_giving(alloc: Global, ty: PrimitiveType) -> FuncType
-    ensures { func_keys (func_content result) ≡ [] }
-{
-    FuncType {
-        params: IndexMap::new(alloc),
-        result: Some(ValueType::Primitive(ty)),
-        is_async: false,
     }
 }

@@ -15,6 +15,12 @@ const ROWS: &str = "1 yes
 6 no: expected function without a result, found function with a result
 7 no: expected resource `dir`, found resource `file`
 8 yes
+9 yes
+10 no: instance is missing expected function export `g`
+11 no: component is missing expected function import `x`
+12 yes
+13 no: mismatched type for export `m`
+14 no: expected function, found value
 ";
 
 #[test]
@@ -91,8 +97,8 @@ fn a_failed_write_ends_the_run_with_status_1(rt: HostRuntime) -> Result<(), Fail
             failed = failed.saturating_add(1);
         }
     }
-    // each of the eight lines was written in part at least once
-    assert!(rt; failed >= 8);
+    // each of the fourteen lines was written in part at least once
+    assert!(rt; failed >= 14);
     let mut out = Vec::new(alloc);
     let mut err = FailingAt {
         number: 1,

@@ -1,0 +1,10 @@
+//! The types of core modules (WebAssembly core specification, "Types").
+#![tactic(auto)]
+
+pub mod externs;
+pub mod modules;
+pub mod values;
+
+pub use externs::CoreExtern;
+pub use modules::ModuleType;
+pub use values::{CoreFuncType, CoreRefType, CoreType, HeapType};

@@ -1,0 +1,3 @@
+pub mod TypeLemmas
+pub mod ExternLemmas
+pub mod ModuleLemmas
