@@ -59,24 +59,6 @@ pub named_lower : (c : Collection) (es : Externs) (n : Text) (v : ItemKind) → 
 named_lower c es n v l = let at = found_at es n v l in extern_lower c es at.0 at.1 v at.2
 
 -- the exports of an interface, and the externs of a world, stand where all its ids do, and are no higher
-pub exports_stand : (c : Collection) (e : InterfaceContent) → AllStand c (interface_keys e) → AllStand c (named_keys item_keys e.exports)
-exports_stand c e h = AllStand-right c (named_keys use_keys e.uses) (named_keys item_keys e.exports) h
-
-pub exports_lower : (c : Collection) (e : InterfaceContent) → keys_height c (named_keys item_keys e.exports) ≤ keys_height c (interface_keys e)
-exports_lower c e = omega (arith, largest-append (height c) (named_keys use_keys e.uses) (named_keys item_keys e.exports))
-
-pub world_imports_stand : (c : Collection) (w : WorldContent) → AllStand c (world_keys w) → AllStand c (named_keys item_keys w.imports)
-world_imports_stand c w h = AllStand-right c (named_keys use_keys w.uses) (named_keys item_keys w.imports) (AllStand-left c (named_keys use_keys w.uses ++ named_keys item_keys w.imports) (named_keys item_keys w.exports) h)
-
-pub world_exports_stand : (c : Collection) (w : WorldContent) → AllStand c (world_keys w) → AllStand c (named_keys item_keys w.exports)
-world_exports_stand c w h = AllStand-right c (named_keys use_keys w.uses ++ named_keys item_keys w.imports) (named_keys item_keys w.exports) h
-
-pub world_imports_lower : (c : Collection) (w : WorldContent) → keys_height c (named_keys item_keys w.imports) ≤ keys_height c (world_keys w)
-world_imports_lower c w = omega (arith, largest-append (height c) (named_keys use_keys w.uses ++ named_keys item_keys w.imports) (named_keys item_keys w.exports), largest-append (height c) (named_keys use_keys w.uses) (named_keys item_keys w.imports))
-
-pub world_exports_lower : (c : Collection) (w : WorldContent) → keys_height c (named_keys item_keys w.exports) ≤ keys_height c (world_keys w)
-world_exports_lower c w = omega (arith, largest-append (height c) (named_keys use_keys w.uses ++ named_keys item_keys w.imports) (named_keys item_keys w.exports))
-
 -- the tree of the extern of a name
 item_at-items_of : (f : ItemKind → ItemTree) (es : Externs) (n : Text) → item_at (items_of f es) n ≡ option_map f (lookup bytes_eq es n)
 item_at-items_of f [] n = refl

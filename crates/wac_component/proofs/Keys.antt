@@ -55,7 +55,7 @@ largest-same P f g same [] h = refl
 largest-same P f g same (k ∷ ks) h = rw (same k h.0, largest-same P f g same ks h.1) refl
 
 -- keys are equal where their sorts, numbers and indices are
-Key-parts : (j k : Key) → j.sort ≡ k.sort → j.id.number ≡ k.id.number → j.id.index ≡ k.id.index → j ≡ k
+pub Key-parts : (j k : Key) → j.sort ≡ k.sort → j.id.number ≡ k.id.number → j.id.index ≡ k.id.index → j ≡ k
 Key-parts j k s n i = λ t. record { sort = s t; id = record { number = n t; index = i t } }
 
 -- whether two keys are equal is decided

@@ -10,3 +10,14 @@ pub mod Reading
 pub mod Members
 pub mod CloneLemmas
 pub mod Walks
+pub mod AnyBorrow
+pub mod VisitLemmas
+pub mod Positions
+pub mod Returns
+pub mod Replaced
+pub mod Replacing
+pub mod Put
+pub mod ReplacedTrees
+pub mod Naming
+pub mod Search
+pub mod Seen

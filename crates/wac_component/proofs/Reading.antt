@@ -12,13 +12,13 @@ use Rattle.wac_component.proofs.Unfolded.{entry_below}
 entry_standing : (c : Collection) (k : Key) (e : Entry) → IsSound c → Stands c k → entry_at c k ≡ Some e → AllStand c (entry_keys e)
 entry_standing c k e s st is = rw is at (s.standing k st)
 
-defined_at : (c : Collection) (p : Id) (e : DefinedContent) → slice_get c.defined p.index ≡ Some e → entry_at c (defined_key p) ≡ Some (defined_entry e)
+pub defined_at : (c : Collection) (p : Id) (e : DefinedContent) → slice_get c.defined p.index ≡ Some e → entry_at c (defined_key p) ≡ Some (defined_entry e)
 defined_at c p e is = slice_get-map defined_entry c.defined p.index ∙ ap (option_map defined_entry) is
 
-resource_at : (c : Collection) (p : Id) (e : ResourceContent) → slice_get c.resources p.index ≡ Some e → entry_at c (resource_key p) ≡ Some (resource_entry e)
+pub resource_at : (c : Collection) (p : Id) (e : ResourceContent) → slice_get c.resources p.index ≡ Some e → entry_at c (resource_key p) ≡ Some (resource_entry e)
 resource_at c p e is = slice_get-map resource_entry c.resources p.index ∙ ap (option_map resource_entry) is
 
-func_at : (c : Collection) (p : Id) (e : FuncContent) → slice_get c.funcs p.index ≡ Some e → entry_at c (func_key p) ≡ Some (func_entry e)
+pub func_at : (c : Collection) (p : Id) (e : FuncContent) → slice_get c.funcs p.index ≡ Some e → entry_at c (func_key p) ≡ Some (func_entry e)
 func_at c p e is = slice_get-map func_entry c.funcs p.index ∙ ap (option_map func_entry) is
 
 pub defined_standing : (c : Collection) (p : Id) (e : DefinedContent) → IsSound c → Stands c (defined_key p) → slice_get c.defined p.index ≡ Some e → AllStand c (defined_keys e)
@@ -39,7 +39,7 @@ resource_lower c p e s st is = entry_below c (resource_key p) (resource_entry e)
 pub func_lower : (c : Collection) (p : Id) (e : FuncContent) → IsSound c → Stands c (func_key p) → slice_get c.funcs p.index ≡ Some e → keys_height c (func_keys e) < height c (func_key p)
 func_lower c p e s st is = entry_below c (func_key p) (func_entry e) s st (func_at c p e is)
 
-interface_at : (c : Collection) (p : Id) (e : InterfaceContent) → slice_get c.interfaces p.index ≡ Some e → entry_at c (interface_key p) ≡ Some (interface_entry e)
+pub interface_at : (c : Collection) (p : Id) (e : InterfaceContent) → slice_get c.interfaces p.index ≡ Some e → entry_at c (interface_key p) ≡ Some (interface_entry e)
 interface_at c p e is = slice_get-map interface_entry c.interfaces p.index ∙ ap (option_map interface_entry) is
 
 pub interface_standing : (c : Collection) (p : Id) (e : InterfaceContent) → IsSound c → Stands c (interface_key p) → slice_get c.interfaces p.index ≡ Some e → AllStand c (interface_keys e)
@@ -48,7 +48,7 @@ interface_standing c p e s st is = entry_standing c (interface_key p) (interface
 pub interface_lower : (c : Collection) (p : Id) (e : InterfaceContent) → IsSound c → Stands c (interface_key p) → slice_get c.interfaces p.index ≡ Some e → keys_height c (interface_keys e) < height c (interface_key p)
 interface_lower c p e s st is = entry_below c (interface_key p) (interface_entry e) s st (interface_at c p e is)
 
-world_at : (c : Collection) (p : Id) (e : WorldContent) → slice_get c.worlds p.index ≡ Some e → entry_at c (world_key p) ≡ Some (world_entry e)
+pub world_at : (c : Collection) (p : Id) (e : WorldContent) → slice_get c.worlds p.index ≡ Some e → entry_at c (world_key p) ≡ Some (world_entry e)
 world_at c p e is = slice_get-map world_entry c.worlds p.index ∙ ap (option_map world_entry) is
 
 pub world_standing : (c : Collection) (p : Id) (e : WorldContent) → IsSound c → Stands c (world_key p) → slice_get c.worlds p.index ≡ Some e → AllStand c (world_keys e)

@@ -8,12 +8,12 @@ use Rattle.wac_component.specs.Reach.{IsAmong, here, there, Reaches, stay, step}
 use Rattle.wac_component.specs.Laws.{WalksStand, NoWalkReturns}
 use Rattle.wac_component.proofs.Unfolded.{entry_below}
 
-among_below : (f : Key → ℕ) (k : Key) (ks : List Key) → IsAmong k ks → f k ≤ largest f ks
+pub among_below : (f : Key → ℕ) (k : Key) (ks : List Key) → IsAmong k ks → f k ≤ largest f ks
 among_below f k [] m = elim m [ ]
 among_below f k (_ ∷ ks) here = omega arith
 among_below f k (j ∷ ks) (there m) = omega (arith, among_below f k ks m)
 
-among_stands : (c : Collection) (k : Key) (ks : List Key) → IsAmong k ks → AllStand c ks → Stands c k
+pub among_stands : (c : Collection) (k : Key) (ks : List Key) → IsAmong k ks → AllStand c ks → Stands c k
 among_stands c k [] m h = elim m [ ]
 among_stands c k (_ ∷ ks) here h = h.0
 among_stands c k (j ∷ ks) (there m) h = among_stands c k ks m h.1

@@ -8,6 +8,11 @@ pub mod Unfolding
 pub mod Height
 pub mod Tree
 pub mod Growth
+pub mod Borrow
+pub mod Items
+pub mod Visits
+pub mod Replacing
+pub mod Naming
 pub mod View
 pub mod Laws
 pub mod Texts

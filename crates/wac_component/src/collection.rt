@@ -16,6 +16,11 @@ use std::slice;
 use wac_core::ModuleType;
 
 mod index;
+mod naming;
+mod replace;
+mod search;
+
+pub use replace::ReplaceError;
 
 /// A collection of types.
 ///

@@ -49,3 +49,34 @@ pub enum ValueType {
     /// A defined type.
     Defined(DefinedTypeId),
 }
+
+impl ItemKind {
+    ghost use Rattle.std.specs.Prelude.{◌≡◌};
+    ghost use Rattle.wac_component.specs.Items.{type_of, promoted};
+
+    /// The type of the item.
+    pub fn ty(&self) -> Type
+        ensures { result ≡ type_of self.now }
+    {
+        match self {
+            ItemKind::Type(ty) => *ty,
+            ItemKind::Func(id) => Type::Func(*id),
+            ItemKind::Instance(id) => Type::Interface(*id),
+            ItemKind::Component(id) => Type::World(*id),
+            ItemKind::Module(id) => Type::Module(*id),
+            ItemKind::Value(ty) => Type::Value(*ty),
+        }
+    }
+
+    /// A function, an instance or a component in the place of its type; all else stays.
+    pub fn promote(&self) -> ItemKind
+        ensures { result ≡ promoted self.now }
+    {
+        match self {
+            ItemKind::Type(Type::Func(id)) => ItemKind::Func(*id),
+            ItemKind::Type(Type::Interface(id)) => ItemKind::Instance(*id),
+            ItemKind::Type(Type::World(id)) => ItemKind::Component(*id),
+            kind => *kind,
+        }
+    }
+}

@@ -2,6 +2,7 @@
 //! back to where they started.
 #![tactic(auto)]
 
+pub mod borrows;
 pub mod collection;
 pub mod defined;
 pub mod desc;
@@ -11,9 +12,10 @@ pub mod interfaces;
 pub mod items;
 pub mod laws;
 pub mod resources;
+pub mod visits;
 pub mod worlds;
 
-pub use collection::Types;
+pub use collection::{ReplaceError, Types};
 pub use defined::{DefinedType, Enum, Flags, Record, Variant};
 pub use functions::{FuncKind, FuncType};
 pub use ids::{DefinedTypeId, FuncTypeId, InterfaceId, ModuleTypeId, ResourceId, WorldId};

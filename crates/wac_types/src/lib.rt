@@ -5,8 +5,8 @@
 pub use wac_checker::SubtypeChecker;
 pub use wac_component::{
     DefinedType, DefinedTypeId, Enum, ExternKind, Flags, FuncKind, FuncType, FuncTypeId, Interface,
-    InterfaceId, ItemKind, ModuleTypeId, Record, Resource, ResourceAlias, ResourceId, Type, Types,
-    UsedType, ValueType, Variant, World, WorldId,
+    InterfaceId, ItemKind, ModuleTypeId, Record, ReplaceError, Resource, ResourceAlias, ResourceId,
+    Type, Types, UsedType, ValueType, Variant, World, WorldId,
 };
 pub use wac_core::{CoreExtern, CoreFuncType, CoreRefType, CoreType, HeapType, ModuleType};
 pub use wac_mismatch::{
