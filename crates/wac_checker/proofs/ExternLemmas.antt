@@ -1,5 +1,5 @@
 -- What interfaces and worlds import and export, name by name.
-use Rattle.std.proofs.Common.{◌≡◌, ◌≤◌, ℕ, suc, zero, List, [], ◌∷◌, ◌++◌, Bool, true, false, cond, Option, Some, None, Result, MatchResult, Ok, IfOk, slice_get, codes, refl, ap, ◌∙◌, inr, arith}
+use Rattle.std.proofs.Common.{◌≡◌, ◌≤◌, ℕ, suc, zero, List, [], ◌∷◌, Bool, true, false, cond, Option, Some, None, Result, MatchResult, Ok, IfOk, slice_get, codes, refl, ap, ◌∙◌, inr}
 use Rattle.std.specs.Str.{bytes_eq}
 use Rattle.std.specs.Option.{option_map}
 use Rattle.std.proofs.lemmas.Result.{MatchResult-weaker}
@@ -9,13 +9,12 @@ use Rattle.wac_model.specs.Desc.{item_desc}
 use Rattle.wac_model.specs.ItemTree.{ItemTree, Items, Kind, Shape, item, world, interface, composite, no_items, item_at}
 use Rattle.wac_model.specs.Order.{Fits, FitsAt, composites, not_asked, there}
 use Rattle.std.specs.declared.alloc.AllocError.{AllocError}
-use Rattle.wac_component.specs.Collection.{Collection, InterfaceContent, WorldContent}
+use Rattle.wac_component.specs.Collection.{Collection}
 use Rattle.wac_component.specs.Height.{height, keys_height}
-use Rattle.wac_component.specs.Key.{Stands, AllStand, item_keys, named_keys, use_keys, interface_keys, world_keys}
+use Rattle.wac_component.specs.Key.{Stands, AllStand, item_keys, named_keys}
 use Rattle.wac_component.specs.Tree.{item_tree, items_of}
 use Rattle.wac_component.specs.declared.items.ItemKind.{ItemKind}
-use Rattle.wac_component.proofs.Keys.{Each-flat_map_at, largest-flat_map_at, largest-append}
-use Rattle.wac_component.proofs.Members.{AllStand-left, AllStand-right}
+use Rattle.wac_component.proofs.Keys.{Each-flat_map_at, largest-flat_map_at}
 use Rattle.wac_mismatch.specs.Place.{item_side, place, turned}
 use Rattle.wac_mismatch.specs.Part.{item_sided}
 use Rattle.wac_mismatch.specs.Holds.{Holds}
@@ -29,7 +28,8 @@ use Rattle.wac_mismatch.specs.declared.check.SubtypeCheck.{SubtypeCheck}
 use Rattle.wac_mismatch.specs.declared.error.SubtypeError.{SubtypeError}
 use Rattle.wac_mismatch.proofs.PathLemmas.{explains_here, explains_under, explains_below}
 use Rattle.wac_checker.specs.Verdict.{IsVerdictOf}
-use Rattle.wac_checker.specs.Externs.{AreServed, ExplainsExports, ExplainsImports, IsMissingExport, IsMissingImport}
+use Rattle.wac_checker.specs.Externs.{AreServed, ExplainsExports, ExplainsImports, IsMissingImport}
+use Rattle.wac_core_checker.specs.Verdict.{IsMissingExport}
 
 -- externs by name, with what each is
 abbrev pub Externs : Type 0

@@ -83,21 +83,29 @@ const COVARIANT: &str = "expected s8, found u8";
 
 const CONTRAVARIANT: &str = "expected u8, found s8";
 
+fn check_turns<R: Abort>(
+    rt: &R,
+    alloc: Global,
+    checker: &mut SubtypeChecker,
+    of: &Collections,
+) -> Result<(), Fail> {
+    check_direction(rt, alloc, checker, of, 0, COVARIANT)?;
+    assert_inverts(rt, checker, SubtypeCheck::Covariant)?;
+    check_direction(rt, alloc, checker, of, 1, CONTRAVARIANT)?;
+    assert_inverts(rt, checker, SubtypeCheck::Contravariant)?;
+    check_direction(rt, alloc, checker, of, 2, COVARIANT)?;
+    revert(checker)?;
+    check_direction(rt, alloc, checker, of, 1, CONTRAVARIANT)?;
+    revert(checker)?;
+    check_direction(rt, alloc, checker, of, 0, COVARIANT)
+}
+
 #[test]
 fn the_direction_is_turned_and_outlasts_answers(rt: HostRuntime) -> Result<(), Fail> {
-    let alloc = rt.alloc();
-    let of = two_collections(alloc);
-    let mut cache = HashSet::new(alloc);
+    let of = two_collections(rt.alloc());
+    let mut cache = HashSet::new(rt.alloc());
     let mut checker = SubtypeChecker::new(&mut cache);
-    check_direction(&rt, alloc, &mut checker, &of, 0, COVARIANT)?;
-    assert_inverts(&rt, &mut checker, SubtypeCheck::Covariant)?;
-    check_direction(&rt, alloc, &mut checker, &of, 1, CONTRAVARIANT)?;
-    assert_inverts(&rt, &mut checker, SubtypeCheck::Contravariant)?;
-    check_direction(&rt, alloc, &mut checker, &of, 2, COVARIANT)?;
-    revert(&mut checker)?;
-    check_direction(&rt, alloc, &mut checker, &of, 1, CONTRAVARIANT)?;
-    revert(&mut checker)?;
-    check_direction(&rt, alloc, &mut checker, &of, 0, COVARIANT)
+    check_turns(&rt, rt.alloc(), &mut checker, &of)
 }
 
 // Asks a checker over a cache.
@@ -113,18 +121,26 @@ fn ask_over<R: Abort>(
     assert_answers(rt, alloc, &mut checker, of, &BYTE, b, wanted)
 }
 
-#[test]
-fn a_pair_that_fits_is_remembered_and_no_other(rt: HostRuntime) -> Result<(), Fail> {
-    let alloc = rt.alloc();
-    let of = two_collections(alloc);
-    let mut cache = HashSet::new(alloc);
-    ask_over(&rt, alloc, &mut cache, &of, &SIGNED_BYTE, COVARIANT)?;
+fn check_remembering<R: Abort>(
+    rt: &R,
+    alloc: Global,
+    cache: &mut HashSet<(ItemKind, ItemKind)>,
+    of: &Collections,
+) -> Result<(), Fail> {
+    ask_over(rt, alloc, cache, of, &SIGNED_BYTE, COVARIANT)?;
     assert_eq!(rt; cache.len(), 0);
-    ask_over(&rt, alloc, &mut cache, &of, &BYTE, "yes")?;
+    ask_over(rt, alloc, cache, of, &BYTE, "yes")?;
     assert_eq!(rt; cache.len(), 1);
     assert!(rt; cache.contains(&(BYTE, BYTE)));
-    ask_over(&rt, alloc, &mut cache, &of, &BYTE, "yes")?;
-    ask_over(&rt, alloc, &mut cache, &of, &SIGNED_BYTE, COVARIANT)?;
+    ask_over(rt, alloc, cache, of, &BYTE, "yes")?;
+    ask_over(rt, alloc, cache, of, &SIGNED_BYTE, COVARIANT)?;
     assert_eq!(rt; cache.len(), 1);
     Ok(())
+}
+
+#[test]
+fn a_pair_that_fits_is_remembered_and_no_other(rt: HostRuntime) -> Result<(), Fail> {
+    let of = two_collections(rt.alloc());
+    let mut cache = HashSet::new(rt.alloc());
+    check_remembering(&rt, rt.alloc(), &mut cache, &of)
 }

@@ -1,6 +1,7 @@
 //! Interfaces, worlds and core modules in collections.
 
-use super::collections::{assert_at, assert_debug, assert_lists};
+use super::building::add_resource;
+use super::collections::{assert_at, assert_clones, assert_contains, assert_lists};
 use indexmap::IndexMap;
 use std::alloc::Global;
 use std::process::Abort;
@@ -80,14 +81,28 @@ fn using_world(alloc: Global, interface: InterfaceId, world: WorldId) -> Result<
     })
 }
 
+// Adds an import of a core function.
+fn import_func(alloc: Global, module: &mut ModuleType, from: &str, name: &str) -> Result<(), Fail> {
+    let from = String::from_str(alloc, from)?;
+    let name = String::from_str(alloc, name)?;
+    let func = CoreExtern::Func(CoreFuncType::new(alloc));
+    module.imports.insert((from, name), func)?;
+    Ok(())
+}
+
+// Adds an export of a core function.
+fn export_func(alloc: Global, module: &mut ModuleType, name: &str) -> Result<(), Fail> {
+    let name = String::from_str(alloc, name)?;
+    let func = CoreExtern::Func(CoreFuncType::new(alloc));
+    module.exports.insert(name, func)?;
+    Ok(())
+}
+
 // A core module that imports a function and exports another.
 fn some_module(alloc: Global) -> Result<ModuleType, Fail> {
     let mut module = ModuleType::new(alloc);
-    let name = (String::from_str(alloc, "e")?, String::from_str(alloc, "f")?);
-    let func = CoreExtern::Func(CoreFuncType::new(alloc));
-    module.imports.insert(name, func)?;
-    let func = CoreExtern::Func(CoreFuncType::new(alloc));
-    module.exports.insert(String::from_str(alloc, "g")?, func)?;
+    import_func(alloc, &mut module, "e", "f")?;
+    export_func(alloc, &mut module, "g")?;
     Ok(module)
 }
 
@@ -111,121 +126,81 @@ fn listed(alloc: Global, first: &str, second: &str) -> Result<String, Fail> {
     Ok(format!(in alloc; "{first};{second};")?)
 }
 
-// Asserts that an entry and its clone have this debug text.
-fn check_interface<R: Abort>(
-    rt: &R,
-    alloc: Global,
-    types: &Types,
-    id: InterfaceId,
-    wanted: &str,
-) -> Result<(), Fail> {
-    let entry = interface_entry(types, id)?;
-    assert_debug(rt, alloc, entry, wanted)?;
-    let copy = entry.clone()?;
-    assert_debug(rt, alloc, &copy, wanted)
-}
-
-fn check_interfaces<R: Abort>(rt: &R, alloc: Global) -> Result<(), Fail> {
-    let mut types = Types::new(alloc, 7);
-    let first = add_interface(&mut types, Interface::new(alloc))?;
-    let second = add_interface(&mut types, using_interface(alloc, first)?)?;
+fn check_interfaces<R: Abort>(rt: &R, alloc: Global, types: &mut Types) -> Result<(), Fail> {
+    let first = add_interface(types, Interface::new(alloc))?;
+    let second = add_interface(types, using_interface(alloc, first)?)?;
     assert_at(rt, first.number(), first.index(), 0);
     assert_at(rt, second.number(), second.index(), 1);
-    check_interface(rt, alloc, &types, first, EMPTY_INTERFACE)?;
-    check_interface(rt, alloc, &types, second, USING_INTERFACE)?;
+    assert_clones(rt, alloc, interface_entry(types, first)?, EMPTY_INTERFACE)?;
+    assert_clones(rt, alloc, interface_entry(types, second)?, USING_INTERFACE)?;
     let wanted = listed(alloc, EMPTY_INTERFACE, USING_INTERFACE)?;
     assert_lists(rt, alloc, types.interfaces(), &wanted)
 }
 
-// Asserts that an entry and its clone have this debug text.
-fn check_world<R: Abort>(
-    rt: &R,
-    alloc: Global,
-    types: &Types,
-    id: WorldId,
-    wanted: &str,
-) -> Result<(), Fail> {
-    let entry = world_entry(types, id)?;
-    assert_debug(rt, alloc, entry, wanted)?;
-    let copy = entry.clone()?;
-    assert_debug(rt, alloc, &copy, wanted)
-}
-
-fn check_worlds<R: Abort>(rt: &R, alloc: Global) -> Result<(), Fail> {
-    let mut types = Types::new(alloc, 7);
-    let interface = add_interface(&mut types, Interface::new(alloc))?;
-    let first = add_world(&mut types, World::new(alloc))?;
-    let second = add_world(&mut types, using_world(alloc, interface, first)?)?;
+fn check_worlds<R: Abort>(rt: &R, alloc: Global, types: &mut Types) -> Result<(), Fail> {
+    let interface = add_interface(types, Interface::new(alloc))?;
+    let first = add_world(types, World::new(alloc))?;
+    let second = add_world(types, using_world(alloc, interface, first)?)?;
     assert_at(rt, first.number(), first.index(), 0);
     assert_at(rt, second.number(), second.index(), 1);
-    check_world(rt, alloc, &types, first, EMPTY_WORLD)?;
-    check_world(rt, alloc, &types, second, USING_WORLD)?;
+    assert_clones(rt, alloc, world_entry(types, first)?, EMPTY_WORLD)?;
+    assert_clones(rt, alloc, world_entry(types, second)?, USING_WORLD)?;
     let wanted = listed(alloc, EMPTY_WORLD, USING_WORLD)?;
     assert_lists(rt, alloc, types.worlds(), &wanted)
 }
 
-// Asserts that an entry and its clone have this debug text.
-fn check_module<R: Abort>(
-    rt: &R,
-    alloc: Global,
-    types: &Types,
-    id: ModuleTypeId,
-    wanted: &str,
-) -> Result<(), Fail> {
-    let entry = module_entry(types, id)?;
-    assert_debug(rt, alloc, entry, wanted)?;
-    let copy = entry.clone()?;
-    assert_debug(rt, alloc, &copy, wanted)
-}
-
-fn check_modules<R: Abort>(rt: &R, alloc: Global) -> Result<(), Fail> {
-    let mut types = Types::new(alloc, 7);
+fn check_modules<R: Abort>(rt: &R, alloc: Global, types: &mut Types) -> Result<(), Fail> {
     let first = types.add_module_type(ModuleType::new(alloc))?;
     let second = types.add_module_type(some_module(alloc)?)?;
     assert_at(rt, first.number(), first.index(), 0);
     assert_at(rt, second.number(), second.index(), 1);
-    check_module(rt, alloc, &types, first, EMPTY_MODULE)?;
-    check_module(rt, alloc, &types, second, SOME_MODULE)?;
+    assert_clones(rt, alloc, module_entry(types, first)?, EMPTY_MODULE)?;
+    assert_clones(rt, alloc, module_entry(types, second)?, SOME_MODULE)?;
     let wanted = listed(alloc, EMPTY_MODULE, SOME_MODULE)?;
     assert_lists(rt, alloc, types.modules(), &wanted)
 }
 
 #[test]
 fn composites_are_found_by_id_listed_in_order_and_cloned(rt: HostRuntime) -> Result<(), Fail> {
-    check_interfaces(&rt, rt.alloc())?;
-    check_worlds(&rt, rt.alloc())?;
-    check_modules(&rt, rt.alloc())
+    check_interfaces(&rt, rt.alloc(), &mut Types::new(rt.alloc(), 7))?;
+    check_worlds(&rt, rt.alloc(), &mut Types::new(rt.alloc(), 7))?;
+    check_modules(&rt, rt.alloc(), &mut Types::new(rt.alloc(), 7))
 }
 
-// A collection with an interface, a world and a core module, and their types.
-fn with_one_of_each(alloc: Global, number: u64) -> Result<(Types, [Type; 3]), Fail> {
-    let mut types = Types::new(alloc, number);
-    let interface = add_interface(&mut types, Interface::new(alloc))?;
-    let world = add_world(&mut types, World::new(alloc))?;
+// Adds an interface, a world and a core module, and gives their types.
+fn add_one_of_each(alloc: Global, types: &mut Types) -> Result<[Type; 3], Fail> {
+    let interface = add_interface(types, Interface::new(alloc))?;
+    let world = add_world(types, World::new(alloc))?;
     let module = types.add_module_type(ModuleType::new(alloc))?;
-    let of = [
+    Ok([
         Type::Interface(interface),
         Type::World(world),
         Type::Module(module),
-    ];
-    Ok((types, of))
+    ])
+}
+
+fn check_ids<R: Abort>(
+    rt: &R,
+    alloc: Global,
+    types: &mut Types,
+    others: &mut Types,
+    empty: &Types,
+) -> Result<(), Fail> {
+    let own = add_one_of_each(alloc, types)?;
+    let of_others = add_one_of_each(alloc, others)?;
+    assert_contains(rt, types, &own, true);
+    assert_contains(rt, types, &of_others, false);
+    // the number alone isn't enough
+    assert_contains(rt, empty, &own, false);
+    Ok(())
 }
 
 #[test]
 fn a_collection_contains_its_own_composites(rt: HostRuntime) -> Result<(), Fail> {
-    let alloc = rt.alloc();
-    let (types, own) = with_one_of_each(alloc, 1)?;
-    let (_, others) = with_one_of_each(alloc, 2)?;
-    let empty = Types::new(alloc, 1);
-    for ty in &own {
-        assert!(rt; types.contains(*ty));
-        // the number alone isn't enough
-        assert!(rt; !empty.contains(*ty));
-    }
-    for ty in &others {
-        assert!(rt; !types.contains(*ty));
-    }
-    Ok(())
+    let mut types = Types::new(rt.alloc(), 1);
+    let mut others = Types::new(rt.alloc(), 2);
+    let empty = Types::new(rt.alloc(), 1);
+    check_ids(&rt, rt.alloc(), &mut types, &mut others, &empty)
 }
 
 // Adds a resource of an interface that is another name of one.
@@ -255,16 +230,18 @@ fn root_of(types: &Types, id: ResourceId) -> Result<ResourceId, Fail> {
     Ok(types.resolve_resource(id))
 }
 
+fn check_owned<R: Abort>(rt: &R, alloc: Global, types: &mut Types) -> Result<(), Fail> {
+    let owner = add_interface(types, Interface::new(alloc))?;
+    let source = add_resource(alloc, types, "file")?;
+    let one = add_owned(alloc, types, owner, source)?;
+    let two = add_owned(alloc, types, owner, one)?;
+    assert!(rt; root_of(types, one)? == source);
+    assert!(rt; root_of(types, two)? == source);
+    Ok(())
+}
+
 #[test]
 fn a_resource_of_another_interface_leads_to_its_source(rt: HostRuntime) -> Result<(), Fail> {
-    let alloc = rt.alloc();
-    let mut types = Types::new(alloc, 1);
-    let owner = add_interface(&mut types, Interface::new(alloc))?;
-    let name = String::from_str(alloc, "file")?;
-    let source = types.add_resource(Resource { name, alias: None })?;
-    let one = add_owned(alloc, &mut types, owner, source)?;
-    let two = add_owned(alloc, &mut types, owner, one)?;
-    assert!(rt; root_of(&types, one)? == source);
-    assert!(rt; root_of(&types, two)? == source);
-    Ok(())
+    let mut types = Types::new(rt.alloc(), 1);
+    check_owned(&rt, rt.alloc(), &mut types)
 }

@@ -21,6 +21,10 @@ pub Each-right : (P : Key → Type 0) (xs ys : List Key) → Each P (xs ++ ys) �
 Each-right P [] ys h = h
 Each-right P (x ∷ xs) ys h = Each-right P xs ys h.1
 
+pub Each-append : (P : Key → Type 0) (xs ys : List Key) → Each P xs → Each P ys → Each P (xs ++ ys)
+Each-append P [] ys p q = q
+Each-append P (x ∷ xs) ys p q = (p.0, Each-append P xs ys p.1 q)
+
 pub Each-map : (P Q : Key → Type 0) → ((k : Key) → P k → Q k) → (ks : List Key) → Each P ks → Each Q ks
 Each-map P Q f [] h = tt
 Each-map P Q f (k ∷ ks) h = (f k h.0, Each-map P Q f ks h.1)

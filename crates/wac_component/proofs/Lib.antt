@@ -11,6 +11,9 @@ pub mod Members
 pub mod CloneLemmas
 pub mod Walks
 pub mod AnyBorrow
+pub mod ImportKeys
+pub mod LeafTrees
+pub mod ImplicitLemmas
 pub mod VisitLemmas
 pub mod Positions
 pub mod Returns

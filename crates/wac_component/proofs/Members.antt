@@ -21,11 +21,17 @@ keys_height-member c = largest-flat_map_at (height c) value_keys
 
 -- of interfaces and worlds
 
+pub uses_stand : (c : Collection) (e : InterfaceContent) → AllStand c (interface_keys e) → AllStand c (named_keys use_keys e.uses)
+uses_stand c e h = AllStand-left c (named_keys use_keys e.uses) (named_keys item_keys e.exports) h
+
 pub exports_stand : (c : Collection) (e : InterfaceContent) → AllStand c (interface_keys e) → AllStand c (named_keys item_keys e.exports)
 exports_stand c e h = AllStand-right c (named_keys use_keys e.uses) (named_keys item_keys e.exports) h
 
 pub exports_lower : (c : Collection) (e : InterfaceContent) → keys_height c (named_keys item_keys e.exports) ≤ keys_height c (interface_keys e)
 exports_lower c e = omega (arith, largest-append (height c) (named_keys use_keys e.uses) (named_keys item_keys e.exports))
+
+pub world_uses_stand : (c : Collection) (w : WorldContent) → AllStand c (world_keys w) → AllStand c (named_keys use_keys w.uses)
+world_uses_stand c w h = AllStand-left c (named_keys use_keys w.uses) (named_keys item_keys w.imports) (AllStand-left c (named_keys use_keys w.uses ++ named_keys item_keys w.imports) (named_keys item_keys w.exports) h)
 
 pub world_imports_stand : (c : Collection) (w : WorldContent) → AllStand c (world_keys w) → AllStand c (named_keys item_keys w.imports)
 world_imports_stand c w h = AllStand-right c (named_keys use_keys w.uses) (named_keys item_keys w.imports) (AllStand-left c (named_keys use_keys w.uses ++ named_keys item_keys w.imports) (named_keys item_keys w.exports) h)

@@ -145,6 +145,15 @@ entry_keys (interface_entry i) = interface_keys i
 entry_keys (world_entry w) = world_keys w
 entry_keys (module_entry m) = []
 
+-- the ids in what an entry imports, which only a world does, and in the rest of it
+abbrev pub import_keys : Entry → List Key
+import_keys (world_entry w) = named_keys item_keys w.imports
+import_keys e = []
+
+abbrev pub other_keys : Entry → List Key
+other_keys (world_entry w) = named_keys use_keys w.uses ++ named_keys item_keys w.exports
+other_keys e = entry_keys e
+
 -- the ids to which a walk goes from an id in one step
 abbrev pub next : Collection → Key → List Key
 next c k = optional_keys entry_keys (entry_at c k)

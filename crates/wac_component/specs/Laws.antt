@@ -1,14 +1,15 @@
 -- The laws of collections.
-use Rattle.std.specs.Prelude.{◌≡◌, Some, slice_get}
+use Rattle.std.specs.Prelude.{◌≡◌, ◌↔◌, ◌⊎◌, Some, slice_get}
 use Rattle.wac_model.specs.CoreTree.{ModuleTree}
 use Rattle.wac_model.specs.ItemTree.{item, composite, core_module, leaf, func, interface, world, no_items}
 use Rattle.wac_component.specs.Id.{Id}
 use Rattle.wac_component.specs.Collection.{Collection, DefinedContent, ResourceContent, FuncContent, InterfaceContent, WorldContent}
-use Rattle.wac_component.specs.Key.{Key, next, Stands, defined_key, resource_key, interface_key, world_key}
+use Rattle.wac_component.specs.Key.{Key, Entry, next, entry_keys, import_keys, other_keys, Stands, AllStand, value_keys, defined_key, resource_key, func_key, interface_key, world_key}
 use Rattle.wac_component.specs.Sound.{IsSound}
 use Rattle.wac_component.specs.Reach.{IsAmong, Reaches}
-use Rattle.wac_component.specs.Tree.{root_name, content_name, value_tree, content_tree, func_content_tree, item_tree, items_of}
+use Rattle.wac_component.specs.Tree.{root_name, content_name, value_tree, content_tree, func_tree, func_content_tree, item_tree, items_of}
 use Rattle.wac_component.specs.Growth.{Extends}
+use Rattle.wac_component.specs.declared.items.ValueType.{ValueType}
 use Rattle.wac_component.specs.declared.items.ValueType.TheVariants.{Defined}
 use Rattle.wac_component.specs.declared.items.ItemKind.TheVariants.{Func, Instance, Component, Module}
 
@@ -37,3 +38,23 @@ WalksStand = (c : Collection) → IsSound c → (k t : Key) → Stands c k → R
 -- no walk of a step or more leads back to its start
 abbrev pub NoWalkReturns : Type 0
 NoWalkReturns = (c : Collection) → IsSound c → (k j : Key) → Stands c k → IsAmong j (next c k) → Reaches c j k → ⊥
+
+-- the ids in an entry are those in what it imports and those in the rest of it
+abbrev pub ImportsAreApart : Type 0
+ImportsAreApart = (e : Entry) (k : Key) → IsAmong k (entry_keys e) ↔ (IsAmong k (import_keys e) ⊎ IsAmong k (other_keys e))
+
+-- d has the resources, defined types and functions of c, whatever else it has
+pub record HasLeavesOf (c d : Collection) : Type 0 where
+  pub number : d.number ≡ c.number
+  pub resources : d.resources ≡ c.resources
+  pub defined : d.defined ≡ c.defined
+  pub funcs : d.funcs ≡ c.funcs
+
+-- the resources, values and functions of c stand for the same in d
+pub record KeepsLeaves (c d : Collection) : Type 0 where
+  pub names : (r : Id) → Stands c (resource_key r) → root_name c r ≡ root_name d r
+  pub values : (v : ValueType) → AllStand c (value_keys v) → value_tree c v ≡ value_tree d v
+  pub funcs : (p : Id) → Stands c (func_key p) → func_tree c p ≡ func_tree d p
+
+abbrev pub LeavesDependOnLeaves : Type 0
+LeavesDependOnLeaves = (c d : Collection) → IsSound c → IsSound d → HasLeavesOf c d → KeepsLeaves c d

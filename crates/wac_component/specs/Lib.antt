@@ -10,6 +10,7 @@ pub mod Tree
 pub mod Growth
 pub mod Borrow
 pub mod Items
+pub mod Implicit
 pub mod Visits
 pub mod Replacing
 pub mod Naming

@@ -1,6 +1,6 @@
 //! Laws of collections. Each is the contract of a function that does nothing.
 
-ghost use Rattle.wac_component.specs.Laws.{IsReflexive, IsTransitive, TreesFollowEntries, WalksStand, NoWalkReturns};
+ghost use Rattle.wac_component.specs.Laws.{IsReflexive, IsTransitive, TreesFollowEntries, ImportsAreApart, LeavesDependOnLeaves, WalksStand, NoWalkReturns};
 
 /// A collection extends itself.
 pub fn growth_is_reflexive()
@@ -25,4 +25,15 @@ pub fn walks_stand()
 /// In a sound collection no walk along ids leads back to its start.
 pub fn no_walk_returns()
     ensures { NoWalkReturns }
+{}
+
+/// The ids in an entry are those in what it imports and those in the rest of it.
+pub fn imports_are_apart()
+    ensures { ImportsAreApart }
+{}
+
+/// What resources, values and functions stand for depends on the lists of these alone: where two
+/// sound collections have them in common, it is the same in both.
+pub fn leaves_depend_on_leaves()
+    ensures { LeavesDependOnLeaves }
 {}

@@ -172,7 +172,7 @@ fn visit_cases<E: Drop, F: FnMut(&Types, DefinedTypeId) -> Result<(), E>>(
     Ok(())
 }
 
-fn value_at<V>(map: &IndexMap<String, V>, index: usize) -> &V
+pub(crate) fn value_at<V>(map: &IndexMap<String, V>, index: usize) -> &V
     requires { index < length map.now.entries }
     ensures { slice_get (types_of map.now.entries) index ≡ Some result.now }
 {

@@ -39,6 +39,6 @@ IsMissingCoreImport (fault.MissingCoreImport k m n c) sort name check = (k.now �
 IsMissingCoreImport _ sort name check = ⊥
 
 -- the fault of an export of this sort and name that this holder lacks, in this direction
-abbrev pub IsMissingExport : Fault → Text → Text → Text → SubtypeCheck → Type 0
-IsMissingExport (fault.MissingExport h k n c) holder sort name check = (h.now ≡ holder) × (k.now ≡ sort) × (string_bytes n ≡ name) × (c ≡ check)
-IsMissingExport _ holder sort name check = ⊥
+abbrev pub IsMissingExport : Text → Text → Text → SubtypeCheck → Fault → Type 0
+IsMissingExport holder sort name check (fault.MissingExport h k n c) = (h.now ≡ holder) × (k.now ≡ sort) × (string_bytes n ≡ name) × (c ≡ check)
+IsMissingExport holder sort name check _ = ⊥

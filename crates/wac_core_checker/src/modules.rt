@@ -89,7 +89,7 @@ fn export_of<'a>(of: &'a ModuleType, name: &String) -> Option<&'a CoreExtern>
 
 // The fault of an export that is missing.
 fn export_fault(check: SubtypeCheck, name: &String, asked: &CoreExtern) -> Result<Fault, AllocError>
-    ensures { IfOk result (λ f. IsMissingExport f (codes "module") (core_extern_text (core_tree asked.now)) (string_bytes name.now) check) }
+    ensures { IfOk result (IsMissingExport (codes "module") (core_extern_text (core_tree asked.now)) (string_bytes name.now) check) }
 {
     Ok(Fault::MissingExport {
         holder: "module",

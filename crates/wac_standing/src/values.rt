@@ -1,6 +1,6 @@
 //! Defined types and functions.
 
-ghost use Rattle.std.specs.Prelude.{◌≡◌, ◌<◌, length, slice_get, IsTrue, Some};
+ghost use Rattle.std.specs.Prelude.{◌≡◌, ◌↔◌, ◌<◌, length, slice_get, IsTrue, Some};
 ghost use Rattle.std.specs.List.{flat_map};
 ghost use Rattle.std.specs.Option.{option_to_list};
 ghost use Rattle.wac_types.specs.Content.{defined_content, func_content, types_of, case_types};
@@ -11,7 +11,7 @@ use wac_types::{DefinedType, FuncType, Type, Types, ValueType};
 
 // Whether what an optional type names stands in a collection.
 fn optional_stands(types: &Types, ty: &Option<ValueType>) -> bool
-    ensures { IsTrue result → AllStand types.now (flat_map value_keys (option_to_list ty.now)) }
+    ensures { IsTrue result ↔ AllStand types.now (flat_map value_keys (option_to_list ty.now)) }
 {
     match ty {
         Some(ty) => types.contains(Type::Value(*ty)),
@@ -21,7 +21,7 @@ fn optional_stands(types: &Types, ty: &Option<ValueType>) -> bool
 
 // Whether the items of a tuple stand in a collection.
 fn items_stand(types: &Types, items: &[ValueType]) -> bool
-    ensures { IsTrue result → AllStand types.now (flat_map value_keys items.now) }
+    ensures { IsTrue result ↔ AllStand types.now (flat_map value_keys items.now) }
 {
     for i in 0..items.len() {
         if !types.contains(Type::Value(item_at(items, i))) {
@@ -40,7 +40,7 @@ fn item_at(items: &[ValueType], index: usize) -> ValueType
 
 // Whether the types of fields or parameters stand in a collection.
 fn fields_stand(types: &Types, fields: &IndexMap<String, ValueType>) -> bool
-    ensures { IsTrue result → AllStand types.now (flat_map value_keys (types_of fields.now.entries)) }
+    ensures { IsTrue result ↔ AllStand types.now (flat_map value_keys (types_of fields.now.entries)) }
 {
     for i in 0..fields.len() {
         if !types.contains(Type::Value(field_at(fields, i))) {
@@ -60,7 +60,7 @@ fn field_at(fields: &IndexMap<String, ValueType>, index: usize) -> ValueType
 
 // Whether the types of cases stand in a collection.
 fn cases_stand(types: &Types, cases: &IndexMap<String, Option<ValueType>>) -> bool
-    ensures { IsTrue result → AllStand types.now (flat_map value_keys (case_types cases.now.entries)) }
+    ensures { IsTrue result ↔ AllStand types.now (flat_map value_keys (case_types cases.now.entries)) }
 {
     for i in 0..cases.len() {
         if !optional_stands(types, case_at(cases, i)) {
@@ -80,7 +80,7 @@ fn case_at(cases: &IndexMap<String, Option<ValueType>>, index: usize) -> &Option
 
 /// Whether what a defined type names stands in a collection.
 pub fn members_stand(types: &Types, ty: &DefinedType) -> bool
-    ensures { IsTrue result → AllStand types.now (defined_keys (defined_content ty.now)) }
+    ensures { IsTrue result ↔ AllStand types.now (defined_keys (defined_content ty.now)) }
 {
     match ty {
         DefinedType::Tuple(items) => items_stand(types, items),
@@ -100,7 +100,7 @@ pub fn members_stand(types: &Types, ty: &DefinedType) -> bool
 
 /// Whether what a function names stands in a collection.
 pub fn func_stands(types: &Types, func: &FuncType) -> bool
-    ensures { IsTrue result → AllStand types.now (func_keys (func_content func.now)) }
+    ensures { IsTrue result ↔ AllStand types.now (func_keys (func_content func.now)) }
 {
     fields_stand(types, &func.params) && optional_stands(types, &func.result)
 }

@@ -1,5 +1,6 @@
 //! Types of WebAssembly components: collections of them, which type fits where another is asked
-//! for, and which names with versions are compatible.
+//! for, which names with versions are compatible, packages, and which component fits a target
+//! world.
 #![tactic(auto)]
 
 pub use wac_checker::SubtypeChecker;
@@ -15,4 +16,9 @@ pub use wac_mismatch::{
 pub use wac_model::PrimitiveType;
 pub use wac_names::{
     NameError, NameMap, NameMapIntern, NameMapNoIntern, are_semver_compatible, track_of,
+};
+pub use wac_package::{BorrowedKey, BorrowedPackageKey, Package, PackageKey, same_key};
+pub use wac_targets::{
+    ImportsNotInTarget, MismatchedTypes, MissingExports, TargetError, TargetValidationReport,
+    TargetValidationResult, validate_target,
 };

@@ -1,0 +1,3 @@
+mod Labels
+mod Paths
+mod Defined

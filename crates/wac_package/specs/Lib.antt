@@ -1,0 +1,5 @@
+pub mod Key
+pub mod KeyLaws
+pub mod InterfaceName
+pub mod Package
+pub mod Definitions

@@ -1,0 +1,3 @@
+pub use Rattle.wac_types.specs.Content
+pub use Rattle.wac_types.specs.Key
+pub mod Asking

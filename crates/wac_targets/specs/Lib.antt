@@ -1,0 +1,5 @@
+pub mod Wanted
+pub mod Named
+pub mod Parts
+pub mod Report
+pub mod Noting

@@ -1,0 +1,15 @@
+//! Whether a component fits a target world, and a report of what doesn't.
+#![tactic(auto)]
+
+mod checks;
+mod imports;
+mod report;
+mod target;
+mod texts;
+
+pub use report::{
+    ImportsNotInTarget, MismatchedTypes, MissingExports, TargetValidationReport,
+    TargetValidationResult,
+};
+pub use target::validate_target;
+pub use wac_component::TargetError;
