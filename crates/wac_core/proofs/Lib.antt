@@ -1,1 +1,2 @@
 pub mod CloneLemmas
+pub mod TypeLemmas

@@ -1,3 +1,2 @@
-pub mod TypeLemmas
 pub mod ExternLemmas
 pub mod ModuleLemmas

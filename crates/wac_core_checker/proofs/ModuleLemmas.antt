@@ -4,7 +4,7 @@ use Rattle.std.specs.Str.{bytes_eq}
 use Rattle.std.specs.Bool.{Decides}
 use Rattle.std.proofs.lemmas.Slice.Eq.{bytes_eq-Decides}
 use Rattle.wac_model.specs.Text.{ImportName, import_name_eq}
-use Rattle.wac_core_checker.proofs.TypeLemmas.{and_left, and_right, and_both}
+use Rattle.wac_core.proofs.TypeLemmas.{and_left, and_right, and_both}
 
 pub import_name_eq-Decides : (m n : ImportName) → Decides (import_name_eq m n) (m ≡ n)
 import_name_eq-Decides m n =

@@ -1,7 +1,7 @@
 use Rattle.std.proofs.Common.{sym, ◌∙◌, Bor}
 use Rattle.wac_core.specs.Content.{func_content}
 use Rattle.wac_core.specs.declared.values.CoreFuncType.{CoreFuncType}
-use Rattle.wac_core_checker.proofs.TypeLemmas.{func_decides}
+use Rattle.wac_core.proofs.TypeLemmas.{func_decides}
 use Rattle.wac_core_checker.proofs.ExternLemmas.{differ_turned}
 use Rattle.wac_core_checker.proofs.externs.same_funcs.Goals as goal
 

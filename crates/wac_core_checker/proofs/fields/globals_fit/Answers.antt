@@ -1,5 +1,5 @@
 use Rattle.std.proofs.Common.{◌≡◌, rules, refl}
-use Rattle.wac_core_checker.proofs.TypeLemmas.{type_exact, was_true}
+use Rattle.wac_core.proofs.TypeLemmas.{type_exact, was_true}
 use Rattle.wac_core_checker.proofs.fields.globals_fit.Goals as goal
 
 pub returns : goal.returns
