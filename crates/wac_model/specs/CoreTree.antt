@@ -20,6 +20,7 @@ pub data HeapTree : Type 0 where
   noexn : HeapTree
   cont : HeapTree
   nocont : HeapTree
+  deriving Discrete as HeapTree-discrete
 
 -- a reference type
 pub record RefTree : Type 0 where
@@ -34,6 +35,7 @@ pub data CoreTypeTree : Type 0 where
   f64 : CoreTypeTree
   v128 : CoreTypeTree
   ref : (of : RefTree) → CoreTypeTree
+  deriving Discrete as CoreTypeTree-discrete
 
 -- how many elements a table has, or a memory pages; no maximum is the greatest
 pub record Limits : Type 0 where
@@ -45,11 +47,13 @@ pub data CoreLabel : Type 0 where
   func : (params results : List CoreTypeTree) → CoreLabel
   tag : (params results : List CoreTypeTree) → CoreLabel
   global : (val_type : CoreTypeTree) → (mutable shared : Bool) → CoreLabel
+  deriving Discrete as CoreLabel-discrete
 
 -- a core extern that has limits, but for them
 pub data LimitedLabel : Type 0 where
   table : (element : RefTree) → (table64 shared : Bool) → LimitedLabel
   memory : (memory64 shared : Bool) → (page_size_log2 : Option ℕ) → LimitedLabel
+  deriving Discrete as LimitedLabel-discrete
 
 -- what a core module imports or exports
 pub data CoreTree : Type 0 where

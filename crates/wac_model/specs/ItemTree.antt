@@ -9,17 +9,20 @@ use Rattle.wac_model.specs.CoreTree.{ModuleTree}
 pub data Kind : Type 0 where
   item : Kind
   type_item : Kind
+  deriving Discrete as Kind-discrete
 
 -- an item with no items below it
 pub data Leaf : Type 0 where
   resource : (name : Text) → Leaf
   func : (of : FuncTree) → Leaf
   value : (of : ValueTree) → Leaf
+  deriving Discrete as Leaf-discrete
 
 -- an interface (an instance type), or a world (a component type)
 pub data Shape : Type 0 where
   interface : Shape
   world : Shape
+  deriving Discrete as Shape-discrete
 
 -- an item, with what it imports and exports; an interface imports nothing
 mutual

@@ -23,15 +23,18 @@ pub data ValueLabel : Type 0 where
   -- whether there is a payload
   stream : (payload : Bool) → ValueLabel
   future : (payload : Bool) → ValueLabel
+  deriving Discrete as ValueLabel-discrete
 
 -- a value type: its label, and its parts in order
 mutual
   pub data ValueTree : Type 0 where
     node : (label : ValueLabel) → (parts : ValueTrees) → ValueTree
+    deriving Discrete as ValueTree-discrete
 
   pub data ValueTrees : Type 0 where
     no_parts : ValueTrees
     part : (first : ValueTree) → (others : ValueTrees) → ValueTrees
+    deriving Discrete as ValueTrees-discrete
 
 -- a list of trees, as parts
 abbrev pub parts_of : List ValueTree → ValueTrees

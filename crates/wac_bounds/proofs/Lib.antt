@@ -1,0 +1,13 @@
+pub mod Decide
+pub mod Cases
+pub mod MeetOf
+pub mod Entries
+pub mod LimitsMeet
+pub mod CoreMeet
+pub mod ModuleBounds
+pub mod ModuleMeet
+pub mod CompositeBounds
+pub mod TreeMeet
+pub mod TreeMeetIs
+pub mod ListMeet
+pub mod Bounds
