@@ -1,1 +1,4 @@
 pub mod NameLemmas
+pub mod ExternLemmas
+pub mod EntryLemmas
+pub mod ModuleLemmas

@@ -31,8 +31,8 @@ module _ {K V : Type 0} (is_same : K → K → Bool) where
   pub with_new-present : (es : List (K × V)) (n : K) (v : V) → is_some (lookup_by (is_same n) es) ≡ true → with_new is_same es ((n, v) ∷ []) ≡ es
   with_new-present es n v h = ap (λ b. es ++ cond (not b) ((n, v) ∷ []) []) (ap is_some (lookup-by_test es n) ∙ h) ∙ append-nil es
 
-  pub with_new-absent : (es : List (K × V)) (n : K) (v : V) → lookup_by (is_same n) es ≡ None → with_new is_same es ((n, v) ∷ []) ≡ es ++ (n, v) ∷ []
-  with_new-absent es n v h = ap (λ (o : Option V). es ++ cond (not (is_some o)) ((n, v) ∷ []) []) (lookup-by_test es n ∙ h)
+  pub with_new-absent : (es : List (K × V)) (n : K) (v : V) → lookup is_same es n ≡ None → with_new is_same es ((n, v) ∷ []) ≡ es ++ (n, v) ∷ []
+  with_new-absent es n v h = ap (λ (o : Option V). es ++ cond (not (is_some o)) ((n, v) ∷ []) []) h
 
   pub lookup-append : (es ts : List (K × V)) (n : K) → lookup is_same (es ++ ts) n ≡ option_or (lookup is_same es n) (lookup is_same ts n)
   lookup-append [] ts n = refl
@@ -99,10 +99,17 @@ module _ {K V : Type 0} {eq : K → K → Bool} (laws : IsEquivalence eq) where
       let apart : eq e.0 x.0 ≡ false = laws.symm e.0 x.0 ∙ ByRecursion-middle (λ k. eq x.0 k ≡ false) es e rest (IsDistinct-head eq x.0 (keys_of (es ++ e ∷ rest)) h) in
       rw apart (absent_before es e rest (IsDistinct-tail eq x.0 (keys_of (es ++ e ∷ rest)) h))
 
+  -- a look-up of a name finds what it has
+  pub lookup_at_turn : (all done rest left : List (K × V)) (e : K × V) → IsDistinct eq (keys_of all) → all ≡ done ++ rest → rest ≡ e ∷ left → lookup eq all e.0 ≡ Some e.1
+  lookup_at_turn all done rest left e distinct split here =
+      let whole : all ≡ done ++ e ∷ left = split ∙ ap (λ l. done ++ l) here in
+      let absent = absent_before done e left (subst (λ l. IsDistinct eq (keys_of l)) whole distinct) in
+      ap (λ l. lookup eq l e.0) whole ∙ lookup-append eq done (e ∷ left) e.0 ∙ ap (λ o. option_or o (lookup eq (e ∷ left) e.0)) absent ∙ ap (λ b. cond b (Some e.1) (lookup eq left e.0)) (laws.refl e.0)
+
   -- one more of a list that is taken entry by entry
-  pub turn : (all done rest left es so_far new : List (K × V)) (e : K × V) → IsDistinct eq (keys_of all) → all ≡ done ++ rest → rest ≡ e ∷ left
+  pub with_new-turn : (all done rest left es so_far new : List (K × V)) (e : K × V) → IsDistinct eq (keys_of all) → all ≡ done ++ rest → rest ≡ e ∷ left
       → so_far ≡ with_new eq es done → new ≡ with_new eq so_far (e ∷ []) → (all ≡ (done ++ e ∷ []) ++ left) × (new ≡ with_new eq es (done ++ e ∷ []))
-  turn all done rest left es so_far new e distinct split here so_far_is new_is =
+  with_new-turn all done rest left es so_far new e distinct split here so_far_is new_is =
       let whole : all ≡ done ++ e ∷ left = split ∙ ap (λ l. done ++ l) here in
       let absent = absent_before done e left (subst (λ l. IsDistinct eq (keys_of l)) whole distinct) in
       (whole ∙ sym (append_assoc done (e ∷ []) left), new_is ∙ ap (λ l. with_new eq l (e ∷ [])) so_far_is ∙ with_new-push eq es done e absent)
@@ -133,6 +140,15 @@ module _ {K L V W : Type 0} (show_key : K → L) (show : V → W) (eq : K → K 
   map-append : (es ts : List (K × V)) → map shown (es ++ ts) ≡ map shown es ++ map shown ts
   map-append [] ts = refl
   map-append (e ∷ es) ts = ap (λ l. shown e ∷ l) (map-append es ts)
+
+  keys_apart : (k : K) (es : List (K × V)) → AllByRecursion (λ l. eq k l ≡ false) (keys_of es) → AllByRecursion (λ l. is_same (show_key k) l ≡ false) (keys_of (map shown es))
+  keys_apart k [] h = tt
+  keys_apart k (e ∷ es) h = (sym (agree k e.0) ∙ h.0, keys_apart k es h.1)
+
+  pub IsDistinct-shown : (es : List (K × V)) → IsDistinct eq (keys_of es) → IsDistinct is_same (keys_of (map {A = K × V} {B = L × W} (λ e. (show_key e.0, show e.1)) es))
+  unfolding IsDistinct
+  IsDistinct-shown [] h = tt
+  IsDistinct-shown (e ∷ es) h = (keys_apart e.0 es h.0, IsDistinct-shown es h.1)
 
   -- what two lists show, put together, is what they show when put together
   pub with_new-shown : (es ts : List (K × V)) → map {A = K × V} {B = L × W} (λ e. (show_key e.0, show e.1)) (with_new eq es ts)

@@ -1,1 +1,4 @@
+pub mod Limits
 pub mod Names
+pub mod Entries
+pub mod Origin
