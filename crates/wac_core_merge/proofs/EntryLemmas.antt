@@ -1,5 +1,5 @@
 -- Lists of named values whose values are replaced or left out: what a look-up finds there.
-use Rattle.std.proofs.Common.{◌≡◌, refl, sym, ap, subst, ◌∙◌, Bool, true, false, cond, List, [], ◌∷◌, ◌++◌, map, Option, None, Some, option_map, All}
+use Rattle.std.proofs.Common.{◌≡◌, refl, sym, ap, subst, ◌∙◌, Bool, true, false, cond, List, [], ◌∷◌, ◌++◌, map, filter, is_some, Option, None, Some, option_map, All}
 use Rattle.std.specs.Bool.{Decides}
 use Rattle.std.specs.Cmp.{IsEquivalence}
 use Rattle.std.specs.List.{IsDistinct, AllByRecursion}
@@ -10,12 +10,22 @@ use Rattle.std.proofs.lemmas.Map.Keys.{IsDistinct-head, IsDistinct-tail}
 use Rattle.wac_model.specs.Text.{lookup}
 use Rattle.wac_core_merge.specs.Names.{put, with_new}
 use Rattle.wac_core_merge.specs.Entries.{Replaces}
+use Rattle.wac_core_merge.specs.NameOrder.{HasSomeNames}
 use Rattle.wac_core_merge.proofs.NameLemmas.{absent_before, with_new-absent}
 
 module _ {K V : Type 0} where
   put-append : (n : K) (o : Option V) (es ts : List (K × V)) → put n o es ++ ts ≡ put n o (es ++ ts)
   put-append n None es ts = refl
   put-append n (Some v) es ts = refl
+
+  -- what replaces each value keeps the names
+  pub Replaces-names : (R : K → V → Option V → Type 0) → ((k : K) (v : V) → R k v None → ⊥) → (es ms : List (K × V)) → Replaces R es ms → keys_of ms ≡ keys_of es
+  Replaces-names R kept [] ms h = ap keys_of h
+  Replaces-names R kept (e ∷ es) ms h = go h.0 h.2 h.4 (Replaces-names R kept es h.1 h.3)
+    where
+      go : (o : Option V) → R e.0 e.1 o → ms ≡ put e.0 o h.1 → keys_of h.1 ≡ keys_of es → keys_of ms ≡ e.0 ∷ keys_of es
+      go None r is names = absurd (kept e.0 e.1 r)
+      go (Some v) r is names = ap keys_of is ∙ ap (λ ns. e.0 ∷ ns) names
 
   Replaces-push : (R : K → V → Option V → Type 0) (es ms : List (K × V)) (e : K × V) (o : Option V) → Replaces R es ms → R e.0 e.1 o → Replaces R (es ++ e ∷ []) (ms ++ put e.0 o [])
   Replaces-push R [] ms e o h r = (o, [], r, refl, ap (λ l. l ++ put e.0 o []) h)
@@ -63,6 +73,13 @@ module _ {K V : Type 0} where
       pushed None h = refl
       pushed (Some v) h = with_new-absent eq so_far e.0 v h
 
+apart_turned : {K : Type 0} (is_same : K → K → Bool) → ((m n : K) → Decides (is_same m n) (m ≡ n)) → (m n : K) → is_same m n ≡ false → is_same n m ≡ false
+apart_turned is_same decides m n h = go (is_same n m) refl
+  where
+    go : (b : Bool) → is_same n m ≡ b → b ≡ false
+    go false p = refl
+    go true p = let there : is_same m n ≡ true = (decides m n).1 (sym ((decides n m).0 p)) in absurd (cc)
+
 module _ {K V : Type 0} (is_same : K → K → Bool) (decides : (m n : K) → Decides (is_same m n) (m ≡ n)) where
   lookup-put_here : (n : K) (o : Option V) (es : List (K × V)) → lookup is_same es n ≡ None → lookup is_same (put n o es) n ≡ o
   lookup-put_here n None es h = h
@@ -81,6 +98,28 @@ module _ {K V : Type 0} (is_same : K → K → Bool) (decides : (m n : K) → De
           let found : lookup is_same ms e.0 ≡ h.0 = ap (λ l. lookup is_same l e.0) h.4 ∙ lookup-put_here e.0 h.0 h.1 absent in
           subst (λ m. R m v (lookup is_same ms m)) (sym same) (subst (λ o. R e.0 v o) (sym found) (subst (λ u. R e.0 u h.0) value h.2))
       go false p g f = subst (R n v) (sym (ap (λ l. lookup is_same l n) h.4 ∙ lookup-put_past is_same e.0 n h.0 h.1 p)) (f g)
+
+  filter-put : (n : K) (o : Option V) (es : List (K × V)) (ns : List K) → AllByRecursion (λ m. is_same n m ≡ false) ns
+      → filter (λ m. is_some (lookup is_same es m)) ns ≡ filter (λ m. is_some (lookup is_same (put n o es) m)) ns
+  filter-put n o es [] h = refl
+  filter-put n o es (m ∷ ns) h =
+      λ i. cond (is_some (sym (lookup-put_past is_same n m o es (apart_turned is_same decides n m h.0)) i)) (m ∷ filter-put n o es ns h.1 i) (filter-put n o es ns h.1 i)
+
+  -- what replaces a list has some of its names, in the same order
+  pub Replaces-some_names : (R : K → V → Option V → Type 0) (es ms : List (K × V)) → IsDistinct is_same (keys_of es) → Replaces R es ms → HasSomeNames is_same es ms
+  Replaces-some_names R [] ms d h = ap keys_of h
+  Replaces-some_names R (e ∷ es) ms d h =
+      let apart = IsDistinct-head is_same e.0 (keys_of es) d in
+      let absent = Replaces-absent is_same R es h.1 e.0 h.3 (absent_from is_same e.0 es apart) in
+      let rest = Replaces-some_names R es h.1 (IsDistinct-tail is_same e.0 (keys_of es) d) h.3 in
+      subst (HasSomeNames is_same (e ∷ es)) (sym h.4) (go h.0 (lookup-put_here e.0 h.0 h.1 absent) (rest ∙ filter-put e.0 h.0 h.1 (keys_of es) apart))
+    where
+      go : (o : Option V) → lookup is_same (put e.0 o h.1) e.0 ≡ o → keys_of h.1 ≡ filter (λ n. is_some (lookup is_same (put e.0 o h.1) n)) (keys_of es)
+          → keys_of (put e.0 o h.1) ≡ filter (λ n. is_some (lookup is_same (put e.0 o h.1) n)) (e.0 ∷ keys_of es)
+      go None p g = g ∙ ap (λ x. cond (is_some x) (e.0 ∷ filter (λ n. is_some (lookup is_same h.1 n)) (keys_of es)) (filter (λ n. is_some (lookup is_same h.1 n)) (keys_of es))) (sym p)
+      go (Some v) p g =
+          let kept : List K = filter (λ n. is_some (lookup is_same ((e.0, v) ∷ h.1) n)) (keys_of es) in
+          ap (λ ns. e.0 ∷ ns) g ∙ ap (λ x. cond (is_some x) (e.0 ∷ kept) kept) (sym p)
 
   -- a look-up of each entry's name finds that entry
   pub All-found : (es : List (K × V)) → IsDistinct is_same (keys_of es) → All (λ e. lookup is_same es e.0 ≡ Some e.1) es

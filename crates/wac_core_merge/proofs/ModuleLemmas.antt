@@ -21,9 +21,10 @@ use Rattle.wac_core.proofs.CloneLemmas.{entries-clones, import_name-same}
 use Rattle.wac_core.specs.declared.externs.CoreExtern.{CoreExtern}
 use Rattle.wac_core_merge.specs.Names.{put, with_new}
 use Rattle.wac_core_merge.specs.Entries.{IsMeetAt, IsJoinAt, Replaces, extern_at, IsEachMet, IsEachJoined, HasNoMeet, AreAllMet}
+use Rattle.wac_core_merge.specs.NameOrder.{HasAllNames, HasSomeNames}
 use Rattle.wac_core_merge.specs.Origin.{IsFrom, from_first, from_second, from_meet, from_join}
-use Rattle.wac_core_merge.proofs.NameLemmas.{lookup-by_test, lookup_at_turn, All-with_new, lookup-with_new, with_new-shown, IsDistinct-shown}
-use Rattle.wac_core_merge.proofs.EntryLemmas.{Replaces-turn, Replaces-absent, Replaces-All, Replaces-at, All-found, Replaces-shown}
+use Rattle.wac_core_merge.proofs.NameLemmas.{lookup-by_test, lookup_at_turn, All-with_new, lookup-with_new, with_new-shown, keys-with_new, IsDistinct-shown}
+use Rattle.wac_core_merge.proofs.EntryLemmas.{Replaces-turn, Replaces-absent, Replaces-All, Replaces-at, Replaces-names, Replaces-some_names, All-found, Replaces-shown}
 
 met_from : (a b : Option CoreTree) (v w : CoreTree) → a ≡ Some v → IsMeetAt (Some v) b (Some w) → IsFrom a b w
 met_from a None v w at m = from_first (at ∙ ap Some (CoreFits-antisym v w (m.2 (Some v) (CoreFits-refl v) tt) m.0))
@@ -67,6 +68,9 @@ module _ {K : Type 0} (is_same : K → K → Bool) (decides : (m n : K) → Deci
       (Replaces-All is_same MeetHere ComesFrom es each h
         (All-weaker (λ e. lookup is_same es e.0 ≡ Some e.1) (λ e. (v : CoreTree) → MeetHere e.0 e.1 (Some v) → ComesFrom (e.0, v)) (λ e at v m. met_from _ _ e.1 v at m) es (All-found is_same decides es distinct)))
       (All-weaker (λ t. lookup is_same ts t.0 ≡ Some t.1) ComesFrom (λ t. from_second) ts (All-found is_same decides ts distinct_too))
+
+  meets_names : (each : List (K × CoreTree)) → Replaces MeetHere es each → HasAllNames is_same es ts (with_new is_same each ts)
+  meets_names each h = keys-with_new is_same each es ts (Replaces-names MeetHere (λ k v m. m.0) es each h)
 
   joins_from : (ms : List (K × CoreTree)) → Replaces JoinHere es ms → All ComesFrom ms
   joins_from ms h =
@@ -137,6 +141,19 @@ module _ {K L : Type 0} (show_key : K → L) (eq : K → K → Bool) (is_same : 
             (subst (λ l. All (λ e. IsFrom (lookup is_same (shown es) e.0) (lookup is_same l e.0) e.1) (shown ms)) second
             (subst (All (λ e. IsFrom (lookup is_same (shown es) e.0) (lookup is_same (shown ts) e.0) e.1)) (sym is)
             (meets_from is_same decides (shown es) (shown ts) distinct_names (shown h.0) (each_met h.0 h.1) (IsDistinct-shown show_key core_tree eq is_same agree ts distinct_too))))
+
+        pub meet_names : AreAllMet eq es ts (Some ms) → HasAllNames is_same xs ys (shown ms)
+        meet_names h =
+            let is : shown ms ≡ with_new is_same (shown h.0) (shown ts) = ap shown h.2 ∙ with_new-shown show_key core_tree eq is_same agree h.0 ts in
+            subst (λ l. HasAllNames is_same l ys (shown ms)) first
+            (subst (λ l. HasAllNames is_same (shown es) l (shown ms)) second
+            (subst (HasAllNames is_same (shown es) (shown ts)) (sym is)
+            (meets_names is_same decides (shown es) (shown ts) distinct_names (shown h.0) (each_met h.0 h.1))))
+
+        pub join_names : IsEachJoined eq es ts ms → HasSomeNames is_same xs (shown ms)
+        join_names h =
+            subst (λ l. HasSomeNames is_same l (shown ms)) first
+            (Replaces-some_names is_same decides (λ n v o. IsJoinAt (Some v) (lookup is_same (shown ts) n) o) (shown es) (shown ms) distinct_names (each_joined ms h))
 
         pub join_at : IsEachJoined eq es ts ms → (n : L) → IsJoinAt (lookup is_same xs n) (lookup is_same ys n) (lookup is_same (shown ms) n)
         join_at h n =

@@ -2,12 +2,13 @@
 use Rattle.std.proofs.Common.{◌≡◌, ◌⊎◌, inl, inr, refl, sym, ap, subst, ◌∙◌, Bool, true, false, not, cond, List, [], ◌∷◌, ◌++◌, map, filter, Option, None, Some, is_some, option_map, Contains, All}
 use Rattle.std.specs.Bool.{Decides}
 use Rattle.std.specs.Cmp.{IsEquivalence}
-use Rattle.std.specs.List.{IsDistinct, AllByRecursion}
+use Rattle.std.specs.List.{IsDistinct, AllByRecursion, list_any}
 use Rattle.std.specs.Option.{option_or}
 use Rattle.std.specs.Map.{keys_of, lookup as lookup_by}
-use Rattle.std.proofs.lemmas.List.{append_assoc, append-nil}
-use Rattle.std.proofs.lemmas.List.Elements.{filter-append, All-append, All-filter, All-weaker, All-contains, All-contains_itself}
+use Rattle.std.proofs.lemmas.List.{append_assoc, append-nil, map-append}
+use Rattle.std.proofs.lemmas.List.Elements.{filter-append, filter_agree, All-append, All-filter, All-weaker, All-contains, All-contains_itself}
 use Rattle.std.proofs.lemmas.Map.Entries.{lookup-filter-keys}
+use Rattle.std.proofs.lemmas.Map.Made.{is_some-lookup}
 use Rattle.std.proofs.lemmas.Map.Keys.{IsDistinct-head, IsDistinct-tail}
 use Rattle.wac_model.specs.Text.{lookup}
 use Rattle.wac_model.proofs.Lookups.{lookup-shown}
@@ -86,6 +87,17 @@ module _ {K V : Type 0} (is_same : K → K → Bool) (decides : (m n : K) → De
       go (Some v) h = refl
       go None h = lookup-by_test is_same news n ∙ lookup-filter-keys (is_same n) (is_new is_same es) true (kept h) ts ∙ sym (lookup-by_test is_same ts n)
 
+module _ {K V : Type 0} (is_same : K → K → Bool) where
+  is_new-names : (es : List (K × V)) (n : K) → is_new is_same es n ≡ not (list_any (is_same n) (keys_of es))
+  is_new-names es n = ap not (ap is_some (lookup-by_test is_same es n) ∙ is_some-lookup (is_same n) es)
+
+  -- which names are new depends on the names alone
+  pub keys-with_new : (es fs ts : List (K × V)) → keys_of es ≡ keys_of fs → keys_of (with_new is_same es ts) ≡ keys_of (with_new is_same fs ts)
+  keys-with_new es fs ts h =
+      let new_of : List (K × V) → K × V → Bool = λ l t. is_new is_same l t.0 in
+      let agree : (t : K × V) → new_of es t ≡ new_of fs t = λ t. is_new-names es t.0 ∙ ap (λ ks. not (list_any (is_same t.0) ks)) h ∙ sym (is_new-names fs t.0) in
+      map-append (λ e. e.0) es (filter (new_of es) ts) ∙ (λ i. h i ++ keys_of (filter_agree (new_of es) (new_of fs) agree ts i)) ∙ sym (map-append (λ e. e.0) fs (filter (new_of fs) ts))
+
 -- the keys of a list, none of which is equal to another
 module _ {K V : Type 0} {eq : K → K → Bool} (laws : IsEquivalence eq) where
   ByRecursion-middle : (P : K → Type 0) (es : List (K × V)) (e : K × V) (rest : List (K × V)) → AllByRecursion P (keys_of (es ++ e ∷ rest)) → P e.0
@@ -137,10 +149,6 @@ module _ {K L V W : Type 0} (show_key : K → L) (show : V → W) (eq : K → K 
       go true h = ap (λ l. shown t ∷ l) h
       go false h = h
 
-  map-append : (es ts : List (K × V)) → map shown (es ++ ts) ≡ map shown es ++ map shown ts
-  map-append [] ts = refl
-  map-append (e ∷ es) ts = ap (λ l. shown e ∷ l) (map-append es ts)
-
   keys_apart : (k : K) (es : List (K × V)) → AllByRecursion (λ l. eq k l ≡ false) (keys_of es) → AllByRecursion (λ l. is_same (show_key k) l ≡ false) (keys_of (map shown es))
   keys_apart k [] h = tt
   keys_apart k (e ∷ es) h = (sym (agree k e.0) ∙ h.0, keys_apart k es h.1)
@@ -154,5 +162,5 @@ module _ {K L V W : Type 0} (show_key : K → L) (show : V → W) (eq : K → K 
   pub with_new-shown : (es ts : List (K × V)) → map {A = K × V} {B = L × W} (λ e. (show_key e.0, show e.1)) (with_new eq es ts)
       ≡ with_new is_same (map (λ e. (show_key e.0, show e.1)) es) (map (λ e. (show_key e.0, show e.1)) ts)
   with_new-shown es ts =
-      map-append es (filter (λ t. is_new eq es t.0) ts)
+      map-append shown es (filter (λ t. is_new eq es t.0) ts)
       ∙ ap (λ l. map shown es ++ l) (filter-shown (λ t. is_new eq es t.0) (λ t. is_new is_same (map shown es) t.0) (λ t. is_new-shown es t.0) ts)

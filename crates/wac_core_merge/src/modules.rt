@@ -7,6 +7,7 @@ ghost use Rattle.wac_bounds.specs.MeetIn.{IsMeetIn, IsJoinIn};
 ghost use Rattle.indexmap.specs.IndexMap.{IsUnique};
 ghost use Rattle.wac_core.specs.Content.{core_tree, module_content};
 ghost use Rattle.wac_core_merge.specs.Entries.{IsJoinAt, IsEachMetIfAny, IsEachJoined, AreAllMet};
+ghost use Rattle.wac_core_merge.specs.NameOrder.{IsMeetInOrder, IsJoinInOrder};
 ghost use Rattle.wac_core_merge.specs.Origin.{IsModuleFrom};
 
 use crate::externs::{join_externs, meet_externs};
@@ -109,6 +110,7 @@ pub fn meet_modules(
 ) -> Result<Option<ModuleType>, AllocError>
     ensures meet { IfOk result (λ m. IsMeetIn ModuleFits (module_content a.now) (module_content b.now) (option_map module_content m)) }
     ensures names { IfOk result (λ m. IfSome m (λ t. IsModuleFrom (module_content a.now) (module_content b.now) (module_content t))) }
+    ensures order { IfOk result (λ m. IfSome m (λ t. IsMeetInOrder (module_content a.now) (module_content b.now) (module_content t))) }
 {
     let Some(exports) = meet_all(alloc, a.exports.clone()?, b.exports.clone()?)? else {
         return Ok(None);
@@ -128,6 +130,7 @@ pub fn join_modules(
 ) -> Result<Option<ModuleType>, AllocError>
     ensures join { IfOk result (λ m. IsJoinIn ModuleFits (module_content a.now) (module_content b.now) (option_map module_content m)) }
     ensures names { IfOk result (λ m. IfSome m (λ t. IsModuleFrom (module_content a.now) (module_content b.now) (module_content t))) }
+    ensures order { IfOk result (λ m. IfSome m (λ t. IsJoinInOrder (module_content a.now) (module_content b.now) (module_content t))) }
 {
     let Some(imports) = meet_all(alloc, a.imports.clone()?, b.imports.clone()?)? else {
         return Ok(None);

@@ -4,7 +4,7 @@ use Rattle.std.proofs.lemmas.Slice.Eq.{bytes_eq-Decides}
 use Rattle.wac_model.specs.Text.{import_name_eq}
 use Rattle.wac_bounds.proofs.ModuleBounds.{module_meet_from, module_no_meet_from}
 use Rattle.wac_core.specs.Content.{import_name, module_content}
-use Rattle.wac_core_merge.proofs.ModuleLemmas.{no_meet_at, meet_at, meet_from, join_at, join_from, import_name_eq-Decides, exports_cloned, imports_cloned}
+use Rattle.wac_core_merge.proofs.ModuleLemmas.{no_meet_at, meet_at, meet_from, meet_names, join_at, join_from, join_names, import_name_eq-Decides, exports_cloned, imports_cloned}
 use Rattle.wac_core_merge.proofs.modules.meet_modules.Goals as goal
 
 pub returns-in_default-clause-meet : goal.returns-in_default-clause-meet
@@ -34,5 +34,17 @@ returns-clause-names c =
       exports = meet_from string_bytes _ bytes_eq (λ k l. refl) bytes_eq-Decides c.in_ok-clone.field-0.entries c.in_ok-clone-2.field-0.entries _ _ first second c.in_ok-exports.ensures.unique c.in-Some.exports.entries
           (rw c.in-Some.is at c.in_ok-exports.ensures.second_unique) (rw c.in-Some.is at c.in_ok-exports.ensures.met);
       imports = join_from import_name _ import_name_eq (λ k l. refl) import_name_eq-Decides c.in_ok-clone-3.field-0.entries c.args.b.now.imports.entries _ _ imports refl c.in_ok-imports.ensures.unique c.in_ok-imports.imports.entries
+          c.in_ok-imports.ensures.joined;
+    }
+
+pub returns-clause-order : goal.returns-clause-order
+returns-clause-order c =
+    let first = exports_cloned c.args.a.now.exports c.in_ok-clone.field-0 c.in_ok-clone.ensures.cases in
+    let second = exports_cloned c.args.b.now.exports c.in_ok-clone-2.field-0 c.in_ok-clone-2.ensures.cases in
+    let imports = imports_cloned c.args.a.now.imports c.in_ok-clone-3.field-0 c.in_ok-clone-3.ensures.cases in
+    record {
+      exports = meet_names string_bytes _ bytes_eq (λ k l. refl) bytes_eq-Decides c.in_ok-clone.field-0.entries c.in_ok-clone-2.field-0.entries _ _ first second c.in_ok-exports.ensures.unique c.in-Some.exports.entries
+          (rw c.in-Some.is at c.in_ok-exports.ensures.met);
+      imports = join_names import_name _ import_name_eq (λ k l. refl) import_name_eq-Decides c.in_ok-clone-3.field-0.entries c.args.b.now.imports.entries _ _ imports refl c.in_ok-imports.ensures.unique c.in_ok-imports.imports.entries
           c.in_ok-imports.ensures.joined;
     }
