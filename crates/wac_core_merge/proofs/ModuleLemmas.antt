@@ -4,7 +4,7 @@ use Rattle.std.specs.Bool.{Decides}
 use Rattle.std.specs.Cmp.{IsEquivalence}
 use Rattle.std.specs.Option.{option_or}
 use Rattle.std.specs.List.{IsDistinct}
-use Rattle.std.specs.Map.{keys_of}
+use Rattle.std.specs.Map.{keys_of, lookup as lookup_by}
 use Rattle.std.proofs.lemmas.Bool.Decides.{Decides-and, Decides-like}
 use Rattle.std.proofs.lemmas.List.Elements.{All-weaker}
 use Rattle.std.proofs.lemmas.Slice.Eq.{bytes_eq-Decides}
@@ -66,7 +66,7 @@ module _ {K : Type 0} (is_same : K → K → Bool) (decides : (m n : K) → Deci
   meets_from each h distinct_too =
       All-with_new is_same ComesFrom each ts
       (Replaces-All is_same MeetHere ComesFrom es each h
-        (All-weaker (λ e. lookup is_same es e.0 ≡ Some e.1) (λ e. (v : CoreTree) → MeetHere e.0 e.1 (Some v) → ComesFrom (e.0, v)) (λ e at v m. met_from _ _ e.1 v at m) es (All-found is_same decides es distinct)))
+      (All-weaker (λ e. lookup is_same es e.0 ≡ Some e.1) (λ e. (v : CoreTree) → MeetHere e.0 e.1 (Some v) → ComesFrom (e.0, v)) (λ e at v m. met_from _ _ e.1 v at m) es (All-found is_same decides es distinct)))
       (All-weaker (λ t. lookup is_same ts t.0 ≡ Some t.1) ComesFrom (λ t. from_second) ts (All-found is_same decides ts distinct_too))
 
   meets_names : (each : List (K × CoreTree)) → Replaces MeetHere es each → HasAllNames is_same es ts (with_new is_same each ts)
@@ -79,21 +79,26 @@ module _ {K : Type 0} (is_same : K → K → Bool) (decides : (m n : K) → Deci
 
 -- one more extern of a list that is taken entry by entry
 module _ {K : Type 0} {eq : K → K → Bool} (laws : IsEquivalence eq) (all done rest left ts : List (K × CoreExtern)) (n : K) (v : CoreExtern)
-    (distinct : IsDistinct eq (keys_of all)) (split : all ≡ done ++ rest) (here : rest ≡ (n, v) ∷ left) (there : Option CoreTree) (at : there ≡ extern_at eq ts n) (o : Option CoreExtern) where
-  module _ (met : IsMeetIn (Serves CoreFits) (Some (core_tree v)) there (option_map Some (option_map core_tree o))) where
+    (distinct : IsDistinct eq (keys_of all)) (split : all ≡ done ++ rest) (here : rest ≡ (n, v) ∷ left) (there : Option CoreExtern) (found : there ≡ lookup_by (eq n) ts) (o : Option CoreExtern) where
+  at : option_map core_tree there ≡ extern_at eq ts n
+  at = ap (option_map core_tree) found
+
+  module _ (met : IsMeetIn (Serves CoreFits) (Some (core_tree v)) (option_map core_tree there) (option_map Some (option_map core_tree o))) where
     pub meet_turn : (w : CoreExtern) → o ≡ Some w → (so_far new : List (K × CoreExtern)) → IsEachMet eq done ts so_far → new ≡ with_new eq so_far ((n, w) ∷ [])
         → (all ≡ (done ++ (n, v) ∷ []) ++ left) × IsEachMet eq (done ++ (n, v) ∷ []) ts new
     meet_turn w is so_far new h new_is =
         Replaces-turn laws (λ n v o. IsMeetAt (Some (core_tree v)) (extern_at eq ts n) (option_map core_tree o)) all done rest left so_far new (n, v) (Some w) distinct split here h
-        (subst (λ x. IsMeetAt (Some (core_tree v)) x (Some (core_tree w))) at (subst (λ p. IsMeetIn (Serves CoreFits) (Some (core_tree v)) there (option_map Some (option_map core_tree p))) is met)) new_is
+        (subst (λ x. IsMeetAt (Some (core_tree v)) x (Some (core_tree w))) at (subst (λ p. IsMeetIn (Serves CoreFits) (Some (core_tree v)) (option_map core_tree there) (option_map Some (option_map core_tree p))) is met)) new_is
 
     pub no_meet_turn : o ≡ None → HasNoMeet eq all ts
     no_meet_turn is =
-        let found : extern_at eq all n ≡ Some (core_tree v) = ap (option_map core_tree) (sym (lookup-by_test eq all n) ∙ lookup_at_turn laws all done rest left (n, v) distinct split here) in
-        (n, subst (λ x. IsMeetIn (Serves CoreFits) x (extern_at eq ts n) None) (sym found)
-            (subst (λ x. IsMeetIn (Serves CoreFits) (Some (core_tree v)) x None) at (subst (λ p. IsMeetIn (Serves CoreFits) (Some (core_tree v)) there (option_map Some (option_map core_tree p))) is met)))
+        let first : extern_at eq all n ≡ Some (core_tree v) = ap (option_map core_tree) (sym (lookup-by_test eq all n) ∙ lookup_at_turn laws all done rest left (n, v) distinct split here) in (
+          n,
+          subst (λ x. IsMeetIn (Serves CoreFits) x (extern_at eq ts n) None) (sym first)
+              (subst (λ x. IsMeetIn (Serves CoreFits) (Some (core_tree v)) x None) at (subst (λ p. IsMeetIn (Serves CoreFits) (Some (core_tree v)) (option_map core_tree there) (option_map Some (option_map core_tree p))) is met)),
+        )
 
-  pub join_turn : IsJoinAt (Some (core_tree v)) there (option_map core_tree o) → (so_far new : List (K × CoreExtern)) → IsEachJoined eq done ts so_far → new ≡ with_new eq so_far (put n o [])
+  pub join_turn : IsJoinAt (Some (core_tree v)) (option_map core_tree there) (option_map core_tree o) → (so_far new : List (K × CoreExtern)) → IsEachJoined eq done ts so_far → new ≡ with_new eq so_far (put n o [])
       → (all ≡ (done ++ (n, v) ∷ []) ++ left) × IsEachJoined eq (done ++ (n, v) ∷ []) ts new
   join_turn joined so_far new h new_is =
       Replaces-turn laws (λ n v o. IsJoinAt (Some (core_tree v)) (extern_at eq ts n) (option_map core_tree o)) all done rest left so_far new (n, v) o distinct split here h

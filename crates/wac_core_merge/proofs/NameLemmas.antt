@@ -10,6 +10,8 @@ use Rattle.std.proofs.lemmas.List.Elements.{filter-append, filter_agree, All-app
 use Rattle.std.proofs.lemmas.Map.Entries.{lookup-filter-keys}
 use Rattle.std.proofs.lemmas.Map.Made.{is_some-lookup}
 use Rattle.std.proofs.lemmas.Map.Keys.{IsDistinct-head, IsDistinct-tail}
+use Rattle.indexmap.specs.IndexMap.{IndexMap, get, insert_entry}
+use Rattle.indexmap.proofs.CallerLemmas.{insert_entry-new}
 use Rattle.wac_model.specs.Text.{lookup}
 use Rattle.wac_model.proofs.Lookups.{lookup-shown}
 use Rattle.wac_core_merge.specs.Names.{is_new, with_new}
@@ -18,7 +20,7 @@ option_or-none : {V : Type 0} (o : Option V) → option_or o None ≡ o
 option_or-none None = refl
 option_or-none (Some v) = refl
 
-pub none : {V : Type 0} (o : Option V) → is_some o ≡ false → o ≡ None
+none : {V : Type 0} (o : Option V) → is_some o ≡ false → o ≡ None
 none None h = refl
 none (Some v) h = absurd (cc)
 
@@ -126,6 +128,12 @@ module _ {K V : Type 0} {eq : K → K → Bool} (laws : IsEquivalence eq) where
       let absent = absent_before done e left (subst (λ l. IsDistinct eq (keys_of l)) whole distinct) in
       (whole ∙ sym (append_assoc done (e ∷ []) left), new_is ∙ ap (λ l. with_new eq l (e ∷ [])) so_far_is ∙ with_new-push eq es done e absent)
 
+-- a value that is inserted under a name that is new
+pub insert_entry-with_new : {K V S : Type 0} (eq : K → K → Bool) (m : IndexMap K V S) (n : K) (v : V) (new : List (K × V)) → is_some (get eq m n) ≡ false → new ≡ insert_entry eq m.entries n v → new ≡ with_new eq m.entries ((n, v) ∷ [])
+insert_entry-with_new eq m n v new h is =
+    let absent = none (get eq m n) h in
+    is ∙ insert_entry-new eq m n v absent ∙ sym (with_new-absent eq m.entries n v (lookup-by_test eq m.entries n ∙ absent))
+
 -- a list of keys and values, and the list of what they show
 module _ {K L V W : Type 0} (show_key : K → L) (show : V → W) (eq : K → K → Bool) (is_same : L → L → Bool) (agree : (k l : K) → eq k l ≡ is_same (show_key k) (show_key l)) where
   abbrev shown : K × V → L × W
@@ -164,3 +172,9 @@ module _ {K L V W : Type 0} (show_key : K → L) (show : V → W) (eq : K → K 
   with_new-shown es ts =
       map-append shown es (filter (λ t. is_new eq es t.0) ts)
       ∙ ap (λ l. map shown es ++ l) (filter-shown (λ t. is_new eq es t.0) (λ t. is_new is_same (map shown es) t.0) (λ t. is_new-shown es t.0) ts)
+
+  -- what was added to a list: at each name what it had, or else what was added has
+  pub lookup-added : ((m n : L) → Decides (is_same m n) (m ≡ n)) → (es ts new : List (K × V)) → new ≡ with_new eq es ts → (n : L)
+      → lookup {V = W} is_same (map {A = K × V} {B = L × W} (λ e. (show_key e.0, show e.1)) new) n
+      ≡ option_or (lookup is_same (map (λ e. (show_key e.0, show e.1)) es) n) (lookup is_same (map (λ e. (show_key e.0, show e.1)) ts) n)
+  lookup-added decides es ts new is n = ap (λ l. lookup is_same (map shown l) n) is ∙ ap (λ l. lookup is_same l n) (with_new-shown es ts) ∙ lookup-with_new is_same decides (map shown es) (map shown ts) n

@@ -68,10 +68,14 @@ fn limits(of: &CoreExtern) -> Option<LimitsType>
 {
     match of {
         CoreExtern::Table {
-            initial, maximum, ..
+            initial,
+            maximum,
+            ..
         }
         | CoreExtern::Memory {
-            initial, maximum, ..
+            initial,
+            maximum,
+            ..
         } => Some(LimitsType {
             initial: *initial,
             maximum: *maximum,

@@ -18,10 +18,7 @@ use std::hash::Hash;
 use wac_core::{CoreExtern, ModuleType};
 
 // An extern, met with what another module has under its name.
-fn meet_with(
-    of: CoreExtern,
-    other: Option<&CoreExtern>,
-) -> Result<Option<CoreExtern>, AllocError>
+fn meet_with(of: CoreExtern, other: Option<&CoreExtern>) -> Result<Option<CoreExtern>, AllocError>
     ensures { IfOk result (λ m. IsMeetIn (Serves CoreFits) (Some (core_tree of)) (option_map core_tree (option_copied other.entry)) (option_map Some (option_map core_tree m))) }
 {
     match other {
@@ -31,10 +28,7 @@ fn meet_with(
 }
 
 // An extern, joined with what another module has under its name.
-fn join_with(
-    of: CoreExtern,
-    other: Option<&CoreExtern>,
-) -> Result<Option<CoreExtern>, AllocError>
+fn join_with(of: CoreExtern, other: Option<&CoreExtern>) -> Result<Option<CoreExtern>, AllocError>
     ensures { IfOk result (λ m. IsJoinAt (Some (core_tree of)) (option_map core_tree (option_copied other.entry)) (option_map core_tree m)) }
 {
     match other {

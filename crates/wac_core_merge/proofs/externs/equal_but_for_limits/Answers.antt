@@ -8,8 +8,8 @@ returns-then-x64-y64 c =
     let t = c.in-Table-Table in
     rw (t.is-0, t.is-1)
     (elim c.if-eq.branch [
-      then-eq w ↦ table_labels t.x64 t.y64 t.x_shared t.y_shared t.x t.y (sym c.eq-in-Table-Table.ensures ∙ w.if-eq.true) (sym w.value-is ∙ c.if-x64-y64.true)
-    | else-eq w ↦ absurd (true≢false (sym c.if-x64-y64.true ∙ w.value-is ∙ w.if-eq.false))
+      | then-eq w ↦ table_labels t.x64 t.y64 t.x_shared t.y_shared t.x t.y (sym c.eq-in-Table-Table.ensures ∙ w.if-eq.true) (sym w.value-is ∙ c.if-x64-y64.true)
+      | else-eq w ↦ absurd (true≢false (sym c.if-x64-y64.true ∙ w.value-is ∙ w.if-eq.false))
     ])
 
 pub returns-then-x_mutable-y_mutable : goal.returns-then-x_mutable-y_mutable
@@ -17,8 +17,8 @@ returns-then-x_mutable-y_mutable c =
     let t = c.in-Global-Global in
     rw (t.is-0, t.is-1)
     (elim c.if-eq-2.branch [
-      then-eq-2 w ↦ global_labels t.x_mutable t.y_mutable t.x_shared t.y_shared t.x t.y (sym c.eq-in-Global-Global.ensures ∙ w.if-eq-2.true) (sym w.value-is ∙ c.if-x_mutable-y_mutable.true)
-    | else-eq-2 w ↦ absurd (true≢false (sym c.if-x_mutable-y_mutable.true ∙ w.value-is ∙ w.if-eq-2.false))
+      | then-eq-2 w ↦ global_labels t.x_mutable t.y_mutable t.x_shared t.y_shared t.x t.y (sym c.eq-in-Global-Global.ensures ∙ w.if-eq-2.true) (sym w.value-is ∙ c.if-x_mutable-y_mutable.true)
+      | else-eq-2 w ↦ absurd (true≢false (sym c.if-x_mutable-y_mutable.true ∙ w.value-is ∙ w.if-eq-2.false))
     ])
 
 pub returns-in-Func-Func : goal.returns-in-Func-Func

@@ -21,9 +21,9 @@ returns-clause-join c =
     let exports = exports_cloned c.args.a.now.exports c.in_ok-clone-3.field-0 c.in_ok-clone-3.ensures.cases in
     module_join_from (module_content c.args.a.now) (module_content c.args.b.now) _
     (join_at string_bytes _ bytes_eq (λ k l. refl) bytes_eq-Decides c.in_ok-clone-3.field-0.entries c.args.b.now.exports.entries _ _ exports refl c.in_ok-exports.ensures.unique c.in_ok-exports.exports.entries
-      c.in_ok-exports.ensures.joined)
+    c.in_ok-exports.ensures.joined)
     (meet_at import_name _ import_name_eq (λ k l. refl) import_name_eq-Decides c.in_ok-clone.field-0.entries c.in_ok-clone-2.field-0.entries _ _ first second c.in_ok-imports.ensures.unique c.in-Some.imports.entries
-      (rw c.in-Some.is at c.in_ok-imports.ensures.met))
+    (rw c.in-Some.is at c.in_ok-imports.ensures.met))
 
 pub returns-clause-names : goal.returns-clause-names
 returns-clause-names c =

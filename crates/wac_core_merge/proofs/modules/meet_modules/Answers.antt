@@ -21,9 +21,9 @@ returns-clause-meet c =
     let imports = imports_cloned c.args.a.now.imports c.in_ok-clone-3.field-0 c.in_ok-clone-3.ensures.cases in
     module_meet_from (module_content c.args.a.now) (module_content c.args.b.now) _
     (meet_at string_bytes _ bytes_eq (λ k l. refl) bytes_eq-Decides c.in_ok-clone.field-0.entries c.in_ok-clone-2.field-0.entries _ _ first second c.in_ok-exports.ensures.unique c.in-Some.exports.entries
-      (rw c.in-Some.is at c.in_ok-exports.ensures.met))
+    (rw c.in-Some.is at c.in_ok-exports.ensures.met))
     (join_at import_name _ import_name_eq (λ k l. refl) import_name_eq-Decides c.in_ok-clone-3.field-0.entries c.args.b.now.imports.entries _ _ imports refl c.in_ok-imports.ensures.unique c.in_ok-imports.imports.entries
-      c.in_ok-imports.ensures.joined)
+    c.in_ok-imports.ensures.joined)
 
 pub returns-clause-names : goal.returns-clause-names
 returns-clause-names c =

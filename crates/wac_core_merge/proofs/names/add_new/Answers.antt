@@ -10,7 +10,7 @@ pub loop-name-preserved : goal.loop-name-preserved
 loop-name-preserved g c =
     let i = c.loop-name.invariant in
     let t = with_new-turn g.met.K.Eq.laws c.args.second.entries i.0 c.loop-name.name-iterator c.next.new.self c.args.first.now.entries c.loop-name.first.entries c.insert_new.new.map.entries (c.in-Some.name, c.in-Some.value)
-        c.into_iter-name-iterator.ensures.into_iter_gives.4 i.1 c.in-Some.ensures.steps i.2 c.in_ok-insert_new.ensures in
+    c.into_iter-name-iterator.ensures.into_iter_gives.4 i.1 c.in-Some.ensures.steps i.2 c.in_ok-insert_new.ensures in
     (i.0 ++ (c.in-Some.name, c.in-Some.value) ∷ [], t.0, t.1)
 
 pub returns-clause-entries : goal.returns-clause-entries
