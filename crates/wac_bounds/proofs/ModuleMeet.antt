@@ -1,12 +1,12 @@
 -- The meet and the join of two modules.
-use Rattle.std.proofs.Common.{◌≡◌, refl, ap, Bool, Option, Some, None, option_map, option_and_then, List, [], ◌∷◌}
+use Rattle.std.proofs.Common.{◌≡◌, refl, Bool, Option, Some, None, option_map, option_and_then, List, [], ◌∷◌}
 use Rattle.std.specs.Bool.{Decides}
 use Rattle.std.specs.Str.{bytes_eq}
 use Rattle.std.proofs.lemmas.Slice.Eq.{bytes_eq-Decides}
-use Rattle.std.proofs.lemmas.Bool.Decides.{Decides-and, Decides-like}
 use Rattle.wac_model.specs.Text.{Text, ImportName, lookup, import_name_eq}
 use Rattle.wac_model.specs.CoreTree.{CoreTree, ModuleTree, Serves, CoreFits, ModuleFits}
 use Rattle.wac_model.proofs.CoreOrder.{CoreFits-refl}
+use Rattle.wac_model.proofs.Lookups.{import_name_eq-Decides}
 use Rattle.wac_bounds.specs.MeetIn.{IsMeetIn, IsJoinIn}
 use Rattle.wac_bounds.proofs.MeetOf.{met, opt_join}
 use Rattle.wac_bounds.proofs.Entries.{hide, put, put_all, IsTable, IsMeetByName, meet_or, meet_step, join_step, meet_by_name, join_by_name}
@@ -50,11 +50,6 @@ module _ {K : Type 0} (is_same : K → K → Bool) (decides : (j k : K) → Deci
     externs_join_is : (k : K) → IsJoinIn (Serves CoreFits) (lookup is_same es k) (lookup is_same ts k) (Some (lookup is_same (externs_join is_same es (lookup is_same ts)) k))
     externs_join_is = join_by_name CoreFits core_join (lookup is_same) (lookup is_same es) (lookup is_same ts) (λ k v _ w. core_join_is v w)
         (externs_join is_same es (lookup is_same ts)) (externs_join_at es (lookup is_same ts))
-
-import_name_eq-Decides : (m n : ImportName) → Decides (import_name_eq m n) (m ≡ n)
-import_name_eq-Decides m n =
-    Decides-like (import_name_eq m n) (λ p. λ i. (p.0 i, p.1 i)) (λ e. (ap (λ p. p.0) e, ap (λ p. p.1) e))
-    (Decides-and (bytes_eq m.0 n.0) (bytes_eq m.1 n.1) (bytes_eq-Decides m.0 n.0) (bytes_eq-Decides m.1 n.1))
 
 module _ (a b : ModuleTree) where
   abbrev pub module_exporting : List (Text × CoreTree) → ModuleTree

@@ -1,2 +1,1 @@
 pub mod ExternLemmas
-pub mod ModuleLemmas

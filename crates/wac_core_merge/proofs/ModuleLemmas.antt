@@ -5,14 +5,11 @@ use Rattle.std.specs.Cmp.{IsEquivalence}
 use Rattle.std.specs.Option.{option_or}
 use Rattle.std.specs.List.{IsDistinct}
 use Rattle.std.specs.Map.{keys_of, lookup as lookup_by}
-use Rattle.std.proofs.lemmas.Bool.Decides.{Decides-and, Decides-like}
 use Rattle.std.proofs.lemmas.List.Elements.{All-weaker}
-use Rattle.std.proofs.lemmas.Slice.Eq.{bytes_eq-Decides}
-use Rattle.std.specs.Str.{bytes_eq}
-use Rattle.wac_model.specs.Text.{Text, ImportName, import_name_eq, lookup}
+use Rattle.wac_model.specs.Text.{Text, ImportName, lookup}
 use Rattle.wac_model.specs.CoreTree.{CoreTree, CoreFits, Serves}
 use Rattle.wac_model.proofs.CoreOrder.{CoreFits-refl, CoreFits-antisym}
-use Rattle.wac_model.proofs.Lookups.{lookup-shown}
+use Rattle.wac_model.proofs.Lookups.{lookup-shown, IsDistinct-shown}
 use Rattle.wac_model.proofs.Serves.{Serves-refl}
 use Rattle.wac_bounds.specs.MeetIn.{IsMeetIn}
 use Rattle.indexmap.specs.IndexMap.{IndexMap, IsClone}
@@ -23,7 +20,7 @@ use Rattle.wac_core_merge.specs.Names.{put, with_new}
 use Rattle.wac_core_merge.specs.Entries.{IsMeetAt, IsJoinAt, Replaces, extern_at, IsEachMet, IsEachJoined, HasNoMeet, AreAllMet}
 use Rattle.wac_core_merge.specs.NameOrder.{HasAllNames, HasSomeNames}
 use Rattle.wac_core_merge.specs.Origin.{IsFrom, from_first, from_second, from_meet, from_join}
-use Rattle.wac_core_merge.proofs.NameLemmas.{lookup-by_test, lookup_at_turn, All-with_new, lookup-with_new, with_new-shown, keys-with_new, IsDistinct-shown}
+use Rattle.wac_core_merge.proofs.NameLemmas.{lookup-by_test, lookup_at_turn, All-with_new, lookup-with_new, with_new-shown, keys-with_new}
 use Rattle.wac_core_merge.proofs.EntryLemmas.{Replaces-turn, Replaces-absent, Replaces-All, Replaces-at, Replaces-names, Replaces-some_names, All-found, Replaces-shown}
 
 met_from : (a b : Option CoreTree) (v w : CoreTree) → a ≡ Some v → IsMeetAt (Some v) b (Some w) → IsFrom a b w
@@ -129,7 +126,7 @@ module _ {K L : Type 0} (show_key : K → L) (eq : K → K → Bool) (is_same : 
 
       module _ (distinct : IsDistinct eq (keys_of es)) (ms : List (K × CoreExtern)) where
         distinct_names : IsDistinct is_same (keys_of (shown es))
-        distinct_names = IsDistinct-shown show_key core_tree eq is_same agree es distinct
+        distinct_names = IsDistinct-shown show_key eq is_same agree core_tree es distinct
 
         pub meet_at : AreAllMet eq es ts (Some ms) → (n : L) → IsMeetAt (lookup is_same xs n) (lookup is_same ys n) (lookup is_same (shown ms) n)
         meet_at h n =
@@ -145,7 +142,7 @@ module _ {K L : Type 0} (show_key : K → L) (eq : K → K → Bool) (is_same : 
             subst (λ l. All (λ e. IsFrom (lookup is_same l e.0) (lookup is_same ys e.0) e.1) (shown ms)) first
             (subst (λ l. All (λ e. IsFrom (lookup is_same (shown es) e.0) (lookup is_same l e.0) e.1) (shown ms)) second
             (subst (All (λ e. IsFrom (lookup is_same (shown es) e.0) (lookup is_same (shown ts) e.0) e.1)) (sym is)
-            (meets_from is_same decides (shown es) (shown ts) distinct_names (shown h.0) (each_met h.0 h.1) (IsDistinct-shown show_key core_tree eq is_same agree ts distinct_too))))
+            (meets_from is_same decides (shown es) (shown ts) distinct_names (shown h.0) (each_met h.0 h.1) (IsDistinct-shown show_key eq is_same agree core_tree ts distinct_too))))
 
         pub meet_names : AreAllMet eq es ts (Some ms) → HasAllNames is_same xs ys (shown ms)
         meet_names h =
@@ -171,11 +168,6 @@ module _ {K L : Type 0} (show_key : K → L) (eq : K → K → Bool) (is_same : 
             subst (λ l. All (λ e. IsFrom (lookup is_same l e.0) (lookup is_same ys e.0) e.1) (shown ms)) first
             (subst (λ l. All (λ e. IsFrom (lookup is_same (shown es) e.0) (lookup is_same l e.0) e.1) (shown ms)) second
             (joins_from is_same decides (shown es) (shown ts) distinct_names (shown ms) (each_joined ms h)))
-
-pub import_name_eq-Decides : (m n : ImportName) → Decides (import_name_eq m n) (m ≡ n)
-import_name_eq-Decides m n =
-    Decides-like (import_name_eq m n) (λ p. λ i. (p.0 i, p.1 i)) (λ e. (ap (λ p. p.0) e, ap (λ p. p.1) e))
-    (Decides-and (bytes_eq m.0 n.0) (bytes_eq m.1 n.1) (bytes_eq-Decides m.0 n.0) (bytes_eq-Decides m.1 n.1))
 
 -- clones show what their sources show
 pub exports_cloned : {S : Type 0} (m n : IndexMap (String Global) CoreExtern S) → IsClone (λ k l. string_bytes l ≡ string_bytes k) (λ u v. core_tree v ≡ core_tree u) m n

@@ -157,15 +157,6 @@ module _ {K L V W : Type 0} (show_key : K → L) (show : V → W) (eq : K → K 
       go true h = ap (λ l. shown t ∷ l) h
       go false h = h
 
-  keys_apart : (k : K) (es : List (K × V)) → AllByRecursion (λ l. eq k l ≡ false) (keys_of es) → AllByRecursion (λ l. is_same (show_key k) l ≡ false) (keys_of (map shown es))
-  keys_apart k [] h = tt
-  keys_apart k (e ∷ es) h = (sym (agree k e.0) ∙ h.0, keys_apart k es h.1)
-
-  pub IsDistinct-shown : (es : List (K × V)) → IsDistinct eq (keys_of es) → IsDistinct is_same (keys_of (map {A = K × V} {B = L × W} (λ e. (show_key e.0, show e.1)) es))
-  unfolding IsDistinct
-  IsDistinct-shown [] h = tt
-  IsDistinct-shown (e ∷ es) h = (keys_apart e.0 es h.0, IsDistinct-shown es h.1)
-
   -- what two lists show, put together, is what they show when put together
   pub with_new-shown : (es ts : List (K × V)) → map {A = K × V} {B = L × W} (λ e. (show_key e.0, show e.1)) (with_new eq es ts)
       ≡ with_new is_same (map (λ e. (show_key e.0, show e.1)) es) (map (λ e. (show_key e.0, show e.1)) ts)

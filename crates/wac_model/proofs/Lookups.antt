@@ -1,10 +1,45 @@
--- Look-ups by name in the first entries of a list.
-use Rattle.std.proofs.Common.{◌≡◌, ℕ, suc, zero, List, [], ◌∷◌, map, take, Some, slice_get, Bool, true, false, cond, refl, ap, sym, subst}
+-- Names: when they are equal, when those that keys show are distinct, and look-ups by them in the first entries of a list.
+use Rattle.std.proofs.Common.{◌≡◌, ℕ, suc, zero, List, [], ◌∷◌, map, take, Some, slice_get, Bool, true, false, cond, refl, ap, sym, subst, ◌∙◌}
 use Rattle.std.specs.Bool.{Decides}
+use Rattle.std.specs.List.{IsDistinct, AllByRecursion}
 use Rattle.std.specs.Option.{option_map}
-use Rattle.std.specs.Map.{lookup as lookup_by}
-use Rattle.wac_model.specs.Text.{lookup}
+use Rattle.std.specs.Map.{keys_of, lookup as lookup_by}
+use Rattle.std.specs.Str.{bytes_eq}
+use Rattle.std.proofs.lemmas.Bool.Decides.{Decides-and, Decides-like}
+use Rattle.std.proofs.lemmas.Slice.Eq.{bytes_eq-Decides}
+use Rattle.wac_model.specs.Text.{ImportName, import_name_eq, lookup}
 use Rattle.wac_model.specs.CoreTree.{Serves}
+
+pub import_name_eq-Decides : (m n : ImportName) → Decides (import_name_eq m n) (m ≡ n)
+import_name_eq-Decides m n =
+    Decides-like (import_name_eq m n) (λ p. λ i. (p.0 i, p.1 i)) (λ e. (ap (λ p. p.0) e, ap (λ p. p.1) e))
+    (Decides-and (bytes_eq m.0 n.0) (bytes_eq m.1 n.1) (bytes_eq-Decides m.0 n.0) (bytes_eq-Decides m.1 n.1))
+
+-- keys that are distinct show names that are
+module _ {K L : Type 0} (show_key : K → L) (eq : K → K → Bool) (is_same : L → L → Bool) (agree : (k l : K) → eq k l ≡ is_same (show_key k) (show_key l)) where
+  keys_apart : (k : K) (ks : List K) → AllByRecursion (λ l. eq k l ≡ false) ks → AllByRecursion (λ l. is_same (show_key k) l ≡ false) (map show_key ks)
+  keys_apart k [] h = tt
+  keys_apart k (l ∷ ks) h = (sym (agree k l) ∙ h.0, keys_apart k ks h.1)
+
+  pub IsDistinct-shown_keys : (ks : List K) → IsDistinct eq ks → IsDistinct is_same (map show_key ks)
+  unfolding IsDistinct
+  IsDistinct-shown_keys [] h = tt
+  IsDistinct-shown_keys (k ∷ ks) h = (keys_apart k ks h.0, IsDistinct-shown_keys ks h.1)
+
+  -- the names in entries of any values
+  pub IsDistinct-names : {V : Type 0} (es : List (K × V)) → IsDistinct eq (keys_of es) → IsDistinct is_same (map (λ (e : K × V). show_key e.0) es)
+  IsDistinct-names {V} es h = subst (λ l. IsDistinct is_same l) (same es) (IsDistinct-shown_keys (keys_of es) h)
+    where
+      same : (es : List (K × V)) → map show_key (keys_of es) ≡ map (λ (e : K × V). show_key e.0) es
+      same [] = refl
+      same (e ∷ es) = ap (λ l. show_key e.0 ∷ l) (same es)
+
+  pub IsDistinct-shown : {V W : Type 0} (show : V → W) (es : List (K × V)) → IsDistinct eq (keys_of es) → IsDistinct is_same (keys_of (map {A = K × V} {B = L × W} (λ e. (show_key e.0, show e.1)) es))
+  IsDistinct-shown {V} {W} show es h = subst (λ l. IsDistinct is_same l) (same es) (IsDistinct-shown_keys (keys_of es) h)
+    where
+      same : (es : List (K × V)) → map show_key (keys_of es) ≡ keys_of (map {A = K × V} {B = L × W} (λ e. (show_key e.0, show e.1)) es)
+      same [] = refl
+      same (e ∷ es) = ap (λ l. show_key e.0 ∷ l) (same es)
 
 -- what a test of keys finds, a look-up of what the keys show finds
 pub lookup-shown : {K L V W : Type 0} (show_key : K → L) (show : V → W) (test : K → Bool) (is_same : L → L → Bool) (name : L) → ((k : K) → test k ≡ is_same name (show_key k)) → (es : List (K × V)) → option_map show (lookup_by test es) ≡ lookup {K = L} {V = W} is_same (map (λ (e : K × V). (show_key e.0, show e.1)) es) name

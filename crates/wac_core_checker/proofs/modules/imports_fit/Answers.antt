@@ -1,10 +1,9 @@
 use Rattle.std.proofs.Common.{rules, add-one, sym}
 use Rattle.wac_model.specs.Text.{import_name_eq}
 use Rattle.wac_model.specs.CoreTree.{CoreFits}
-use Rattle.wac_model.proofs.Lookups.{one_more_served}
+use Rattle.wac_model.proofs.Lookups.{one_more_served, import_name_eq-Decides}
 use Rattle.wac_core.specs.Content.{core_tree, import_name, module_content}
 use Rattle.wac_core_checker.proofs.ExternLemmas.{refused_here_explains}
-use Rattle.wac_core_checker.proofs.ModuleLemmas.{import_name_eq-Decides}
 use Rattle.wac_core_checker.proofs.modules.imports_fit.Goals as goal
 
 pub loop-i-preserved : goal.loop-i-preserved

@@ -2,9 +2,10 @@ use Rattle.std.proofs.Common.{refl, string_bytes}
 use Rattle.std.specs.Str.{bytes_eq}
 use Rattle.std.proofs.lemmas.Slice.Eq.{bytes_eq-Decides}
 use Rattle.wac_model.specs.Text.{import_name_eq}
+use Rattle.wac_model.proofs.Lookups.{import_name_eq-Decides}
 use Rattle.wac_bounds.proofs.ModuleBounds.{module_meet_from, module_no_meet_from}
 use Rattle.wac_core.specs.Content.{import_name, module_content}
-use Rattle.wac_core_merge.proofs.ModuleLemmas.{no_meet_at, meet_at, meet_from, meet_names, join_at, join_from, join_names, import_name_eq-Decides, exports_cloned, imports_cloned}
+use Rattle.wac_core_merge.proofs.ModuleLemmas.{no_meet_at, meet_at, meet_from, meet_names, join_at, join_from, join_names, exports_cloned, imports_cloned}
 use Rattle.wac_core_merge.proofs.modules.meet_modules.Goals as goal
 
 pub returns-in_default-clause-meet : goal.returns-in_default-clause-meet
