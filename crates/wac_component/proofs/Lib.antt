@@ -24,3 +24,4 @@ pub mod ReplacedTrees
 pub mod Naming
 pub mod Search
 pub mod Seen
+pub mod DistinctNames

@@ -15,5 +15,6 @@ pub mod Visits
 pub mod Replacing
 pub mod Naming
 pub mod View
+pub mod Distinct
 pub mod Laws
 pub mod Texts

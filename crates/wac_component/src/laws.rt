@@ -1,6 +1,13 @@
-//! Laws of collections. Each is the contract of a function that does nothing.
+//! Laws of collections and of their entries. Each is the contract of a function that changes nothing.
 
 ghost use Rattle.wac_component.specs.Laws.{IsReflexive, IsTransitive, TreesFollowEntries, ImportsAreApart, LeavesDependOnLeaves, WalksStand, NoWalkReturns};
+ghost use Rattle.wac_core.specs.Content.{module_content};
+ghost use Rattle.wac_component.specs.Content.{defined_content, func_content, interface_content, world_content};
+ghost use Rattle.wac_component.specs.Distinct.{HasDistinctNames};
+ghost use Rattle.wac_component.specs.Key.{defined_entry, func_entry, interface_entry, world_entry, module_entry};
+
+use crate::{DefinedType, FuncType, Interface, World};
+use wac_core::ModuleType;
 
 /// A collection extends itself.
 pub fn growth_is_reflexive()
@@ -37,3 +44,57 @@ pub fn imports_are_apart()
 pub fn leaves_depend_on_leaves()
     ensures { LeavesDependOnLeaves }
 {}
+
+/// The names of a function's parameters are distinct.
+pub fn names_in_a_function_are_distinct(func: &FuncType)
+    ensures { HasDistinctNames (func_entry (func_content func.now)) }
+{
+    let _ = func.params.len();
+}
+
+/// The names of an interface's uses are distinct, and so are those of its exports.
+pub fn names_in_an_interface_are_distinct(interface: &Interface)
+    ensures { HasDistinctNames (interface_entry (interface_content interface.now)) }
+{
+    let _ = interface.uses.len();
+    let _ = interface.exports.len();
+}
+
+/// The names of a world's uses are distinct, and so are those of its imports and those of its exports.
+pub fn names_in_a_world_are_distinct(world: &World)
+    ensures { HasDistinctNames (world_entry (world_content world.now)) }
+{
+    let _ = world.uses.len();
+    let _ = world.imports.len();
+    let _ = world.exports.len();
+}
+
+/// The names of a core module's imports are distinct, each of them with the module that it is from,
+/// and so are the names of its exports.
+pub fn names_in_a_module_are_distinct(ty: &ModuleType)
+    ensures { HasDistinctNames (module_entry (module_content ty.now)) }
+{
+    let _ = ty.imports.len();
+    let _ = ty.exports.len();
+}
+
+/// The names of a defined type's cases, fields or flags are distinct.
+pub fn names_in_a_defined_type_are_distinct(ty: &DefinedType)
+    ensures { HasDistinctNames (defined_entry (defined_content ty.now)) }
+{
+    match ty {
+        DefinedType::Variant(variant) => {
+            let _ = variant.cases.len();
+        }
+        DefinedType::Record(record) => {
+            let _ = record.fields.len();
+        }
+        DefinedType::Flags(flags) => {
+            let _ = flags.0.len();
+        }
+        DefinedType::Enum(cases) => {
+            let _ = cases.0.len();
+        }
+        _ => {}
+    }
+}
