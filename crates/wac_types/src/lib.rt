@@ -10,6 +10,7 @@ pub use wac_component::{
     Type, Types, UsedType, ValueType, Variant, World, WorldId,
 };
 pub use wac_core::{CoreExtern, CoreFuncType, CoreRefType, CoreType, HeapType, ModuleType};
+pub use wac_merge::{join, meet};
 pub use wac_mismatch::{
     CoreField, CountOf, Fault, Frame, NameOf, ResultPart, SubtypeCheck, SubtypeError,
 };

@@ -1,0 +1,71 @@
+use Rattle.std.proofs.Common.{◌≡◌, ◌+◌, ◌*◌, ◌++◌, map, Some}
+use Rattle.std.specs.Map.{keys_of}
+use Rattle.std.specs.Str.{bytes_eq}
+use Rattle.wac_core_merge.specs.NameOrder.{HasSomeNames}
+use Rattle.std.specs.Map.Iter.{deref_pair}
+use Rattle.wac_component.specs.Content.{named}
+use Rattle.wac_component.specs.Growth.{Extends}
+use Rattle.wac_component.specs.Height.{height, keys_height}
+use Rattle.wac_component.specs.Key.{AllStand, item_keys, type_keys, interface_key, world_key}
+use Rattle.wac_merge.specs.Bounded.{AreFirstMet, AreJoined}
+use Rattle.wac_merge.specs.Built.{AreBuilt}
+use Rattle.wac_merge.specs.Items.{extern_keys, listed}
+use Rattle.wac_merge.specs.Runs.{Runs}
+use Rattle.wac_merge.proofs.+bounds.Given as goal
+
+abbrev pub decreases-items::meet_items : goal.decreases-items::meet_items
+decreases-items::meet_items l = 6 * keys_height l.types.now (item_keys l.a) + 2
+
+abbrev pub decreases-items::meet_types : goal.decreases-items::meet_types
+decreases-items::meet_types l = 6 * keys_height l.types.now (type_keys l.a) + 1
+
+abbrev pub decreases-items::join_items : goal.decreases-items::join_items
+decreases-items::join_items l = 6 * keys_height l.types.now (item_keys l.a) + 2
+
+abbrev pub decreases-items::join_types : goal.decreases-items::join_types
+decreases-items::join_types l = 6 * keys_height l.types.now (type_keys l.a) + 1
+
+abbrev pub decreases-composites::meet_interfaces : goal.decreases-composites::meet_interfaces
+decreases-composites::meet_interfaces l = 6 * height l.types.now (interface_key l.x)
+
+abbrev pub decreases-composites::join_interfaces : goal.decreases-composites::join_interfaces
+decreases-composites::join_interfaces l = 6 * height l.types.now (interface_key l.x)
+
+abbrev pub decreases-composites::meet_worlds : goal.decreases-composites::meet_worlds
+decreases-composites::meet_worlds l = 6 * height l.types.now (world_key l.x)
+
+abbrev pub decreases-composites::join_worlds : goal.decreases-composites::join_worlds
+decreases-composites::join_worlds l = 6 * height l.types.now (world_key l.x)
+
+abbrev pub decreases-externs::meet_externs : goal.decreases-externs::meet_externs
+decreases-externs::meet_externs l = 6 * keys_height l.types.now (extern_keys (listed l.first.now)) + 5
+
+abbrev pub decreases-externs::meet_first : goal.decreases-externs::meet_first
+decreases-externs::meet_first l = 6 * keys_height l.types.now (extern_keys (listed l.first.now)) + 4
+
+abbrev pub decreases-externs::join_externs : goal.decreases-externs::join_externs
+decreases-externs::join_externs l = 6 * keys_height l.types.now (extern_keys (listed l.first.now)) + 5
+
+abbrev pub decreases-externs::meet_with : goal.decreases-externs::meet_with
+decreases-externs::meet_with l = 6 * keys_height l.types.now (item_keys l.a) + 3
+
+abbrev pub decreases-externs::join_with : goal.decreases-externs::join_with
+decreases-externs::join_with l = 6 * keys_height l.types.now (item_keys l.a) + 3
+
+abbrev pub invariant-externs::meet_first-loop-name : goal.invariant-externs::meet_first-loop-name
+invariant-externs::meet_first-loop-name l = record {
+  grows : Extends l.initial.types l.types;
+  met : AreFirstMet l.initial.types l.types (named (λ k. k) (map deref_pair l.yielded)) (listed l.second) (Some (listed l.met));
+  names : keys_of (listed l.met) ≡ keys_of (named (λ k. k) (map deref_pair l.yielded));
+  standing : AllStand l.types (extern_keys (listed l.met));
+  built : Runs (extern_keys (listed l.first) ++ extern_keys (listed l.second)) l.initial.types l.types (λ c o. AreBuilt c l.types o (listed l.first) (listed l.second) (listed l.met));
+}
+
+abbrev pub invariant-externs::join_externs-loop-name : goal.invariant-externs::join_externs-loop-name
+invariant-externs::join_externs-loop-name l = record {
+  grows : Extends l.initial.types l.types;
+  joined : AreJoined l.initial.types l.types (named (λ k. k) (map deref_pair l.yielded)) (listed l.second) (listed l.joined);
+  names : HasSomeNames bytes_eq (named (λ k. k) (map deref_pair l.yielded)) (listed l.joined);
+  standing : AllStand l.types (extern_keys (listed l.joined));
+  built : Runs (extern_keys (listed l.first) ++ extern_keys (listed l.second)) l.initial.types l.types (λ c o. AreBuilt c l.types o (listed l.first) (listed l.second) (listed l.joined));
+}

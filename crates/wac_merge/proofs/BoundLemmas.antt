@@ -1,0 +1,63 @@
+-- Meets and joins of items, while a collection grows, and where there is none.
+use Rattle.std.proofs.Common.{◌≡◌, refl, ap, sym, subst, ◌∙◌, Option, Some, None}
+use Rattle.std.specs.Option.{option_map}
+use Rattle.wac_model.specs.ItemTree.{ItemTree, Kind, item, type_item, Shape, interface, world, leaf, core_module, composite}
+use Rattle.wac_model.specs.Order.{Fits, leaves, modules, composites}
+use Rattle.wac_model.proofs.ItemOrder.{Fits-refl}
+use Rattle.wac_bounds.specs.MeetIn.{IsMeetIn, IsJoinIn}
+use Rattle.wac_component.specs.Collection.{Collection}
+use Rattle.wac_component.specs.Growth.{Extends}
+use Rattle.wac_component.specs.Key.{AllStand, item_keys}
+use Rattle.wac_component.specs.Tree.{item_tree}
+use Rattle.wac_component.specs.declared.items.ItemKind.{ItemKind}
+use Rattle.wac_merge.specs.Bounded.{IsMetAs, IsJoinedAs, AreApart, AreUnlike}
+
+-- in any relation R of trees
+module _ (R : ItemTree → ItemTree → Type 0) where
+  -- a bound of two items in d is one of them in c, where they stood
+  pub bound_before : (c d : Collection) → Extends c d → (a b : ItemKind) → AllStand c (item_keys a) → AllStand c (item_keys b) → (o : Option ItemTree)
+      → IsMeetIn R (item_tree d a) (item_tree d b) o → IsMeetIn R (item_tree c a) (item_tree c b) o
+  bound_before c d grown a b sa sb o h =
+      subst (λ s. IsMeetIn R s (item_tree c b) o) (grown.trees a sa) (subst (λ t. IsMeetIn R (item_tree d a) t o) (grown.trees b sb) h)
+
+  -- the bound stays one while the collection grows
+  pub bound_after : (d e : Collection) → Extends d e → (s t : ItemTree) (m : ItemKind) → AllStand d (item_keys m) → IsMeetIn R s t (Some (item_tree d m)) → IsMeetIn R s t (Some (item_tree e m))
+  bound_after d e grown s t m sm h = subst (λ x. IsMeetIn R s t (Some x)) (sym (grown.trees m sm)) h
+
+-- of two that fit one way
+pub met_left : (c : Collection) (a b : ItemKind) → Fits (item_tree c a) (item_tree c b) → IsMetAs c c a b (Some a)
+met_left c a b h = (Fits-refl (item_tree c a), h, λ u p q. p)
+
+pub met_right : (c : Collection) (a b : ItemKind) → Fits (item_tree c b) (item_tree c a) → IsMetAs c c a b (Some b)
+met_right c a b h = (h, Fits-refl (item_tree c b), λ u p q. q)
+
+pub joined_right : (c : Collection) (a b : ItemKind) → Fits (item_tree c a) (item_tree c b) → IsJoinedAs c c a b (Some b)
+joined_right c a b h = (h, Fits-refl (item_tree c b), λ u p q. q)
+
+pub joined_left : (c : Collection) (a b : ItemKind) → Fits (item_tree c b) (item_tree c a) → IsJoinedAs c c a b (Some a)
+joined_left c a b h = (Fits-refl (item_tree c a), h, λ u p q. p)
+
+-- what fits where each of two is asked for, one of which has items below it
+none_below : (s t u : ItemTree) → AreUnlike s t → Fits u s → Fits u t → Fits s t
+none_below s t u h leaves leaves = leaves
+none_below s t u h (modules {k = item} p) (modules q) = elim h [ ]
+none_below s t u h (modules {k = type_item} p) (modules q) = elim h [ ]
+none_below s t u h (composites {k = item} {s = interface} p q) (composites p' q') = elim h [ ]
+none_below s t u h (composites {k = item} {s = world} p q) (composites p' q') = elim h [ ]
+none_below s t u h (composites {k = type_item} {s = interface} p q) (composites p' q') = elim h [ ]
+none_below s t u h (composites {k = type_item} {s = world} p q) (composites p' q') = elim h [ ]
+
+none_above : (s t u : ItemTree) → AreUnlike s t → Fits s u → Fits t u → Fits s t
+none_above s t u h leaves leaves = leaves
+none_above s t u h (modules {k = item} p) (modules q) = elim h [ ]
+none_above s t u h (modules {k = type_item} p) (modules q) = elim h [ ]
+none_above s t u h (composites {k = item} {s = interface} p q) (composites p' q') = elim h [ ]
+none_above s t u h (composites {k = item} {s = world} p q) (composites p' q') = elim h [ ]
+none_above s t u h (composites {k = type_item} {s = interface} p q) (composites p' q') = elim h [ ]
+none_above s t u h (composites {k = type_item} {s = world} p q) (composites p' q') = elim h [ ]
+
+pub none_met : (c : Collection) (a b : ItemKind) → ¬ (Fits (item_tree c a) (item_tree c b)) → AreUnlike (item_tree c a) (item_tree c b) → IsMetAs c c a b None
+none_met c a b apart unlike = λ u p q. apart (none_below (item_tree c a) (item_tree c b) u unlike p q)
+
+pub none_joined : (c : Collection) (a b : ItemKind) → ¬ (Fits (item_tree c a) (item_tree c b)) → AreUnlike (item_tree c a) (item_tree c b) → IsJoinedAs c c a b None
+none_joined c a b apart unlike = λ u p q. apart (none_above (item_tree c a) (item_tree c b) u unlike p q)

@@ -1,0 +1,131 @@
+-- The meets and the joins of interfaces, of worlds and of core modules, by what they import and export.
+use Rattle.std.proofs.Common.{◌≡◌, refl, ap, sym, subst, ◌∙◌, Option, Some, None}
+use Rattle.std.specs.Option.{option_map}
+use Rattle.wac_model.specs.CoreTree.{ModuleTree, Serves, ModuleFits}
+use Rattle.wac_model.specs.ItemTree.{ItemTree, Kind, item, type_item, interface, world, composite, core_module, no_items}
+use Rattle.wac_model.specs.Order.{Fits}
+use Rattle.wac_bounds.specs.MeetIn.{IsMeetIn, IsJoinIn}
+use Rattle.wac_bounds.proofs.CompositeBounds.{composite_meet, composite_no_meet, composite_join, composite_no_join}
+use Rattle.wac_bounds.proofs.ModuleBounds.{modules_meet, modules_join}
+use Rattle.wac_component.specs.Id.{Id}
+use Rattle.wac_component.specs.Collection.{Collection}
+use Rattle.wac_component.specs.Growth.{Extends}
+use Rattle.wac_component.specs.Key.{AllStand, interface_key, world_key, module_key}
+use Rattle.wac_component.specs.Tree.{externs, items_of, item_tree, module_tree}
+use Rattle.wac_component.proofs.Extended.{Extends-trans}
+use Rattle.wac_merge.specs.Bounded.{IsMetAs, IsJoinedAs, AreMet, AreJoined, Clash}
+use Rattle.wac_merge.specs.Items.{Externs, extern_keys, entry_item}
+use Rattle.wac_merge.specs.Reads.{HasExports, HasExterns}
+use Rattle.wac_merge.proofs.ExternLemmas.{items_met, items_joined, items_clash, AreMet-after, AreJoined-before}
+
+-- the tree of an item that names an entry
+
+tree_of_interface : (c : Collection) (k : Kind) (x : Id) → item_tree c (entry_item k (interface_key x)) ≡ composite k interface no_items (externs c (interface_key x)).exports
+tree_of_interface c item x = refl
+tree_of_interface c type_item x = refl
+
+tree_of_world : (c : Collection) (k : Kind) (x : Id) → item_tree c (entry_item k (world_key x)) ≡ composite k world (externs c (world_key x)).imports (externs c (world_key x)).exports
+tree_of_world c item x = refl
+tree_of_world c type_item x = refl
+
+tree_of_module : (c : Collection) (k : Kind) (x : Id) → item_tree c (entry_item k (module_key x)) ≡ core_module k (module_tree c x)
+tree_of_module c item x = refl
+tree_of_module c type_item x = refl
+
+interface_form : (c d : Collection) (k : Kind) (x : Id) (es : Externs) → externs c (interface_key x) ≡ record { imports = no_items; exports = items_of (item_tree d) es }
+    → item_tree c (entry_item k (interface_key x)) ≡ composite k interface no_items (items_of (item_tree d) es)
+interface_form c d k x es h = tree_of_interface c k x ∙ ap (λ t. composite k interface no_items t.exports) h
+
+world_form : (c d : Collection) (k : Kind) (x : Id) (is es : Externs) → externs c (world_key x) ≡ record { imports = items_of (item_tree d) is; exports = items_of (item_tree d) es }
+    → item_tree c (entry_item k (world_key x)) ≡ composite k world (items_of (item_tree d) is) (items_of (item_tree d) es)
+world_form c d k x is es h = tree_of_world c k x ∙ ap (λ t. composite k world t.imports t.exports) h
+
+-- a bound of trees is one of trees that are equal to them
+formed : (R : ItemTree → ItemTree → Type 0) {s s' t t' : ItemTree} {o o' : Option ItemTree} → s ≡ s' → t ≡ t' → o ≡ o' → IsMeetIn R s' t' o' → IsMeetIn R s t o
+formed R {s} {s'} {t} {t'} {o} {o'} p q r h =
+    subst (λ x. IsMeetIn R x t o) (sym p) (subst (λ x. IsMeetIn R s' x o) (sym q) (subst (λ x. IsMeetIn R s' t' x) (sym r) h))
+
+-- c when the two are read, d when what they have is met and joined, e with the new entry
+module _ (c d e : Collection) (grown : Extends c d) (x y : Id) (k : Kind) where
+  module _ (es ts : Externs) (hx : HasExports c x es) (hy : HasExports c y ts) where
+    pub interfaces_met : (ms : Externs) (p : Id) → AreMet c d es ts (Some ms) → externs e (interface_key p) ≡ record { imports = no_items; exports = items_of (item_tree d) ms }
+        → IsMetAs c e (entry_item k (interface_key x)) (entry_item k (interface_key y)) (Some (entry_item k (interface_key p)))
+    interfaces_met ms p met tree =
+        formed Fits (interface_form c c k x es hx.tree) (interface_form c c k y ts hy.tree) (ap (λ (t : ItemTree). Some t) (interface_form e d k p ms tree))
+        (composite_meet k interface no_items (items_of (item_tree c) es) no_items (items_of (item_tree c) ts) no_items (items_of (item_tree d) ms)
+        (items_met c d grown es ts hx.standing hy.standing ms met) (λ n. (tt, tt, λ u q r. q)))
+
+    pub interfaces_joined : (js : Externs) (p : Id) → AreJoined c d es ts js → externs e (interface_key p) ≡ record { imports = no_items; exports = items_of (item_tree d) js }
+        → IsJoinedAs c e (entry_item k (interface_key x)) (entry_item k (interface_key y)) (Some (entry_item k (interface_key p)))
+    interfaces_joined js p joined tree =
+        formed (λ s t. Fits t s) (interface_form c c k x es hx.tree) (interface_form c c k y ts hy.tree) (ap (λ (t : ItemTree). Some t) (interface_form e d k p js tree))
+        (composite_join k interface no_items (items_of (item_tree c) es) no_items (items_of (item_tree c) ts) no_items (items_of (item_tree d) js)
+        (items_joined c d grown es ts hx.standing hy.standing js joined) (λ n. (tt, tt, λ u q r. q)))
+
+    pub interfaces_clash : Clash c es ts → IsMetAs c e (entry_item k (interface_key x)) (entry_item k (interface_key y)) None
+    interfaces_clash h =
+        formed Fits {o = None} {o' = None} (interface_form c c k x es hx.tree) (interface_form c c k y ts hy.tree) refl
+        (composite_no_meet k interface no_items (items_of (item_tree c) es) no_items (items_of (item_tree c) ts) h.name (items_clash c es ts h))
+
+  module _ (is es js ts : Externs) (hx : HasExterns c x is es) (hy : HasExterns c y js ts) where
+    pub worlds_met : (ms ns : Externs) (p : Id) → AreMet c d es ts (Some ms) → AreJoined c d is js ns
+        → externs e (world_key p) ≡ record { imports = items_of (item_tree d) ns; exports = items_of (item_tree d) ms }
+        → IsMetAs c e (entry_item k (world_key x)) (entry_item k (world_key y)) (Some (entry_item k (world_key p)))
+    worlds_met ms ns p met joined tree =
+        formed Fits (world_form c c k x is es hx.tree) (world_form c c k y js ts hy.tree) (ap (λ (t : ItemTree). Some t) (world_form e d k p ns ms tree))
+        (composite_meet k world (items_of (item_tree c) is) (items_of (item_tree c) es) (items_of (item_tree c) js) (items_of (item_tree c) ts) (items_of (item_tree d) ns) (items_of (item_tree d) ms)
+        (items_met c d grown es ts hx.exports_stand hy.exports_stand ms met) (items_joined c d grown is js hx.imports_stand hy.imports_stand ns joined))
+
+    pub worlds_joined : (ms ns : Externs) (p : Id) → AreMet c d is js (Some ms) → AreJoined c d es ts ns
+        → externs e (world_key p) ≡ record { imports = items_of (item_tree d) ms; exports = items_of (item_tree d) ns }
+        → IsJoinedAs c e (entry_item k (world_key x)) (entry_item k (world_key y)) (Some (entry_item k (world_key p)))
+    worlds_joined ms ns p met joined tree =
+        formed (λ s t. Fits t s) (world_form c c k x is es hx.tree) (world_form c c k y js ts hy.tree) (ap (λ (t : ItemTree). Some t) (world_form e d k p ms ns tree))
+        (composite_join k world (items_of (item_tree c) is) (items_of (item_tree c) es) (items_of (item_tree c) js) (items_of (item_tree c) ts) (items_of (item_tree d) ms) (items_of (item_tree d) ns)
+        (items_joined c d grown es ts hx.exports_stand hy.exports_stand ns joined) (items_met c d grown is js hx.imports_stand hy.imports_stand ms met))
+
+    pub worlds_clash : Clash c es ts → IsMetAs c e (entry_item k (world_key x)) (entry_item k (world_key y)) None
+    worlds_clash h =
+        formed Fits {o = None} {o' = None} (world_form c c k x is es hx.tree) (world_form c c k y js ts hy.tree) refl
+        (composite_no_meet k world (items_of (item_tree c) is) (items_of (item_tree c) es) (items_of (item_tree c) js) (items_of (item_tree c) ts) h.name (items_clash c es ts h))
+
+    pub worlds_do_not_join : Clash c is js → IsJoinedAs c e (entry_item k (world_key x)) (entry_item k (world_key y)) None
+    worlds_do_not_join h =
+        formed (λ s t. Fits t s) {o = None} {o' = None} (world_form c c k x is es hx.tree) (world_form c c k y js ts hy.tree) refl
+        (composite_no_join k world (items_of (item_tree c) is) (items_of (item_tree c) es) (items_of (item_tree c) js) (items_of (item_tree c) ts) h.name (items_clash c is js h))
+
+-- worlds, one part of which is met in d and the other joined in f
+module _ (c d f e : Collection) (grown : Extends c d) (more : Extends d f) (x y : Id) (k : Kind) (is es js ts : Externs) (hx : HasExterns c x is es) (hy : HasExterns c y js ts) (ms ns : Externs) (p : Id) where
+  pub worlds_met_then : AreMet c d es ts (Some ms) → AllStand d (extern_keys ms) → AreJoined d f is js ns → externs e (world_key p) ≡ record { imports = items_of (item_tree f) ns; exports = items_of (item_tree f) ms }
+      → IsMetAs c e (entry_item k (world_key x)) (entry_item k (world_key y)) (Some (entry_item k (world_key p)))
+  worlds_met_then met standing joined tree =
+      worlds_met c f e (Extends-trans c d f grown more) x y k is es js ts hx hy ms ns p (AreMet-after c d f more es ts ms standing met)
+      (AreJoined-before c d f grown is js ns hx.imports_stand hy.imports_stand joined) tree
+
+  pub worlds_joined_then : AreMet c d is js (Some ms) → AllStand d (extern_keys ms) → AreJoined d f es ts ns → externs e (world_key p) ≡ record { imports = items_of (item_tree f) ms; exports = items_of (item_tree f) ns }
+      → IsJoinedAs c e (entry_item k (world_key x)) (entry_item k (world_key y)) (Some (entry_item k (world_key p)))
+  worlds_joined_then met standing joined tree =
+      worlds_joined c f e (Extends-trans c d f grown more) x y k is es js ts hx hy ms ns p (AreMet-after c d f more is js ms standing met)
+      (AreJoined-before c d f grown es ts ns hx.exports_stand hy.exports_stand joined) tree
+
+-- core modules, which name no items
+
+pub modules_met : (c e : Collection) (x y : Id) (k : Kind) (s t : ModuleTree) (o : Option ModuleTree) (r : Option Id) → module_tree c x ≡ s → module_tree c y ≡ t
+    → option_map (module_tree e) r ≡ o → IsMeetIn ModuleFits s t o
+    → IsMetAs c e (entry_item k (module_key x)) (entry_item k (module_key y)) (option_map (λ p. entry_item k (module_key p)) r)
+modules_met c e x y k s t o r sx ty is h =
+    formed Fits (tree_of_module c k x ∙ ap (core_module k) sx) (tree_of_module c k y ∙ ap (core_module k) ty) (trees r ∙ ap (option_map (core_module k)) is) (modules_meet k s t o h)
+  where
+    trees : (r : Option Id) → option_map (item_tree e) (option_map (λ p. entry_item k (module_key p)) r) ≡ option_map (core_module k) (option_map (module_tree e) r)
+    trees None = refl
+    trees (Some p) = ap (λ (u : ItemTree). Some u) (tree_of_module e k p)
+
+pub modules_joined : (c e : Collection) (x y : Id) (k : Kind) (s t : ModuleTree) (o : Option ModuleTree) (r : Option Id) → module_tree c x ≡ s → module_tree c y ≡ t
+    → option_map (module_tree e) r ≡ o → IsJoinIn ModuleFits s t o
+    → IsJoinedAs c e (entry_item k (module_key x)) (entry_item k (module_key y)) (option_map (λ p. entry_item k (module_key p)) r)
+modules_joined c e x y k s t o r sx ty is h =
+    formed (λ u v. Fits v u) (tree_of_module c k x ∙ ap (core_module k) sx) (tree_of_module c k y ∙ ap (core_module k) ty) (trees r ∙ ap (option_map (core_module k)) is) (modules_join k s t o h)
+  where
+    trees : (r : Option Id) → option_map (item_tree e) (option_map (λ p. entry_item k (module_key p)) r) ≡ option_map (core_module k) (option_map (module_tree e) r)
+    trees None = refl
+    trees (Some p) = ap (λ (u : ItemTree). Some u) (tree_of_module e k p)

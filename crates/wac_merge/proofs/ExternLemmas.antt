@@ -1,0 +1,165 @@
+-- Meets and joins of what interfaces and worlds import and export, name by name.
+use Rattle.std.proofs.Common.{◌≡◌, refl, ap, sym, subst, ◌∙◌, Bool, true, false, cond, [], ◌∷◌, ◌++◌, filter, Option, Some, None}
+use Rattle.std.specs.Str.{bytes_eq}
+use Rattle.std.specs.Option.{option_map, option_or}
+use Rattle.std.proofs.lemmas.List.Elements.{All-weaker}
+use Rattle.std.proofs.lemmas.Slice.Eq.{bytes_eq-Decides}
+use Rattle.wac_model.specs.Text.{Text, lookup}
+use Rattle.wac_model.specs.CoreTree.{Serves}
+use Rattle.wac_model.specs.ItemTree.{ItemTree, Kind, Shape, Items, interface, composite, no_items, item_at}
+use Rattle.wac_model.specs.Order.{Fits}
+use Rattle.wac_model.proofs.ItemOrder.{Fits-refl}
+use Rattle.wac_bounds.specs.MeetIn.{IsMeetIn, IsJoinIn}
+use Rattle.wac_bounds.proofs.MeetOf.{meet_both, join_both}
+use Rattle.wac_bounds.proofs.CompositeBounds.{composite_meet, composite_no_meet, composite_join, composite_no_join}
+use Rattle.wac_component.specs.Collection.{Collection}
+use Rattle.wac_component.specs.Growth.{Extends}
+use Rattle.wac_component.specs.Key.{Stands, AllStand, item_keys, optional_keys}
+use Rattle.wac_component.specs.Tree.{item_tree, items_of}
+use Rattle.wac_component.specs.declared.items.ItemKind.{ItemKind}
+use Rattle.wac_component.proofs.Keys.{Each-left, Each-right, Each-append}
+use Rattle.wac_core_merge.specs.Names.{is_new, with_new}
+use Rattle.wac_core_merge.proofs.NameLemmas.{lookup-with_new, All-with_new}
+use Rattle.wac_checker.proofs.ExternLemmas.{item_at-items_of, named_stands}
+use Rattle.wac_merge.specs.Items.{Externs, extern_keys, AreFound}
+use Rattle.wac_merge.specs.Bounded.{IsMetAs, IsJoinedAs, IsMetWith, IsJoinedWith, IsMetAt, IsFirstMetAt, IsJoinedAt, AreFirstMet, AreMet, AreJoined, Clash}
+use Rattle.wac_merge.specs.Built.{Origins, IsBuiltAt, of_second, AreBuilt}
+use Rattle.wac_merge.proofs.BoundLemmas.{bound_before, bound_after}
+
+-- what a look-up finds stands where all do
+pub found_stands : (c : Collection) (es : Externs) (n : Text) → AllStand c (extern_keys es) → AllStand c (optional_keys item_keys (lookup bytes_eq es n))
+found_stands c es n h = go (lookup bytes_eq es n) refl
+  where
+    go : (o : Option ItemKind) → lookup bytes_eq es n ≡ o → AllStand c (optional_keys item_keys o)
+    go None g = tt
+    go (Some k) g = named_stands c es n k g h
+
+-- an item met with what the other side has, in a collection that grew
+pub met_with_before : (c d e : Collection) → Extends c d → (a : ItemKind) (b m : Option ItemKind) → AllStand c (item_keys a) → AllStand c (optional_keys item_keys b)
+    → IsMetWith d e a b m → IsMetWith c e a b m
+met_with_before c d e grown a None m sa sb h = h
+met_with_before c d e grown a (Some b) m sa sb h = bound_before Fits c d grown a b sa sb (option_map (item_tree e) m) h
+
+pub met_with_after : (c d e : Collection) → Extends d e → (a : ItemKind) (b : Option ItemKind) (m : ItemKind) → AllStand d (item_keys m) → IsMetWith c d a b (Some m) → IsMetWith c e a b (Some m)
+met_with_after c d e grown a None m sm h = h
+met_with_after c d e grown a (Some b) m sm h = bound_after Fits d e grown (item_tree c a) (item_tree c b) m sm h
+
+pub joined_with_before : (c d e : Collection) → Extends c d → (a : ItemKind) (b m : Option ItemKind) → AllStand c (item_keys a) → AllStand c (optional_keys item_keys b)
+    → IsJoinedWith d e a b m → IsJoinedWith c e a b m
+joined_with_before c d e grown a None m sa sb h = h
+joined_with_before c d e grown a (Some b) m sa sb h = bound_before (λ x y. Fits y x) c d grown a b sa sb (option_map (item_tree e) m) h
+
+pub joined_with_after : (c d e : Collection) → Extends d e → (a : ItemKind) (b m : Option ItemKind) → AllStand d (optional_keys item_keys m) → IsJoinedWith c d a b m → IsJoinedWith c e a b m
+joined_with_after c d e grown a None m sm h = h
+joined_with_after c d e grown a (Some b) None sm h = h
+joined_with_after c d e grown a (Some b) (Some m) sm h = bound_after (λ x y. Fits y x) d e grown (item_tree c a) (item_tree c b) m sm h
+
+-- the same under a name
+pub first_met_after : (c d e : Collection) → Extends d e → (a b m : Option ItemKind) → AllStand d (optional_keys item_keys m) → IsFirstMetAt c d a b m → IsFirstMetAt c e a b m
+first_met_after c d e grown None b m sm h = h
+first_met_after c d e grown (Some a) b None sm h = h
+first_met_after c d e grown (Some a) b (Some m) sm h = met_with_after c d e grown a b m sm h
+
+pub joined_after : (c d e : Collection) → Extends d e → (a b m : Option ItemKind) → AllStand d (optional_keys item_keys m) → IsJoinedAt c d a b m → IsJoinedAt c e a b m
+joined_after c d e grown None b m sm h = h
+joined_after c d e grown (Some a) b m sm h = joined_with_after c d e grown a b m sm h
+
+-- the names of the first met, then the others of the second
+pub met_with_others : (c d : Collection) (a b m : Option ItemKind) → IsFirstMetAt c d a b m → IsMetAt c d a b (option_or m b)
+met_with_others c d None b m h = ap (λ o. option_or o b) h
+met_with_others c d (Some a) b None h = elim h [ ]
+met_with_others c d (Some a) b (Some m) h = h
+
+-- what is clashing with an item has no meet with it
+pub clash_at : (c d : Collection) (es ts : Externs) (n : Text) (a : ItemKind) (b : Option ItemKind) → lookup bytes_eq es n ≡ Some a → lookup bytes_eq ts n ≡ b → IsMetWith c d a b None → Clash c es ts
+clash_at c d es ts n a None first second h = absurd (cc)
+clash_at c d es ts n a (Some b) first second h = record { name = n; left = a; right = b; of_first = first; of_second = second; no_meet = h }
+
+-- the trees at a name
+
+same_tree : (c d : Collection) → Extends c d → (b : ItemKind) → AllStand c (item_keys b) → item_tree d b ≡ item_tree c b
+same_tree c d grown b sb = grown.trees b sb
+
+meet_at : (c d : Collection) → Extends c d → (a b m : Option ItemKind) → AllStand c (optional_keys item_keys a) → AllStand c (optional_keys item_keys b) → IsMetAt c d a b m
+    → IsMeetIn (Serves Fits) (option_map (item_tree c) a) (option_map (item_tree c) b) (Some (option_map (item_tree d) m))
+meet_at c d grown None None m sa sb h = rw h (tt, tt, λ u p q. tt)
+meet_at c d grown None (Some b) m sa sb h = rw (h, grown.trees b sb) (tt, Fits-refl (item_tree c b), λ u p q. q)
+meet_at c d grown (Some a) b None sa sb h = elim h [ ]
+meet_at c d grown (Some a) None (Some m) sa sb h =
+    let same : m ≡ a = cc in
+    rw (same, grown.trees a sa) (Fits-refl (item_tree c a), tt, λ u p q. p)
+meet_at c d grown (Some a) (Some b) (Some m) sa sb h = meet_both Fits (item_tree c a) (item_tree c b) (Some (item_tree d m)) h
+
+join_at : (c d : Collection) → (a b m : Option ItemKind) → IsJoinedAt c d a b m
+    → IsJoinIn (Serves Fits) (option_map (item_tree c) a) (option_map (item_tree c) b) (Some (option_map (item_tree d) m))
+join_at c d None b m h = rw h (tt, tt, λ u p q. p)
+join_at c d (Some a) None m h = rw h (tt, tt, λ u p q. q)
+join_at c d (Some a) (Some b) m h = join_both Fits (item_tree c a) (item_tree c b) (option_map (item_tree d) m) h
+
+module _ (c d : Collection) (grown : Extends c d) (es ts : Externs) (ses : AllStand c (extern_keys es)) (sts : AllStand c (extern_keys ts)) where
+  -- the trees of named items that are met
+  pub items_met : (ms : Externs) → AreMet c d es ts (Some ms)
+      → (n : Text) → IsMeetIn (Serves Fits) (item_at (items_of (item_tree c) es) n) (item_at (items_of (item_tree c) ts) n) (Some (item_at (items_of (item_tree d) ms) n))
+  items_met ms h n =
+      rw (item_at-items_of (item_tree c) es n, item_at-items_of (item_tree c) ts n, item_at-items_of (item_tree d) ms n)
+      (meet_at c d grown (lookup bytes_eq es n) (lookup bytes_eq ts n) (lookup bytes_eq ms n) (found_stands c es n ses) (found_stands c ts n sts) (h n))
+
+  pub items_joined : (js : Externs) → AreJoined c d es ts js
+      → (n : Text) → IsJoinIn (Serves Fits) (item_at (items_of (item_tree c) es) n) (item_at (items_of (item_tree c) ts) n) (Some (item_at (items_of (item_tree d) js) n))
+  items_joined js h n =
+      rw (item_at-items_of (item_tree c) es n, item_at-items_of (item_tree c) ts n, item_at-items_of (item_tree d) js n)
+      (join_at c d (lookup bytes_eq es n) (lookup bytes_eq ts n) (lookup bytes_eq js n) (h n))
+
+-- where they clash there is no meet at the name
+pub items_clash : (c : Collection) (es ts : Externs) (h : Clash c es ts)
+    → IsMeetIn (Serves Fits) (item_at (items_of (item_tree c) es) h.name) (item_at (items_of (item_tree c) ts) h.name) None
+items_clash c es ts h =
+    rw (item_at-items_of (item_tree c) es h.name, item_at-items_of (item_tree c) ts h.name, h.of_first, h.of_second)
+    (meet_both Fits (item_tree c h.left) (item_tree c h.right) None h.no_meet)
+
+-- the names of the first met, then the others: fs is ms with what ts has more
+
+pub all_met : (c d : Collection) (es ts ms fs : Externs) → AreFirstMet c d es ts (Some ms) → fs ≡ with_new bytes_eq ms ts → AreMet c d es ts (Some fs)
+all_met c d es ts ms fs h is = λ n.
+    subst (λ o. IsMetAt c d (lookup bytes_eq es n) (lookup bytes_eq ts n) o) (sym (ap (λ l. lookup bytes_eq l n) is ∙ lookup-with_new bytes_eq bytes_eq-Decides ms ts n))
+    (met_with_others c d (lookup bytes_eq es n) (lookup bytes_eq ts n) (lookup bytes_eq ms n) (h n))
+
+pub all_stand : (c : Collection) (ms ts fs : Externs) → fs ≡ with_new bytes_eq ms ts → AllStand c (extern_keys ms) → AllStand c (extern_keys ts) → AllStand c (extern_keys fs)
+all_stand c ms ts fs is h g = rw is (joined ms h)
+  where
+    kept : (p : Text × ItemKind → Bool) (ts : Externs) → AllStand c (extern_keys ts) → AllStand c (extern_keys (filter p ts))
+    kept p [] g = tt
+    kept p (t ∷ ts) g = go (p t) (kept p ts (Each-right (Stands c) (item_keys t.1) (extern_keys ts) g))
+      where
+        go : (b : Bool) → AllStand c (extern_keys (filter p ts)) → AllStand c (extern_keys (cond b (t ∷ filter p ts) (filter p ts)))
+        go true h = Each-append (Stands c) (item_keys t.1) (extern_keys (filter p ts)) (Each-left (Stands c) (item_keys t.1) (extern_keys ts) g) h
+        go false h = h
+
+    news : Externs
+    news = filter (λ t. is_new bytes_eq ms t.0) ts
+
+    joined : (xs : Externs) → AllStand c (extern_keys xs) → AllStand c (extern_keys (xs ++ news))
+    joined [] h = kept (λ t. is_new bytes_eq ms t.0) ts g
+    joined (x ∷ xs) h = Each-append (Stands c) (item_keys x.1) (extern_keys (xs ++ news)) (Each-left (Stands c) (item_keys x.1) (extern_keys xs) h) (joined xs (Each-right (Stands c) (item_keys x.1) (extern_keys xs) h))
+
+pub all_built : (c d : Collection) (o : Origins) (es ts ms fs : Externs) → fs ≡ with_new bytes_eq ms ts → AreFound ts → AreBuilt c d o es ts ms → AreBuilt c d o es ts fs
+all_built c d o es ts ms fs is found h =
+    let P : Text × ItemKind → Type 0 = λ e. IsBuiltAt c d o es ts e.0 e.1 in
+    rw is (All-with_new bytes_eq P ms ts h (All-weaker (λ e. lookup bytes_eq ts e.0 ≡ Some e.1) P (λ e. of_second) ts found))
+
+-- while more is added
+
+pub AreMet-after : (c d e : Collection) → Extends d e → (es ts ms : Externs) → AllStand d (extern_keys ms) → AreMet c d es ts (Some ms) → AreMet c e es ts (Some ms)
+AreMet-after c d e grown es ts ms standing h = λ n. go (lookup bytes_eq es n) (lookup bytes_eq ts n) (lookup bytes_eq ms n) (found_stands d ms n standing) (h n)
+  where
+    go : (a b m : Option ItemKind) → AllStand d (optional_keys item_keys m) → IsMetAt c d a b m → IsMetAt c e a b m
+    go None b m sm h = h
+    go (Some a) b None sm h = h
+    go (Some a) b (Some m) sm h = met_with_after c d e grown a b m sm h
+
+pub AreJoined-before : (c d e : Collection) → Extends c d → (es ts js : Externs) → AllStand c (extern_keys es) → AllStand c (extern_keys ts) → AreJoined d e es ts js → AreJoined c e es ts js
+AreJoined-before c d e grown es ts js ses sts h = λ n. go (lookup bytes_eq es n) (lookup bytes_eq ts n) (lookup bytes_eq js n) (found_stands c es n ses) (found_stands c ts n sts) (h n)
+  where
+    go : (a b m : Option ItemKind) → AllStand c (optional_keys item_keys a) → AllStand c (optional_keys item_keys b) → IsJoinedAt d e a b m → IsJoinedAt c e a b m
+    go None b m sa sb h = h
+    go (Some a) b m sa sb h = joined_with_before c d e grown a b m sa sb h

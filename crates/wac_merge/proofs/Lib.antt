@@ -1,0 +1,11 @@
+pub mod PutLemmas
+pub mod AddLemmas
+pub mod BoundLemmas
+pub mod ExternLemmas
+pub mod BuiltLemmas
+pub mod ReadLemmas
+pub mod CompositeLemmas
+pub mod MadeLemmas
+pub mod LoopLemmas
+pub mod ItemLemmas
+pub mod OrderLemmas

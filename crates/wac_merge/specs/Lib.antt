@@ -1,0 +1,5 @@
+pub mod Items
+pub mod Bounded
+pub mod Built
+pub mod Runs
+pub mod Reads

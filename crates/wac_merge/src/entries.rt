@@ -1,0 +1,96 @@
+//! What is read of interfaces and worlds, and the entries that are made of two.
+
+ghost use Rattle.std.specs.Prelude.{◌≡◌, IfOk, OnOk, OnErr, Some, None};
+ghost use Rattle.wac_component.specs.Content.{named, use_content};
+ghost use Rattle.wac_component.specs.Growth.{Extends};
+ghost use Rattle.wac_component.specs.Key.{Stands, AllStand, interface_key, world_key};
+ghost use Rattle.wac_merge.specs.Built.{uses_of_both};
+ghost use Rattle.wac_merge.specs.Items.{extern_keys, listed};
+ghost use Rattle.wac_merge.specs.Reads.{HasExports, HasExterns, IsInterfaceOfBoth, IsWorldOfBoth};
+
+use indexmap::IndexMap;
+use std::alloc::AllocError;
+use wac_component::{Interface, InterfaceId, ItemKind, Types, UsedType, World, WorldId};
+use wac_core_merge::add_new;
+
+// The exports of an interface.
+pub(crate) fn exports_of(
+    types: &Types,
+    id: InterfaceId,
+) -> Result<IndexMap<String, ItemKind>, AllocError>
+    requires { Stands types.now (interface_key id) }
+    ensures { IfOk result (λ m. HasExports types.now id (listed m)) }
+{
+    types[id].exports.clone()
+}
+
+// The imports and the exports of a world.
+pub(crate) fn externs_of(
+    types: &Types,
+    id: WorldId,
+) -> Result<(IndexMap<String, ItemKind>, IndexMap<String, ItemKind>), AllocError>
+    requires { Stands types.now (world_key id) }
+    ensures { IfOk result (λ m. HasExterns types.now id (listed m.0) (listed m.1)) }
+{
+    let world = &types[id];
+    Ok((world.imports.clone()?, world.exports.clone()?))
+}
+
+// What the first uses, and then what the second uses under other names.
+fn uses_of_both(
+    first: &IndexMap<String, UsedType>,
+    second: &IndexMap<String, UsedType>,
+) -> Result<IndexMap<String, UsedType>, AllocError>
+    ensures { IfOk result (λ m. named use_content m.entries ≡ uses_of_both (named use_content first.now.entries) (named use_content second.now.entries)) }
+{
+    let mut uses = first.clone()?;
+    add_new(&mut uses, second.clone()?)?;
+    Ok(uses)
+}
+
+// Puts an interface last that has these exports and uses what both do.
+pub(crate) fn add_interface_of(
+    types: &mut Types,
+    first: InterfaceId,
+    second: InterfaceId,
+    exports: IndexMap<String, ItemKind>,
+) -> Result<InterfaceId, AllocError>
+    requires first { Stands types.old (interface_key first) }
+    requires second { Stands types.old (interface_key second) }
+    requires exports { AllStand types.old (extern_keys (listed exports)) }
+    ensures made { IfOk result (λ p. IsInterfaceOfBoth types.old types.new first second (listed exports) p) }
+    ensures grows { Extends types.old types.new }
+    ensures err { OnErr result (types.new ≡ types.old) }
+{
+    let uses = uses_of_both(&types[first].uses, &types[second].uses)?;
+    types.add_interface(Interface {
+        id: None,
+        uses,
+        exports,
+    })
+}
+
+// Puts a world last that has these imports and exports and uses what both do.
+pub(crate) fn add_world_of(
+    types: &mut Types,
+    first: WorldId,
+    second: WorldId,
+    imports: IndexMap<String, ItemKind>,
+    exports: IndexMap<String, ItemKind>,
+) -> Result<WorldId, AllocError>
+    requires first { Stands types.old (world_key first) }
+    requires second { Stands types.old (world_key second) }
+    requires imports { AllStand types.old (extern_keys (listed imports)) }
+    requires exports { AllStand types.old (extern_keys (listed exports)) }
+    ensures made { IfOk result (λ p. IsWorldOfBoth types.old types.new first second (listed imports) (listed exports) p) }
+    ensures grows { Extends types.old types.new }
+    ensures err { OnErr result (types.new ≡ types.old) }
+{
+    let uses = uses_of_both(&types[first].uses, &types[second].uses)?;
+    types.add_world(World {
+        id: None,
+        uses,
+        imports,
+        exports,
+    })
+}

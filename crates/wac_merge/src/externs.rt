@@ -1,0 +1,139 @@
+//! What two interfaces or two worlds have under names, met and joined.
+
+ghost use Rattle.std.specs.Prelude.{◌≡◌, ◌++◌, IfOk, IfSome};
+ghost use Rattle.std.specs.Map.{keys_of};
+ghost use Rattle.std.specs.Option.{option_map};
+ghost use Rattle.std.specs.Str.{bytes_eq};
+ghost use Rattle.wac_core_merge.specs.NameOrder.{HasAllNames, HasSomeNames};
+ghost use Rattle.wac_component.specs.Growth.{Extends};
+ghost use Rattle.wac_component.specs.Key.{AllStand, item_keys, optional_keys};
+ghost use Rattle.wac_merge.specs.Items.{extern_keys, listed};
+ghost use Rattle.wac_merge.specs.Bounded.{IsMetWith, IsJoinedWith, AreMet, AreFirstMet, AreJoined};
+ghost use Rattle.wac_merge.specs.Built.{IsBuiltWith, AreBuilt};
+ghost use Rattle.wac_merge.specs.Runs.{Runs};
+
+use crate::items::{join_items, meet_items};
+use crate::names::{add_others, extern_named, put_extern};
+use indexmap::IndexMap;
+use std::alloc::{AllocError, Global};
+use wac_component::{ItemKind, Types};
+
+// The names of both, with what both have met, or none where a name of both has no meet.
+#[cycle(bounds)]
+pub(crate) fn meet_externs(
+    alloc: Global,
+    types: &mut Types,
+    first: &IndexMap<String, ItemKind>,
+    second: &IndexMap<String, ItemKind>,
+) -> Result<Option<IndexMap<String, ItemKind>>, AllocError>
+    requires left { AllStand types.old (extern_keys (listed first.now)) }
+    requires right { AllStand types.old (extern_keys (listed second.now)) }
+    ensures grows { Extends types.old types.new }
+    ensures met { IfOk result (λ r. AreMet types.old types.new (listed first.now) (listed second.now) (option_map listed r)) }
+    ensures names { IfOk result (λ r. IfSome r (λ m. HasAllNames bytes_eq (listed first.now) (listed second.now) (listed m))) }
+    ensures standing { IfOk result (λ r. IfSome r (λ m. AllStand types.new (extern_keys (listed m)))) }
+    ensures built { Runs (extern_keys (listed first.now) ++ extern_keys (listed second.now)) types.old types.new (λ c o. IfOk result (λ r. IfSome r (λ m. AreBuilt c types.new o (listed first.now) (listed second.now) (listed m)))) }
+{
+    match meet_first(alloc, types, first, second)? {
+        Some(mut met) => {
+            add_others(&mut met, second)?;
+            Ok(Some(met))
+        }
+        None => Ok(None),
+    }
+}
+
+// The names of the first side, with what both have met.
+#[cycle(bounds)]
+fn meet_first(
+    alloc: Global,
+    types: &mut Types,
+    first: &IndexMap<String, ItemKind>,
+    second: &IndexMap<String, ItemKind>,
+) -> Result<Option<IndexMap<String, ItemKind>>, AllocError>
+    requires left { AllStand types.old (extern_keys (listed first.now)) }
+    requires right { AllStand types.old (extern_keys (listed second.now)) }
+    ensures grows { Extends types.old types.new }
+    ensures met { IfOk result (λ r. AreFirstMet types.old types.new (listed first.now) (listed second.now) (option_map listed r)) }
+    ensures names { IfOk result (λ r. IfSome r (λ m. keys_of (listed m) ≡ keys_of (listed first.now))) }
+    ensures standing { IfOk result (λ r. IfSome r (λ m. AllStand types.new (extern_keys (listed m)))) }
+    ensures built { Runs (extern_keys (listed first.now) ++ extern_keys (listed second.now)) types.old types.new (λ c o. IfOk result (λ r. IfSome r (λ m. AreBuilt c types.new o (listed first.now) (listed second.now) (listed m)))) }
+{
+    let mut met = IndexMap::new(alloc);
+    for (name, a) in first {
+        let b = extern_named(second, name);
+        match meet_with(alloc, types, *a, b)? {
+            Some(kind) => put_extern(&mut met, name, kind)?,
+            None => return Ok(None),
+        }
+    }
+    Ok(Some(met))
+}
+
+// An item met with what the other side has, if anything.
+#[cycle(bounds)]
+fn meet_with(
+    alloc: Global,
+    types: &mut Types,
+    a: ItemKind,
+    b: Option<ItemKind>,
+) -> Result<Option<ItemKind>, AllocError>
+    requires left { AllStand types.old (item_keys a) }
+    requires right { AllStand types.old (optional_keys item_keys b) }
+    ensures grows { Extends types.old types.new }
+    ensures met { IfOk result (λ m. IsMetWith types.old types.new a b m) }
+    ensures standing { IfOk result (λ m. IfSome m (λ k. AllStand types.new (item_keys k))) }
+    ensures built { Runs (item_keys a ++ optional_keys item_keys b) types.old types.new (λ c o. IfOk result (λ m. IfSome m (IsBuiltWith c types.new o a b))) }
+{
+    match b {
+        Some(b) => meet_items(alloc, types, a, b),
+        None => Ok(Some(a)),
+    }
+}
+
+// The names that both sides have, with what both have joined; those without a join are dropped.
+#[cycle(bounds)]
+pub(crate) fn join_externs(
+    alloc: Global,
+    types: &mut Types,
+    first: &IndexMap<String, ItemKind>,
+    second: &IndexMap<String, ItemKind>,
+) -> Result<IndexMap<String, ItemKind>, AllocError>
+    requires left { AllStand types.old (extern_keys (listed first.now)) }
+    requires right { AllStand types.old (extern_keys (listed second.now)) }
+    ensures grows { Extends types.old types.new }
+    ensures joined { IfOk result (λ j. AreJoined types.old types.new (listed first.now) (listed second.now) (listed j)) }
+    ensures names { IfOk result (λ j. HasSomeNames bytes_eq (listed first.now) (listed j)) }
+    ensures standing { IfOk result (λ j. AllStand types.new (extern_keys (listed j))) }
+    ensures built { Runs (extern_keys (listed first.now) ++ extern_keys (listed second.now)) types.old types.new (λ c o. IfOk result (λ j. AreBuilt c types.new o (listed first.now) (listed second.now) (listed j))) }
+{
+    let mut joined = IndexMap::new(alloc);
+    for (name, a) in first {
+        let b = extern_named(second, name);
+        if let Some(kind) = join_with(alloc, types, *a, b)? {
+            put_extern(&mut joined, name, kind)?;
+        }
+    }
+    Ok(joined)
+}
+
+// An item joined with what the other side has, if anything.
+#[cycle(bounds)]
+fn join_with(
+    alloc: Global,
+    types: &mut Types,
+    a: ItemKind,
+    b: Option<ItemKind>,
+) -> Result<Option<ItemKind>, AllocError>
+    requires left { AllStand types.old (item_keys a) }
+    requires right { AllStand types.old (optional_keys item_keys b) }
+    ensures grows { Extends types.old types.new }
+    ensures joined { IfOk result (λ m. IsJoinedWith types.old types.new a b m) }
+    ensures standing { IfOk result (λ m. IfSome m (λ k. AllStand types.new (item_keys k))) }
+    ensures built { Runs (item_keys a ++ optional_keys item_keys b) types.old types.new (λ c o. IfOk result (λ m. IfSome m (IsBuiltWith c types.new o a b))) }
+{
+    match b {
+        Some(b) => join_items(alloc, types, a, b),
+        None => Ok(None),
+    }
+}

@@ -1,0 +1,15 @@
+//! Greatest lower and least upper bounds of items: what two imports that are merged into one must
+//! be, and what fits where either of two items is given.
+#![tactic(auto)]
+
+mod bounds;
+mod composites;
+mod entries;
+mod externs;
+mod items;
+mod modules;
+mod names;
+mod order;
+mod wrap;
+
+pub use bounds::{join, meet};

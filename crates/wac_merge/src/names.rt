@@ -1,0 +1,43 @@
+//! Named things, read and put by name.
+
+ghost use Rattle.std.specs.Prelude.{◌≡◌, string_bytes, OnOk};
+ghost use Rattle.std.specs.Str.{bytes_eq};
+ghost use Rattle.indexmap.specs.IndexMap.{insert_entry};
+ghost use Rattle.wac_model.specs.Text.{lookup};
+ghost use Rattle.wac_core_merge.specs.Names.{with_new};
+ghost use Rattle.wac_merge.specs.Items.{AreFound, listed};
+
+use indexmap::IndexMap;
+use std::alloc::AllocError;
+use wac_component::ItemKind;
+use wac_core_merge::add_new;
+
+// The item of a name.
+pub(crate) fn extern_named(externs: &IndexMap<String, ItemKind>, name: &String) -> Option<ItemKind>
+    ensures { result ≡ lookup bytes_eq (listed externs.now) (string_bytes name.now) }
+{
+    externs.get(name).copied()
+}
+
+// Puts an item under a name.
+pub(crate) fn put_extern(
+    externs: &mut IndexMap<String, ItemKind>,
+    name: &String,
+    kind: ItemKind,
+) -> Result<(), AllocError>
+    ensures { OnOk result (listed externs.new ≡ insert_entry bytes_eq (listed externs.old) (string_bytes name.now) kind) }
+{
+    externs.insert(name.clone()?, kind)?;
+    Ok(())
+}
+
+// Puts the items of the second side last whose names the first side lacks.
+pub(crate) fn add_others(
+    externs: &mut IndexMap<String, ItemKind>,
+    second: &IndexMap<String, ItemKind>,
+) -> Result<(), AllocError>
+    ensures added { OnOk result (listed externs.new ≡ with_new bytes_eq (listed externs.old) (listed second.now)) }
+    ensures found { OnOk result (AreFound (listed second.now)) }
+{
+    add_new(externs, second.clone()?)
+}
