@@ -12,4 +12,5 @@ pub use report::{
     TargetValidationResult,
 };
 pub use target::validate_target;
+pub use texts::ItemText;
 pub use wac_component::TargetError;

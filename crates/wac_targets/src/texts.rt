@@ -31,9 +31,8 @@ impl TargetValidationReport {
         }
         f.write_str("Exports required by target world but not present in the component:\n")?;
         for (name, kind) in self.missing_exports() {
-            write!(f, "  - {name}: ")?;
-            write_item(*kind, f)?;
-            f.write_str("\n")?;
+            let item = ItemText(*kind);
+            write!(f, "  - {name}: {item}\n")?;
         }
         Ok(())
     }
@@ -58,7 +57,16 @@ fn extern_text(kind: ExternKind) -> &'static str {
     }
 }
 
-// An item by its case and its index.
+/// Writes an item by its case and its index, as a report does: `Func(0)`.
+#[derive(Clone, Copy, PartialEq, Eq, Debug)]
+pub struct ItemText(pub ItemKind);
+
+impl fmt::Display for ItemText {
+    fn fmt<W: fmt::Write>(&self, f: &mut fmt::Formatter<W>) -> fmt::Result {
+        write_item(self.0, f)
+    }
+}
+
 fn write_item<W: fmt::Write>(kind: ItemKind, f: &mut fmt::Formatter<W>) -> fmt::Result {
     match kind {
         ItemKind::Type(ty) => {

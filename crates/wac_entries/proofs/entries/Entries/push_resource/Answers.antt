@@ -1,0 +1,13 @@
+use Rattle.wac_component.specs.Content.{resource_content}
+use Rattle.wac_entries.proofs.IdLemmas.{ids_more}
+use Rattle.wac_entries.proofs.entries.Entries.push_resource.Goals as goal
+
+pub invariant_of-self-2 : goal.invariant_of-self-2
+invariant_of-self-2 c = rw c.in_ok-id.ensures.added (record {
+  defined = c.self.invariant.defined;
+  resources = ids_more c.self.inside.types.number c.self.inside.types.resources (resource_content c.args.content) c.self.inside.resources.items c.reserve.new.self.items c.push_reserved.new.self.items c.in_ok-id.id c.self.invariant.resources c.reserve.ensures.items c.push_reserved.ensures.items c.in_ok-id.ensures.id;
+  funcs = c.self.invariant.funcs;
+  interfaces = c.self.invariant.interfaces;
+  worlds = c.self.invariant.worlds;
+  modules = c.self.invariant.modules;
+})

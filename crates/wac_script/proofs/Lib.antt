@@ -1,0 +1,2 @@
+mod NameWords
+mod DistinctImports

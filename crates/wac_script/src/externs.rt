@@ -1,0 +1,156 @@
+//! What core modules import and export, as words write it.
+
+use super::error::{ReadError, unexpected};
+use super::numbers::{flag_of, limit_of, number_of, small_number_of};
+use std::alloc::Global;
+use wac_core::{CoreExtern, CoreFuncType, CoreRefType, CoreType, HeapType};
+
+// The heap type that a word names.
+fn heap_type_of(word: &str) -> Option<HeapType> {
+    match word {
+        "func" => Some(HeapType::Func),
+        "extern" => Some(HeapType::Extern),
+        "any" => Some(HeapType::Any),
+        "none" => Some(HeapType::None),
+        "noextern" => Some(HeapType::NoExtern),
+        "nofunc" => Some(HeapType::NoFunc),
+        "eq" => Some(HeapType::Eq),
+        "struct" => Some(HeapType::Struct),
+        "array" => Some(HeapType::Array),
+        "i31" => Some(HeapType::I31),
+        "exn" => Some(HeapType::Exn),
+        "noexn" => Some(HeapType::NoExn),
+        "cont" => Some(HeapType::Cont),
+        "nocont" => Some(HeapType::NoCont),
+        _ => Some(HeapType::Concrete(small_number_of(word)?)),
+    }
+}
+
+// The reference type that a word names.
+fn ref_type_of(word: &str) -> Option<CoreRefType> {
+    let (kind, heap_type) = word.split_once('.')?;
+    let nullable = match kind {
+        "null" => true,
+        "ref" => false,
+        _ => return None,
+    };
+    Some(CoreRefType {
+        nullable,
+        heap_type: heap_type_of(heap_type)?,
+    })
+}
+
+// The core type that a word names.
+fn core_type_of(word: &str) -> Option<CoreType> {
+    match word {
+        "i32" => Some(CoreType::I32),
+        "i64" => Some(CoreType::I64),
+        "f32" => Some(CoreType::F32),
+        "f64" => Some(CoreType::F64),
+        "v128" => Some(CoreType::V128),
+        _ => Some(CoreType::Ref(ref_type_of(word)?)),
+    }
+}
+
+// Reads core types with commas between them.
+fn read_core_types(alloc: Global, list: &str) -> Result<Vec<CoreType>, ReadError> {
+    let mut types = Vec::new(alloc);
+    if list.is_empty() {
+        return Ok(types);
+    }
+    for word in list.split(',') {
+        let Some(ty) = core_type_of(word) else {
+            return Err(unexpected(alloc, "a core type", word));
+        };
+        types.push(ty)?;
+    }
+    Ok(types)
+}
+
+// Reads the type of a function from its parameters and its results.
+fn read_core_func(alloc: Global, params: &str, results: &str) -> Result<CoreFuncType, ReadError> {
+    Ok(CoreFuncType {
+        params: read_core_types(alloc, params)?,
+        results: read_core_types(alloc, results)?,
+    })
+}
+
+// The table of the fields after `table`.
+fn table_of(fields: &[&str]) -> Option<CoreExtern> {
+    let [element_type, initial, maximum, table64, shared] = *fields else {
+        return None;
+    };
+    Some(CoreExtern::Table {
+        element_type: ref_type_of(element_type)?,
+        initial: number_of(initial)?,
+        maximum: limit_of(maximum)?,
+        table64: flag_of(table64)?,
+        shared: flag_of(shared)?,
+    })
+}
+
+// The logarithm of a memory's page size, or none for `-`.
+fn page_size_of(word: &str) -> Option<Option<u32>> {
+    if word == "-" {
+        return Some(None);
+    }
+    Some(Some(small_number_of(word)?))
+}
+
+// The memory of the fields after `mem`.
+fn memory_of(fields: &[&str]) -> Option<CoreExtern> {
+    let [initial, maximum, memory64, shared, page_size] = *fields else {
+        return None;
+    };
+    Some(CoreExtern::Memory {
+        memory64: flag_of(memory64)?,
+        shared: flag_of(shared)?,
+        initial: number_of(initial)?,
+        maximum: limit_of(maximum)?,
+        page_size_log2: page_size_of(page_size)?,
+    })
+}
+
+// The global of the fields after `global`.
+fn global_of(fields: &[&str]) -> Option<CoreExtern> {
+    let [val_type, mutable, shared] = *fields else {
+        return None;
+    };
+    Some(CoreExtern::Global {
+        val_type: core_type_of(val_type)?,
+        mutable: flag_of(mutable)?,
+        shared: flag_of(shared)?,
+    })
+}
+
+// The table, the memory or the global of a kind and its fields.
+fn plain_extern_of(kind: &str, fields: &[&str]) -> Option<CoreExtern> {
+    match kind {
+        "table" => table_of(fields),
+        "mem" => memory_of(fields),
+        "global" => global_of(fields),
+        _ => None,
+    }
+}
+
+/// Reads a core extern.
+pub(crate) fn read_extern(alloc: Global, word: &str) -> Result<CoreExtern, ReadError> {
+    let fields: Vec<&str> = word.split(':').collect(alloc)?;
+    match *fields {
+        ["func", params, results] => Ok(CoreExtern::Func(read_core_func(alloc, params, results)?)),
+        ["tag", params, results] => Ok(CoreExtern::Tag(read_core_func(alloc, params, results)?)),
+        _ => read_plain_extern(alloc, word, &fields),
+    }
+}
+
+// Reads a table, a memory or a global from the fields of a word.
+fn read_plain_extern(alloc: Global, word: &str, fields: &[&str]) -> Result<CoreExtern, ReadError> {
+    let read = match fields.split_first() {
+        Some((kind, fields)) => plain_extern_of(kind, fields),
+        None => None,
+    };
+    match read {
+        Some(found) => Ok(found),
+        None => Err(unexpected(alloc, "a core extern", word)),
+    }
+}

@@ -1,0 +1,5 @@
+pub mod Loops
+pub mod Placed
+pub mod Parts
+pub mod ItemLemmas
+pub mod OrderLemmas
