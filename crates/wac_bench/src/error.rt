@@ -1,0 +1,48 @@
+//! Why nothing was measured.
+
+use std::alloc::{AllocError, AllocFailed};
+use std::{error, fmt, io};
+
+/// Why nothing was measured.
+#[derive(Debug, Drop)]
+pub enum BenchError {
+    /// The work gave an answer that is not its answer.
+    Answer,
+    /// The input names an entry of another collection.
+    Input,
+    /// The clock could not be read.
+    Clock,
+    /// There was no memory.
+    Memory,
+}
+
+impl From<AllocError> for BenchError {
+    fn from(_error: AllocError) -> BenchError {
+        BenchError::Memory
+    }
+}
+
+impl<T: Drop> From<AllocFailed<T>> for BenchError {
+    fn from(_error: AllocFailed<T>) -> BenchError {
+        BenchError::Memory
+    }
+}
+
+impl From<io::Error> for BenchError {
+    fn from(_error: io::Error) -> BenchError {
+        BenchError::Clock
+    }
+}
+
+impl error::Error for BenchError {}
+
+impl fmt::Display for BenchError {
+    fn fmt<W: fmt::Write>(&self, f: &mut fmt::Formatter<W>) -> fmt::Result {
+        match self {
+            BenchError::Answer => write!(f, "the work gave a wrong answer"),
+            BenchError::Input => write!(f, "the input names an entry of another collection"),
+            BenchError::Clock => write!(f, "the clock could not be read"),
+            BenchError::Memory => write!(f, "out of memory"),
+        }
+    }
+}

@@ -1,0 +1,72 @@
+//! Why a command was not carried out.
+
+ghost use Rattle.std.specs.Prelude.{◌≡◌};
+ghost use Rattle.wac_session.specs.declared.error.RunError.TheVariants.{Memory};
+
+use std::alloc::{AllocError, AllocFailed};
+use std::{error, fmt};
+use wac_answers::AnswerError;
+use wac_entries::{EntryError, EntryName};
+
+/// Why a command was not carried out.
+#[derive(Debug, Drop)]
+pub enum RunError {
+    /// No collection has been begun.
+    NoneAtHand,
+    /// No collection of this number has been begun.
+    NoCollection(u64),
+    /// The command names an entry that isn't there.
+    NoEntry(EntryName),
+    /// The query has no answer.
+    NoAnswer(AnswerError),
+    /// There was no memory.
+    Memory,
+}
+
+impl From<AllocError> for RunError {
+    ghost from_gives = { λ _ r. r ≡ Memory };
+
+    fn from(_error: AllocError) -> RunError {
+        RunError::Memory
+    }
+}
+
+impl<T: Drop> From<AllocFailed<T>> for RunError {
+    ghost from_gives = { λ _ r. r ≡ Memory };
+
+    fn from(_error: AllocFailed<T>) -> RunError {
+        RunError::Memory
+    }
+}
+
+impl From<EntryError> for RunError {
+    fn from(error: EntryError) -> RunError {
+        match error {
+            EntryError::NoEntry(name) => RunError::NoEntry(name),
+            EntryError::Memory => RunError::Memory,
+        }
+    }
+}
+
+impl From<AnswerError> for RunError {
+    fn from(error: AnswerError) -> RunError {
+        match error {
+            AnswerError::Memory => RunError::Memory,
+            error => RunError::NoAnswer(error),
+        }
+    }
+}
+
+impl error::Error for RunError {}
+
+impl fmt::Display for RunError {
+    fn fmt<W: fmt::Write>(&self, f: &mut fmt::Formatter<W>) -> fmt::Result {
+        match self {
+            RunError::NoneAtHand => write!(f, "no collection has been begun"),
+            RunError::NoCollection(number) => write!(f, "there is no collection {number}"),
+            RunError::NoEntry(name) => write!(f, "there is no entry {name}"),
+            RunError::NoAnswer(error) => write!(f, "{error}"),
+            RunError::Memory => write!(f, "out of memory"),
+        }
+    }
+}
