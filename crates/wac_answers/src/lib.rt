@@ -12,8 +12,6 @@ mod name_maps;
 mod names;
 mod packages;
 mod queries;
-#[cfg(test)]
-mod tests;
 
 pub use core_externs::{core_answer, core_subtype_answer};
 pub use error::AnswerError;

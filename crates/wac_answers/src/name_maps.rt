@@ -9,7 +9,7 @@ ghost use Rattle.wac_answers.specs.NameMaps.{IsNameMapText, spaced_text, spaced_
 use std::alloc::{AllocError, Global};
 use std::hash::Hash;
 use std::mem;
-use wac_names_examples::Numbers;
+use wac_interners::Numbers;
 use wac_script::{NameKeys, NameMapOperation, NameMapScript, Named, name_word};
 use wac_types::{NameError, NameMap, NameMapIntern, NameMapNoIntern};
 

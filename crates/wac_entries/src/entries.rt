@@ -1,13 +1,16 @@
 //! Collections whose entries are named by index.
 
-ghost use Rattle.std.specs.Prelude.{◌≡◌, ◌<◌, ◌++◌, ◌↔◌, [], ◌∷◌, length, IsSome, IfSome, IfErr, OnOk, OnErr};
+ghost use Rattle.std.specs.Prelude.{◌≡◌, ◌++◌, [], ◌∷◌, IsErr, IfOk, IfErr, OnOk, OnErr};
 ghost use Rattle.wac_core.specs.Content.{module_content};
 ghost use Rattle.wac_component.specs.Content.{defined_content, resource_content, func_content, interface_content, world_content};
 ghost use Rattle.wac_component.specs.Growth.{Extends};
 ghost use Rattle.wac_component.specs.Key.{Stands, AllStand, defined_key, resource_key, func_key, interface_key, world_key, module_key, defined_keys, resource_keys, func_keys, interface_keys, world_keys, defined_entry, resource_entry, func_entry, interface_entry, world_entry, module_entry};
+ghost use Rattle.wac_entries.specs.Names.{id_at, IsMissing};
 ghost use Rattle.wac_entries.specs.Replacing.{IsReplacement};
+ghost use Rattle.wac_entries.specs.declared.error.EntryError.TheVariants.{NoEntry};
+ghost use Rattle.wac_entries.specs.declared.error.Sort.TheVariants as sort;
 
-use super::error::EntryError;
+use super::error::{EntryError, EntryName, Sort};
 use std::alloc::Global;
 use std::marker::Model;
 use wac_component::{
@@ -50,6 +53,12 @@ pub enum Replacement {
     Cycle,
 }
 
+fn missing(sort: Sort, index: usize) -> EntryError
+    ensures { result ≡ NoEntry (record { sort = sort; index = index }) }
+{
+    EntryError::NoEntry(EntryName { sort, index })
+}
+
 impl Entries {
     /// An empty collection of this number.
     pub fn new(alloc: Global, number: u64) -> Entries
@@ -73,58 +82,88 @@ impl Entries {
         &self.types
     }
 
-    /// The defined type at an index, if there is one.
-    pub fn defined(&self, index: usize) -> Option<DefinedTypeId>
-        ensures id { IfSome result (λ id. id ≡ record { number = self.now.number; index = index }) }
-        ensures there { IsSome result ↔ index < length self.now.defined }
-        ensures standing { IfSome result (λ id. Stands self.now (defined_key id)) }
+    /// The defined type at an index. `NoEntry`, with its name, comes exactly where there is none.
+    pub fn find_defined(&self, index: usize) -> Result<DefinedTypeId, EntryError>
+        ensures id { IfOk result (λ id. id ≡ id_at self.now.number index) }
+        ensures standing { IfOk result (λ id. Stands self.now (defined_key id)) }
+        ensures refused { IsErr result → ¬ Stands self.now (defined_key (id_at self.now.number index)) }
+        ensures missing { IfErr result (IsMissing self.now) }
+        ensures error { IfErr result (λ e. e ≡ NoEntry (record { sort = sort.DefinedType; index = index })) }
     {
-        self.defined.get(index).copied()
+        match self.defined.get(index) {
+            Some(id) => Ok(*id),
+            None => Err(missing(Sort::DefinedType, index)),
+        }
     }
 
-    /// The resource at an index, if there is one.
-    pub fn resource(&self, index: usize) -> Option<ResourceId>
-        ensures id { IfSome result (λ id. id ≡ record { number = self.now.number; index = index }) }
-        ensures there { IsSome result ↔ index < length self.now.resources }
-        ensures standing { IfSome result (λ id. Stands self.now (resource_key id)) }
+    /// The resource at an index. `NoEntry`, with its name, comes exactly where there is none.
+    pub fn find_resource(&self, index: usize) -> Result<ResourceId, EntryError>
+        ensures id { IfOk result (λ id. id ≡ id_at self.now.number index) }
+        ensures standing { IfOk result (λ id. Stands self.now (resource_key id)) }
+        ensures refused { IsErr result → ¬ Stands self.now (resource_key (id_at self.now.number index)) }
+        ensures missing { IfErr result (IsMissing self.now) }
+        ensures error { IfErr result (λ e. e ≡ NoEntry (record { sort = sort.Resource; index = index })) }
     {
-        self.resources.get(index).copied()
+        match self.resources.get(index) {
+            Some(id) => Ok(*id),
+            None => Err(missing(Sort::Resource, index)),
+        }
     }
 
-    /// The function type at an index, if there is one.
-    pub fn func(&self, index: usize) -> Option<FuncTypeId>
-        ensures id { IfSome result (λ id. id ≡ record { number = self.now.number; index = index }) }
-        ensures there { IsSome result ↔ index < length self.now.funcs }
-        ensures standing { IfSome result (λ id. Stands self.now (func_key id)) }
+    /// The function type at an index. `NoEntry`, with its name, comes exactly where there is none.
+    pub fn find_func(&self, index: usize) -> Result<FuncTypeId, EntryError>
+        ensures id { IfOk result (λ id. id ≡ id_at self.now.number index) }
+        ensures standing { IfOk result (λ id. Stands self.now (func_key id)) }
+        ensures refused { IsErr result → ¬ Stands self.now (func_key (id_at self.now.number index)) }
+        ensures missing { IfErr result (IsMissing self.now) }
+        ensures error { IfErr result (λ e. e ≡ NoEntry (record { sort = sort.Func; index = index })) }
     {
-        self.funcs.get(index).copied()
+        match self.funcs.get(index) {
+            Some(id) => Ok(*id),
+            None => Err(missing(Sort::Func, index)),
+        }
     }
 
-    /// The interface at an index, if there is one.
-    pub fn interface(&self, index: usize) -> Option<InterfaceId>
-        ensures id { IfSome result (λ id. id ≡ record { number = self.now.number; index = index }) }
-        ensures there { IsSome result ↔ index < length self.now.interfaces }
-        ensures standing { IfSome result (λ id. Stands self.now (interface_key id)) }
+    /// The interface at an index. `NoEntry`, with its name, comes exactly where there is none.
+    pub fn find_interface(&self, index: usize) -> Result<InterfaceId, EntryError>
+        ensures id { IfOk result (λ id. id ≡ id_at self.now.number index) }
+        ensures standing { IfOk result (λ id. Stands self.now (interface_key id)) }
+        ensures refused { IsErr result → ¬ Stands self.now (interface_key (id_at self.now.number index)) }
+        ensures missing { IfErr result (IsMissing self.now) }
+        ensures error { IfErr result (λ e. e ≡ NoEntry (record { sort = sort.Interface; index = index })) }
     {
-        self.interfaces.get(index).copied()
+        match self.interfaces.get(index) {
+            Some(id) => Ok(*id),
+            None => Err(missing(Sort::Interface, index)),
+        }
     }
 
-    /// The world at an index, if there is one.
-    pub fn world(&self, index: usize) -> Option<WorldId>
-        ensures id { IfSome result (λ id. id ≡ record { number = self.now.number; index = index }) }
-        ensures there { IsSome result ↔ index < length self.now.worlds }
-        ensures standing { IfSome result (λ id. Stands self.now (world_key id)) }
+    /// The world at an index. `NoEntry`, with its name, comes exactly where there is none.
+    pub fn find_world(&self, index: usize) -> Result<WorldId, EntryError>
+        ensures id { IfOk result (λ id. id ≡ id_at self.now.number index) }
+        ensures standing { IfOk result (λ id. Stands self.now (world_key id)) }
+        ensures refused { IsErr result → ¬ Stands self.now (world_key (id_at self.now.number index)) }
+        ensures missing { IfErr result (IsMissing self.now) }
+        ensures error { IfErr result (λ e. e ≡ NoEntry (record { sort = sort.World; index = index })) }
     {
-        self.worlds.get(index).copied()
+        match self.worlds.get(index) {
+            Some(id) => Ok(*id),
+            None => Err(missing(Sort::World, index)),
+        }
     }
 
-    /// The core module type at an index, if there is one.
-    pub fn module(&self, index: usize) -> Option<ModuleTypeId>
-        ensures id { IfSome result (λ id. id ≡ record { number = self.now.number; index = index }) }
-        ensures there { IsSome result ↔ index < length self.now.modules }
-        ensures standing { IfSome result (λ id. Stands self.now (module_key id)) }
+    /// The core module type at an index. `NoEntry`, with its name, comes exactly where there is none.
+    pub fn find_module(&self, index: usize) -> Result<ModuleTypeId, EntryError>
+        ensures id { IfOk result (λ id. id ≡ id_at self.now.number index) }
+        ensures standing { IfOk result (λ id. Stands self.now (module_key id)) }
+        ensures refused { IsErr result → ¬ Stands self.now (module_key (id_at self.now.number index)) }
+        ensures missing { IfErr result (IsMissing self.now) }
+        ensures error { IfErr result (λ e. e ≡ NoEntry (record { sort = sort.Module; index = index })) }
     {
-        self.modules.get(index).copied()
+        match self.modules.get(index) {
+            Some(id) => Ok(*id),
+            None => Err(missing(Sort::Module, index)),
+        }
     }
 
     // Puts a defined type last.

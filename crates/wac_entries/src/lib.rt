@@ -9,8 +9,6 @@ mod error;
 mod maps;
 mod modules;
 mod names;
-#[cfg(test)]
-mod tests;
 mod words;
 
 pub use entries::{Entries, Replacement};

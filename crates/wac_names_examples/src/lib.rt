@@ -1,11 +1,9 @@
-//! Two interners for the maps of `wac_names`, a loop that fills a map, and the tests of that crate.
+//! Examples of `wac_names`, as tests, and two functions that are proved of every list and name.
 #![tactic(auto)]
 
 mod collect;
-mod interners;
 
 pub use collect::{collect_all, put_and_get};
-pub use interners::{Countdown, Numbers};
 
 #[cfg(test)]
 mod tests;

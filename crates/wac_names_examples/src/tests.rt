@@ -2,11 +2,12 @@
 
 ghost use Rattle.std.specs.Prelude.{◌≡◌, true};
 
-use crate::{Countdown, Numbers, collect_all, put_and_get};
+use crate::{collect_all, put_and_get};
 use std::alloc::Global;
 use std::hash::Hash;
 use std::process::Abort;
 use std::test::Fail;
+use wac_interners::{Countdown, Numbers};
 use wac_names::{
     NameError, NameMap, NameMapIntern, NameMapNoIntern, are_semver_compatible, track_of,
 };

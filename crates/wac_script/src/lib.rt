@@ -47,8 +47,6 @@ mod name_maps;
 mod names;
 mod numbers;
 mod queries;
-#[cfg(test)]
-mod tests;
 mod values;
 
 pub use commands::{Command, read_line};

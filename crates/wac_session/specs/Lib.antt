@@ -1,1 +1,7 @@
-pub mod Printing
+pub mod State
+pub mod Truth
+pub mod Targets
+pub mod Visits
+pub mod Answers
+pub mod Errors
+pub mod Runs

@@ -1,16 +1,104 @@
 //! Collections by their numbers.
 
+ghost use Rattle.std.specs.Prelude.{◌≡◌, [], None, Some, IfOk, IfErr, OnOk, OnErr};
+ghost use Rattle.wac_session.specs.Errors.{IsAbsent};
+ghost use Rattle.wac_session.specs.State.{collection_at, AreSame, AreExtended, IsBegun, IsAdded, IsReplaced};
+ghost use Rattle.wac_session.specs.declared.error.RunError.TheVariants.{Memory, NoCollection};
+
 use super::error::RunError;
 use indexmap::IndexMap;
-use wac_entries::Entries;
+use std::alloc::Global;
+use std::marker::Model;
+use wac_entries::{Entries, Replacement};
+use wac_script::Content;
 
-/// Collections by their numbers.
-pub(crate) type Collections = IndexMap<u64, Entries>;
+/// Collections, each under its own number.
+#[derive(Drop)]
+pub(crate) struct Collections {
+    by_number: IndexMap<u64, Entries>,
+}
 
-/// The collection of this number.
-pub(crate) fn collection_of(collections: &Collections, number: u64) -> Result<&Entries, RunError> {
-    match collections.get(&number) {
-        Some(entries) => Ok(entries),
-        None => Err(RunError::NoCollection(number)),
+impl Model for Collections {
+    ghost use Rattle.wac_session.specs.Errors.{IsAbsent};
+    ghost use Rattle.wac_session.specs.State.{Numbered, AreNumbered};
+
+    ghost Value = { Numbered };
+
+    ghost view = { λ a. a.by_number.entries };
+
+    ghost invariant = { λ a. AreNumbered a.by_number.entries };
+}
+
+impl Collections {
+    /// No collections.
+    pub(crate) fn new(alloc: Global) -> Collections
+        ensures { result ≡ [] }
+    {
+        Collections {
+            by_number: IndexMap::new(alloc),
+        }
+    }
+
+    /// The collection of this number. `NoCollection` comes exactly where there is none.
+    pub(crate) fn get(&self, number: u64) -> Result<&Entries, RunError>
+        ensures found { IfOk result (λ entries. collection_at self.now number ≡ Some entries.now) }
+        ensures numbered { IfOk result (λ entries. entries.now.number ≡ number) }
+        ensures none { IfErr result (λ e. (e ≡ NoCollection number) × (collection_at self.now number ≡ None)) }
+    {
+        match self.by_number.get(&number) {
+            Some(entries) => Ok(entries),
+            None => Err(RunError::NoCollection(number)),
+        }
+    }
+
+    /// Begins an empty collection of this number, unless one is there.
+    pub(crate) fn begin(&mut self, alloc: Global, number: u64) -> Result<(), RunError>
+        ensures begun { OnOk result (IsBegun self.old number self.new) }
+        ensures err { OnErr result (AreSame self.old self.new) }
+        ensures memory { IfErr result (λ e. e ≡ Memory) }
+    {
+        if self.by_number.contains_key(&number) {
+            return Ok(());
+        }
+        self.by_number.insert(number, Entries::new(alloc, number))?;
+        Ok(())
+    }
+
+    /// Adds an entry to the collection of this number.
+    pub(crate) fn add(
+        &mut self,
+        alloc: Global,
+        number: u64,
+        content: Content,
+    ) -> Result<(), RunError>
+        ensures added { OnOk result (IsAdded self.old number content self.new) }
+        ensures grows { AreExtended self.old self.new }
+        ensures err { OnErr result (AreSame self.old self.new) }
+        ensures absent { IfErr result (IsAbsent self.old) }
+    {
+        let Some(entries) = self.by_number.get_mut(&number) else {
+            return Err(RunError::NoCollection(number));
+        };
+        entries.add(alloc, content)?;
+        Ok(())
+    }
+
+    /// Replaces an entry of the collection of this number, unless that closes a cycle.
+    pub(crate) fn replace(
+        &mut self,
+        alloc: Global,
+        number: u64,
+        index: usize,
+        content: Content,
+    ) -> Result<Replacement, RunError>
+        ensures replaced { IfOk result (λ r. IsReplaced self.old number index content r self.new) }
+        ensures err { OnErr result (AreSame self.old self.new) }
+        ensures absent { IfErr result (IsAbsent self.old) }
+    {
+        let Some(entries) = self.by_number.get_mut(&number) else {
+            return Err(RunError::NoCollection(number));
+        };
+        let replacement = entries.replace(alloc, index, content)?;
+        Ok(replacement)
     }
 }

@@ -40,6 +40,10 @@ impl<T: Drop> From<AllocFailed<T>> for RunError {
 }
 
 impl From<EntryError> for RunError {
+    ghost use Rattle.wac_session.specs.Errors.{of_entry_error};
+
+    ghost from_gives = { λ e r. r ≡ of_entry_error e };
+
     fn from(error: EntryError) -> RunError {
         match error {
             EntryError::NoEntry(name) => RunError::NoEntry(name),
@@ -49,6 +53,10 @@ impl From<EntryError> for RunError {
 }
 
 impl From<AnswerError> for RunError {
+    ghost use Rattle.wac_session.specs.Errors.{of_answer_error};
+
+    ghost from_gives = { λ e r. r ≡ of_answer_error e };
+
     fn from(error: AnswerError) -> RunError {
         match error {
             AnswerError::Memory => RunError::Memory,
@@ -60,6 +68,11 @@ impl From<AnswerError> for RunError {
 impl error::Error for RunError {}
 
 impl fmt::Display for RunError {
+    ghost use Rattle.std.specs.Prelude.{Some};
+    ghost use Rattle.wac_session.specs.Errors.{run_error_text};
+
+    ghost output = { λ e. Some (run_error_text e) };
+
     fn fmt<W: fmt::Write>(&self, f: &mut fmt::Formatter<W>) -> fmt::Result {
         match self {
             RunError::NoneAtHand => write!(f, "no collection has been begun"),

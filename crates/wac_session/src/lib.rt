@@ -25,8 +25,6 @@ mod error;
 mod questions;
 mod session;
 mod targets;
-#[cfg(test)]
-mod tests;
 mod visits;
 
 pub use error::RunError;

@@ -1,19 +1,27 @@
 //! What a script has built so far.
 
-ghost use Rattle.std.specs.Prelude.{◌↔◌, IsSome, IfOk};
-ghost use Rattle.wac_session.specs.Printing.{Prints};
+ghost use Rattle.std.specs.Prelude.{◌≡◌, [], ◌∷◌, None, Some, IfOk, IfErr, OnOk, codes, string_bytes};
+ghost use Rattle.std.specs.Option.{option_map};
+ghost use Rattle.wac_model.specs.Text.{joined};
+ghost use Rattle.wac_script.specs.Names.{written_name};
+ghost use Rattle.wac_script.specs.declared.queries.Query.TheVariants as query;
+ghost use Rattle.wac_session.specs.Answers.{IsComparedText};
+ghost use Rattle.wac_session.specs.Errors.{IsRefusal};
+ghost use Rattle.wac_session.specs.declared.error.RunError.TheVariants.{Memory, NoneAtHand};
+ghost use Rattle.wac_session.specs.Runs.{IsRun, IsAnswered, Begins, Adds, Prints};
+ghost use Rattle.wac_session.specs.State.{IsNew};
 
-use super::collections::{Collections, collection_of};
+use super::collections::Collections;
 use super::comparisons::{Cache, compare};
 use super::error::RunError;
 use super::questions::{borrows, contains, count, desc, promote, resolve, tree, ty};
 use super::targets::{implicit_imports, validate};
 use super::visits::visit;
-use indexmap::IndexMap;
 use std::alloc::Global;
 use std::collections::HashSet;
+use std::marker::Model;
 use wac_answers::answer;
-use wac_entries::{Entries, Replacement};
+use wac_entries::Replacement;
 use wac_script::{Command, Content, ItemIn, Query, Variance, name_word};
 
 /// The collections that a script has built so far, and what its questions share.
@@ -28,11 +36,25 @@ pub struct Session {
     answered: u64,
 }
 
+impl Model for Session {
+    ghost use Rattle.wac_session.specs.State.{State};
+    ghost use Rattle.std.specs.Prelude.{IfSome};
+    ghost use Rattle.wac_session.specs.Truth.{AreTrue};
+
+    ghost Value = { State };
+
+    ghost view = { λ a. record { collections = a.collections; at_hand = a.at_hand; answered = a.answered } };
+
+    ghost invariant = { λ a. IfSome a.cache (λ cache. AreTrue a.collections cache.keys) };
+}
+
 impl Session {
     /// No collections, and no query answered yet.
-    pub fn new(alloc: Global) -> Session {
+    pub fn new(alloc: Global) -> Session
+        ensures { IsNew result }
+    {
         Session {
-            collections: IndexMap::new(alloc),
+            collections: Collections::new(alloc),
             at_hand: None,
             cache: None,
             answered: 0,
@@ -46,7 +68,8 @@ impl Session {
     /// that isn't there, `NoAnswer` where a version is no version of SemVer 2.0.0, and `Memory` is want
     /// of memory.
     pub fn run(&mut self, alloc: Global, command: Command) -> Result<Option<String>, RunError>
-        ensures { IfOk result (λ text. IsSome text ↔ Prints command) }
+        ensures run { IfOk result (λ text. IsRun self.old command (option_map string_bytes text) self.new) }
+        ensures refused { IfErr result (IsRefusal self.old) }
     {
         match command {
             Command::Script(name) => return Ok(Some(self.restart(alloc, &name)?)),
@@ -60,46 +83,63 @@ impl Session {
     }
 
     // Forgets everything, and gives the line that says which script begins.
-    fn restart(&mut self, alloc: Global, name: &str) -> Result<String, RunError> {
+    fn restart(&mut self, alloc: Global, name: &str) -> Result<String, RunError>
+        ensures new { IsNew self.new }
+        ensures line { IfOk result (λ line. string_bytes line ≡ joined (codes "script " ∷ written_name name.now ∷ [])) }
+        ensures err { IfErr result (λ e. e ≡ Memory) }
+    {
         *self = Session::new(alloc);
         let name = name_word(alloc, name)?;
-        Ok(format!(in alloc; "script {name}")?)
+        let line = format!(in alloc; "script {name}")?;
+        Ok(line)
     }
 
     // Begins the collection of this number, or goes back to it.
-    fn begin(&mut self, alloc: Global, number: u64) -> Result<(), RunError> {
-        if !self.collections.contains_key(&number) {
-            self.collections
-                .insert(number, Entries::new(alloc, number))?;
-        }
+    fn begin(&mut self, alloc: Global, number: u64) -> Result<(), RunError>
+        ensures begun { OnOk result (Begins self.old number self.new) }
+        ensures err { IfErr result (λ e. e ≡ Memory) }
+    {
+        self.collections.begin(alloc, number)?;
         self.at_hand = Some(number);
         Ok(())
     }
 
-    fn collection_at_hand(&mut self) -> Result<&mut Entries, RunError> {
-        let Some(number) = self.at_hand else {
-            return Err(RunError::NoneAtHand);
-        };
-        match self.collections.get_mut(&number) {
-            Some(entries) => Ok(entries),
-            None => Err(RunError::NoCollection(number)),
+    fn number_at_hand(&self) -> Result<u64, RunError>
+        ensures number { IfOk result (λ n. self.now.at_hand ≡ Some n) }
+        ensures none { IfErr result (λ e. (e ≡ NoneAtHand) × (self.now.at_hand ≡ None)) }
+    {
+        match self.at_hand {
+            Some(number) => Ok(number),
+            None => Err(RunError::NoneAtHand),
         }
     }
 
-    fn add(&mut self, alloc: Global, content: Content) -> Result<(), RunError> {
-        self.collection_at_hand()?.add(alloc, content)?;
-        Ok(())
+    fn add(&mut self, alloc: Global, content: Content) -> Result<(), RunError>
+        ensures added { OnOk result (Adds self.old content self.new) }
+        ensures refused { IfErr result (IsRefusal self.old) }
+    {
+        let number = self.number_at_hand()?;
+        self.collections.add(alloc, number, content)
     }
 
     // The number of the query in the script, and the answer.
-    fn answer(&mut self, alloc: Global, query: Query) -> Result<String, RunError> {
+    fn answer(&mut self, alloc: Global, query: Query) -> Result<String, RunError>
+        ensures printed { IfOk result (λ line. Prints self.old query (Some (string_bytes line)) self.new) }
+        ensures refused { IfErr result (IsRefusal self.old) }
+    {
         let answer = self.answer_of(alloc, query)?;
         self.answered = self.answered.saturating_add(1);
         let number = self.answered;
-        Ok(format!(in alloc; "{number} {answer}")?)
+        let line = format!(in alloc; "{number} {answer}")?;
+        Ok(line)
     }
 
-    fn answer_of(&mut self, alloc: Global, query: Query) -> Result<String, RunError> {
+    fn answer_of(&mut self, alloc: Global, query: Query) -> Result<String, RunError>
+        ensures answers { IfOk result (λ t. IsAnswered self.old query (string_bytes t) self.new.collections) }
+        ensures refused { IfErr result (IsRefusal self.old) }
+        ensures at_hand { self.new.at_hand ≡ self.old.at_hand }
+        ensures answered { self.new.answered ≡ self.old.answered }
+    {
         match query {
             Query::Subtype {
                 left,
@@ -111,55 +151,38 @@ impl Session {
                 collection,
                 target,
                 component,
-            } => validate(alloc, self.collection(collection)?, target, component),
+            } => validate(alloc, self.collections.get(collection)?, target, component),
             Query::Implicit { collection, world } => {
-                implicit_imports(alloc, self.collection(collection)?, world)
+                implicit_imports(alloc, self.collections.get(collection)?, world)
             }
-            Query::Tree(at) => tree(alloc, self.collection(at.collection)?, at.item),
-            Query::Desc(at) => desc(alloc, self.collection(at.collection)?, at.item),
-            Query::Promote(at) => promote(alloc, self.collection(at.collection)?, at.item),
-            Query::Type(at) => ty(alloc, self.collection(at.collection)?, at.item),
+            Query::Tree(at) => tree(alloc, self.collections.get(at.collection)?, at.item),
+            Query::Desc(at) => desc(alloc, self.collections.get(at.collection)?, at.item),
+            Query::Promote(at) => promote(alloc, self.collections.get(at.collection)?, at.item),
+            Query::Type(at) => ty(alloc, self.collections.get(at.collection)?, at.item),
             Query::Borrows { collection, value } => {
-                borrows(alloc, self.collection(collection)?, value)
+                borrows(alloc, self.collections.get(collection)?, value)
             }
-            Query::Resolve { collection, of } => resolve(alloc, self.collection(collection)?, of),
+            Query::Resolve { collection, of } => {
+                resolve(alloc, self.collections.get(collection)?, of)
+            }
             Query::Visit {
                 collection,
                 ty,
                 fails_at,
-            } => visit(alloc, self.collection(collection)?, ty, fails_at),
+            } => visit(alloc, self.collections.get(collection)?, ty, fails_at),
             Query::Contains {
                 collection,
                 other,
                 ty,
             } => contains(
                 alloc,
-                self.collection(collection)?,
-                self.collection(other)?,
+                self.collections.get(collection)?,
+                self.collections.get(other)?,
                 ty,
             ),
-            Query::Count(collection) => Ok(count(alloc, self.collection(collection)?)?),
+            Query::Count(collection) => Ok(count(alloc, self.collections.get(collection)?)?),
             query => Ok(answer(alloc, &query)?.unwrap()),
         }
-    }
-
-    // The collection of this number.
-    fn collection(&self, number: u64) -> Result<&Entries, RunError> {
-        collection_of(&self.collections, number)
-    }
-
-    fn replace(
-        &mut self,
-        alloc: Global,
-        index: usize,
-        content: Content,
-    ) -> Result<String, RunError> {
-        let entries = self.collection_at_hand()?;
-        let answer = match entries.replace(alloc, index, content)? {
-            Replacement::Done => "ok",
-            Replacement::Cycle => "cycle",
-        };
-        Ok(String::from_str(alloc, answer)?)
     }
 
     // Asks with the cache that is kept, or with an empty one.
@@ -169,7 +192,11 @@ impl Session {
         left: &ItemIn,
         right: &ItemIn,
         variance: Variance,
-    ) -> Result<String, RunError> {
+    ) -> Result<String, RunError>
+        ensures answer { IfOk result (λ t. IsComparedText self.old.collections left.now right.now variance (string_bytes t)) }
+        ensures refused { IfErr result (IsRefusal self.old) }
+        ensures kept { self.new ≡ self.old }
+    {
         match &mut self.cache {
             Some(cache) => compare(alloc, &self.collections, cache, left, right, variance),
             None => {
@@ -177,5 +204,24 @@ impl Session {
                 compare(alloc, &self.collections, &mut cache, left, right, variance)
             }
         }
+    }
+
+    // Replaces an entry of the collection at hand. A cache that is kept is emptied, since what it holds
+    // of the entry need not be true any longer.
+    fn replace(&mut self, alloc: Global, index: usize, content: Content) -> Result<String, RunError>
+        ensures answers { IfOk result (λ t. IsAnswered self.old (query.Replace index content) (string_bytes t) self.new.collections) }
+        ensures refused { IfErr result (IsRefusal self.old) }
+        ensures at_hand { self.new.at_hand ≡ self.old.at_hand }
+        ensures answered { self.new.answered ≡ self.old.answered }
+    {
+        let number = self.number_at_hand()?;
+        if let Some(cache) = &mut self.cache {
+            cache.clear();
+        }
+        let answer = match self.collections.replace(alloc, number, index, content)? {
+            Replacement::Done => "ok",
+            Replacement::Cycle => "cycle",
+        };
+        Ok(String::from_str(alloc, answer)?)
     }
 }

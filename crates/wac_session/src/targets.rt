@@ -1,6 +1,17 @@
 //! Components and target worlds.
 
+ghost use Rattle.std.specs.Prelude.{◌≡◌, ◌≢◌, ◌++◌, ℕ, List, IfOk, IfErr, codes, string_bytes};
+ghost use Rattle.std.specs.List.{flat_map};
+ghost use Rattle.wac_component.specs.Implicit.{instances};
+ghost use Rattle.wac_component.specs.declared.implicit.TargetError.TheVariants as target_error;
+ghost use Rattle.wac_entries.specs.Names.{id_at};
+ghost use Rattle.wac_session.specs.Errors.{IsMissingIn};
+ghost use Rattle.wac_session.specs.declared.error.RunError.TheVariants.{Memory};
+ghost use Rattle.wac_session.specs.Targets.{IsImplicitText, IsValidation, import_text, refused_text};
+ghost use Rattle.wac_targets.specs.Report.{world_at};
+
 use super::error::RunError;
+use indexmap::IndexMap;
 use std::alloc::{AllocError, Global};
 use wac_answers::one_line;
 use wac_component::{ExternKind, ItemKind};
@@ -10,10 +21,17 @@ use wac_standing::path_text;
 use wac_targets::{ItemText, TargetError, TargetValidationReport, validate_target};
 
 // The answer where a target world can't be read, since an interface that it uses has no identifier.
-fn refusal(alloc: Global, error: TargetError) -> Result<String, RunError> {
+fn refusal(alloc: Global, error: TargetError) -> Result<String, RunError>
+    ensures told { IfOk result (λ t. string_bytes t ≡ refused_text error) }
+    ensures memory { IfOk result (λ t. error ≢ target_error.Memory) }
+    ensures err { IfErr result (λ e. e ≡ Memory) }
+{
     match error {
         TargetError::Memory => Err(RunError::Memory),
-        error => Ok(format!(in alloc; "refused: {error}")?),
+        error => {
+            let text = format!(in alloc; "refused: {error}")?;
+            Ok(text)
+        }
     }
 }
 
@@ -23,7 +41,10 @@ pub(crate) fn validate(
     entries: &Entries,
     target: usize,
     component: usize,
-) -> Result<String, RunError> {
+) -> Result<String, RunError>
+    ensures answer { IfOk result (λ t. IsValidation entries.now (world_at entries.now (id_at entries.now.number target)) (world_at entries.now (id_at entries.now.number component)) (string_bytes t)) }
+    ensures missing { IfErr result (IsMissingIn entries.now) }
+{
     let target = entries.find_world(target)?;
     let component = entries.find_world(component)?;
     match validate_target(alloc, entries.types(), target, component) {
@@ -34,14 +55,18 @@ pub(crate) fn validate(
 }
 
 // `no`, and the lines of a report.
-fn report_text(alloc: Global, report: &TargetValidationReport) -> Result<String, RunError> {
-    let mut text = String::from_str(alloc, "no")?;
-    push_imports(alloc, &mut text, report)?;
-    push_missing(alloc, &mut text, report)?;
-    push_mismatched(alloc, &mut text, report)?;
+fn report_text(alloc: Global, report: &TargetValidationReport) -> Result<String, RunError>
+    ensures answer { IfOk result (λ t. (lines : List ℕ) × (string_bytes t ≡ codes "no" ++ lines)) }
+    ensures err { IfErr result (λ e. e ≡ Memory) }
+{
+    let mut lines = String::new(alloc);
+    push_imports(alloc, &mut lines, report)?;
+    push_missing(alloc, &mut lines, report)?;
+    push_mismatched(alloc, &mut lines, report)?;
     let whole = format!(in alloc; "{report}")?;
     let whole = one_line(alloc, &whole)?;
-    push_line(alloc, &mut text, &format!(in alloc; "text {whole}")?)?;
+    push_line(alloc, &mut lines, &format!(in alloc; "text {whole}")?)?;
+    let text = format!(in alloc; "no{lines}")?;
     Ok(text)
 }
 
@@ -107,31 +132,39 @@ pub(crate) fn implicit_imports(
     alloc: Global,
     entries: &Entries,
     world: usize,
-) -> Result<String, RunError> {
+) -> Result<String, RunError>
+    ensures answer { IfOk result (λ t. IsImplicitText entries.now (world_at entries.now (id_at entries.now.number world)) (string_bytes t)) }
+    ensures missing { IfErr result (IsMissingIn entries.now) }
+{
     let world = entries.find_world(world)?;
     let types = entries.types();
     match types[world].implicit_imported_interfaces(alloc, types) {
         Ok(imports) => {
-            let mut text = String::from_str(alloc, "ok")?;
-            for (name, item) in &imports {
-                push_import(alloc, &mut text, name, *item)?;
-            }
+            let words = import_words(alloc, &imports)?;
+            let text = format!(in alloc; "ok{words}")?;
             Ok(text)
         }
         Err(error) => refusal(alloc, error),
     }
 }
 
-// Puts an import last: a space, its name and its item.
-fn push_import(
-    alloc: Global,
-    text: &mut String,
-    name: &str,
-    item: ItemKind,
-) -> Result<(), AllocError> {
+// Each import after a space.
+fn import_words(alloc: Global, imports: &IndexMap<&str, ItemKind>) -> Result<String, AllocError>
+    ensures { IfOk result (λ t. string_bytes t ≡ flat_map import_text (instances imports.now.entries)) }
+{
+    let mut words = String::new(alloc);
+    for (name, item) in imports {
+        let word = import_word(alloc, name, *item)?;
+        words.push_str(&word)?;
+    }
+    Ok(words)
+}
+
+// A space, the name and the item of an import.
+fn import_word(alloc: Global, name: &str, item: ItemKind) -> Result<String, AllocError>
+    ensures { IfOk result (λ t. string_bytes t ≡ import_text (name.now, item)) }
+{
     let name = name_word(alloc, name)?;
     let item = item_word(alloc, item)?;
-    let import = format!(in alloc; " {name}={item}")?;
-    text.push_str(&import)?;
-    Ok(())
+    format!(in alloc; " {name}={item}")
 }

@@ -1,9 +1,16 @@
 //! Visits of defined types.
 
+ghost use Rattle.std.specs.Prelude.{◌≡◌, IfOk, IfErr, string_bytes};
+ghost use Rattle.std.specs.List.{flat_map};
 ghost use Rattle.wac_component.specs.Key.{AllStand, type_keys};
+ghost use Rattle.wac_component.specs.Visits.{visits};
+ghost use Rattle.wac_entries.specs.Names.{type_at};
+ghost use Rattle.wac_session.specs.Errors.{IsMissingIn};
+ghost use Rattle.wac_session.specs.declared.error.RunError.TheVariants as run_error;
+ghost use Rattle.wac_session.specs.Visits.{IsCall, called, is_stopped, index_text, visit_text};
 
 use super::error::RunError;
-use std::alloc::{AllocError, Global};
+use std::alloc::{AllocError, AllocFailed, Global};
 use wac_component::{DefinedTypeId, Type, Types};
 use wac_entries::Entries;
 use wac_script::TypeWord;
@@ -17,33 +24,36 @@ enum Stop {
     Memory,
 }
 
-impl From<AllocError> for Stop {
-    fn from(_error: AllocError) -> Stop {
+impl<T: Drop> From<AllocFailed<T>> for Stop {
+    ghost use Rattle.std.specs.Prelude.{◌≡◌};
+    ghost use Rattle.wac_session.specs.declared.visits.Stop.TheVariants.{Memory};
+
+    ghost from_gives = { λ _ r. r ≡ Memory };
+
+    fn from(_error: AllocFailed<T>) -> Stop {
         Stop::Memory
     }
 }
 
-// The calls of a visitor: what they wrote, and how many more there are before one fails, if one is
-// to fail.
+// The calls of a visitor.
 #[derive(Drop)]
 struct Calls {
-    text: String,
-    left: Option<u64>,
+    // the defined types on which it was called
+    ids: Vec<DefinedTypeId>,
+    // the call, from 1, at which it fails; none for 0
+    fails_at: u64,
 }
 
 impl Calls {
-    // Writes the index of a defined type that is visited.
-    fn call(&mut self, alloc: Global, id: DefinedTypeId) -> Result<(), Stop> {
-        let word = format!(in alloc; " {id}")?;
-        self.text.push_str(&word)?;
-        match self.left {
-            Some(1) => Err(Stop::Asked),
-            Some(left) => {
-                self.left = left.checked_sub(1);
-                Ok(())
-            }
-            None => Ok(()),
+    fn call(&mut self, id: DefinedTypeId) -> Result<(), Stop>
+        ensures called { IsCall self.old.fails_at self.old.ids.items id result self.new.ids.items }
+        ensures same { self.new.fails_at ≡ self.old.fails_at }
+    {
+        self.ids.push(id)?;
+        if self.ids.len() as u64 == self.fails_at {
+            return Err(Stop::Asked);
         }
+        Ok(())
     }
 }
 
@@ -54,26 +64,69 @@ pub(crate) fn visit(
     entries: &Entries,
     ty: TypeWord,
     fails_at: u64,
-) -> Result<String, RunError> {
+) -> Result<String, RunError>
+    ensures answer { IfOk result (λ t. string_bytes t ≡ visit_text (visits entries.now (type_at entries.now.number ty)) fails_at) }
+    ensures missing { IfErr result (IsMissingIn entries.now) }
+{
     match entries.find_type(ty) {
         Ok(ty) => visit_type(alloc, entries.types(), ty, fails_at),
         Err(error) => Err(RunError::from(error)),
     }
 }
 
+// What a visit came to.
+#[derive(Drop)]
+struct Outcome {
+    // whether the visitor stopped it
+    stopped: bool,
+    ids: Vec<DefinedTypeId>,
+}
+
 fn visit_type(alloc: Global, types: &Types, ty: Type, fails_at: u64) -> Result<String, RunError>
     requires { AllStand types.now (type_keys ty) }
+    ensures answer { IfOk result (λ t. string_bytes t ≡ visit_text (visits types.now ty) fails_at) }
+    ensures err { IfErr result (λ e. e ≡ run_error.Memory) }
+{
+    let visited = carry_out(alloc, types, ty, fails_at)?;
+    let outcome = if visited.stopped { "err" } else { "ok" };
+    let words = index_words(alloc, &visited.ids)?;
+    let text = format!(in alloc; "{outcome}{words}")?;
+    Ok(text)
+}
+
+fn carry_out(alloc: Global, types: &Types, ty: Type, fails_at: u64) -> Result<Outcome, RunError>
+    requires { AllStand types.now (type_keys ty) }
+    ensures ids { IfOk result (λ v. v.ids.items ≡ called (visits types.now ty) fails_at) }
+    ensures stopped { IfOk result (λ v. v.stopped ≡ is_stopped (visits types.now ty) fails_at) }
+    ensures err { IfErr result (λ e. e ≡ run_error.Memory) }
 {
     let mut calls = Calls {
-        text: String::new(alloc),
-        left: if fails_at == 0 { None } else { Some(fails_at) },
+        ids: Vec::new(alloc),
+        fails_at,
     };
-    let mut visitor = |_: &Types, id: DefinedTypeId| calls.call(alloc, id);
-    let outcome = match ty.visit_defined_types(types, &mut visitor) {
-        Ok(()) => "ok",
-        Err(Stop::Asked) => "err",
+    let mut visitor = |_: &Types, id: DefinedTypeId|
+        ensures called { IsCall calls.entry.fails_at calls.entry.ids.items id result calls.exit.ids.items }
+        ensures same { calls.exit.fails_at ≡ calls.entry.fails_at }
+    { calls.call(id) };
+    let stopped = match ty.visit_defined_types(types, &mut visitor) {
+        Ok(()) => false,
+        Err(Stop::Asked) => true,
         Err(Stop::Memory) => return Err(RunError::Memory),
     };
-    let visited = calls.text;
-    Ok(format!(in alloc; "{outcome}{visited}")?)
+    Ok(Outcome {
+        stopped,
+        ids: calls.ids,
+    })
+}
+
+// The index of each, after a space.
+fn index_words(alloc: Global, ids: &[DefinedTypeId]) -> Result<String, AllocError>
+    ensures { IfOk result (λ t. string_bytes t ≡ flat_map index_text ids.now) }
+{
+    let mut words = String::new(alloc);
+    for id in ids {
+        let word = format!(in alloc; " {id}")?;
+        words.push_str(&word)?;
+    }
+    Ok(words)
 }

@@ -7,3 +7,5 @@ mod building;
 mod items;
 #[cfg(test)]
 mod values;
+#[cfg(test)]
+mod words;

@@ -21,8 +21,6 @@ mod items;
 pub mod laws;
 mod listed;
 mod modules;
-#[cfg(test)]
-mod tests;
 mod values;
 
 pub use core_words::extern_word;

@@ -177,3 +177,22 @@ fn worlds_that_fit_are_remembered_and_no_others(rt: HostRuntime) -> Result<(), F
     }
     Ok(())
 }
+
+fn forget(cache: &mut Cache, number: u64) {
+    SubtypeChecker::new(cache).forget(number);
+}
+
+#[test]
+fn pairs_of_a_collection_are_forgotten(rt: HostRuntime) -> Result<(), Fail> {
+    let alloc = rt.alloc();
+    for (first, second, covariant, _) in worlds() {
+        let pair = pair_of(alloc, *first, *second)?;
+        let mut cache = HashSet::new(alloc);
+        ask_both(&rt, alloc, &mut cache, &pair, covariant)?;
+        forget(&mut cache, 1000);
+        assert!(rt; remembers(&cache, &pair.a, &pair.b));
+        forget(&mut cache, pair.bt.number());
+        assert!(rt; cache.is_empty());
+    }
+    Ok(())
+}

@@ -1,0 +1,5 @@
+mod AnswerLemmas
+mod ErrorLemmas
+mod StateLemmas
+mod TruthLemmas
+mod VisitLemmas
