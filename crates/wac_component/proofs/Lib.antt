@@ -25,3 +25,4 @@ pub mod Naming
 pub mod Search
 pub mod Seen
 pub mod DistinctNames
+pub mod StandingLemmas

@@ -17,8 +17,10 @@ use wac_core::ModuleType;
 
 mod index;
 mod naming;
+mod places;
 mod replace;
 mod search;
+mod standing;
 
 pub use replace::ReplaceError;
 

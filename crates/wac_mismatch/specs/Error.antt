@@ -1,6 +1,6 @@
 -- What a `SubtypeError` shows of itself.
 use Rattle.std.specs.Prelude.{List, [], ◌∷◌, Option, Some, None, codes}
-use Rattle.wac_model.specs.Text.{Text}
+use Rattle.wac_model.specs.Text.{Text, joined}
 use Rattle.wac_mismatch.specs.FrameText.{frame_text}
 use Rattle.wac_mismatch.specs.FaultText.{fault_text}
 use Rattle.wac_mismatch.specs.declared.frame.Frame.{Frame}
@@ -26,3 +26,13 @@ mismatch_text (frame ∷ frames) f = frame_text frame
 abbrev pub error_text : SubtypeError → Text
 error_text (Mismatch frames f) = mismatch_text frames.items f
 error_text Memory = codes "out of memory"
+
+-- the texts of the frames, the outermost first, and then that of the fault, with " / " between them
+abbrev pub steps_text : List Frame → Fault → Text
+steps_text [] f = fault_text f
+steps_text (frame ∷ frames) f = joined (frame_text frame ∷ codes " / " ∷ steps_text frames f ∷ [])
+
+-- the whole path of a mismatch on one line
+abbrev pub path_text : SubtypeError → Text
+path_text (Mismatch frames f) = steps_text frames.items f
+path_text Memory = codes "out of memory"

@@ -1,6 +1,6 @@
 //! What a check answers where it says no.
 
-use crate::{Fault, Frame};
+use crate::{Fault, Frame, Path};
 use std::alloc::AllocError;
 use std::{error, fmt};
 
@@ -31,6 +31,13 @@ impl SubtypeError {
             SubtypeError::Mismatch { frames, .. } => frames.as_slice(),
             SubtypeError::Memory => &[],
         }
+    }
+
+    /// The whole path, to be printed on one line.
+    pub fn path(&self) -> Path<'_>
+        ensures { result.error.now ≡ self.now }
+    {
+        Path { error: self }
     }
 
     /// What the types disagree in at that place; none without a mismatch.

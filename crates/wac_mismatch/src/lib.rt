@@ -7,9 +7,11 @@ pub mod error;
 pub mod fault;
 pub mod frame;
 pub mod laws;
+pub mod path;
 pub mod refusals;
 
 pub use check::SubtypeCheck;
 pub use error::SubtypeError;
 pub use fault::{CoreField, CountOf, Fault, NameOf, ResultPart};
 pub use frame::Frame;
+pub use path::Path;

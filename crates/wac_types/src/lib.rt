@@ -12,7 +12,7 @@ pub use wac_component::{
 pub use wac_core::{CoreExtern, CoreFuncType, CoreRefType, CoreType, HeapType, ModuleType};
 pub use wac_merge::{join, meet};
 pub use wac_mismatch::{
-    CoreField, CountOf, Fault, Frame, NameOf, ResultPart, SubtypeCheck, SubtypeError,
+    CoreField, CountOf, Fault, Frame, NameOf, Path, ResultPart, SubtypeCheck, SubtypeError,
 };
 pub use wac_model::PrimitiveType;
 pub use wac_names::{

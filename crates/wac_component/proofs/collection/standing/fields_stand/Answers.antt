@@ -1,0 +1,13 @@
+use Rattle.std.proofs.Common.{refl, arith}
+use Rattle.std.proofs.lemmas.List.{length-map}
+use Rattle.wac_component.specs.Content.{types_of}
+use Rattle.wac_component.specs.Key.{Stands, value_keys}
+use Rattle.wac_component.proofs.Keys.{Each-flat_map_at}
+use Rattle.wac_component.proofs.StandingLemmas.{Each-members, refused}
+use Rattle.wac_component.proofs.collection.standing.fields_stand.Goals as goal
+
+pub returns-then-not-contains : goal.returns-then-not-contains
+returns-then-not-contains c = refused c.contains.result c.contains.ensures c.if-not-contains.true (Each-flat_map_at (Stands c.args.types.now) value_keys (types_of c.args.fields.now.entries) c.loop-i.i c.field_at.result c.field_at.ensures)
+
+pub returns : goal.returns
+returns c = (λ _. Each-members (Stands c.args.types.now) value_keys (types_of c.args.fields.now.entries) c.loop-i.i (simp length-map (omega arith)) c.loop-i.invariant, λ _. refl)
