@@ -1,7 +1,7 @@
 -- The meets and the joins of interfaces, of worlds and of core modules, by what they import and export.
 use Rattle.std.proofs.Common.{◌≡◌, refl, ap, sym, subst, ◌∙◌, Option, Some, None}
 use Rattle.std.specs.Option.{option_map}
-use Rattle.wac_model.specs.CoreTree.{ModuleTree, Serves, ModuleFits}
+use Rattle.wac_model.specs.CoreTree.{ModuleTree, ModuleFits}
 use Rattle.wac_model.specs.ItemTree.{ItemTree, Kind, item, type_item, interface, world, composite, core_module, no_items}
 use Rattle.wac_model.specs.Order.{Fits}
 use Rattle.wac_bounds.specs.MeetIn.{IsMeetIn, IsJoinIn}
@@ -10,13 +10,15 @@ use Rattle.wac_bounds.proofs.ModuleBounds.{modules_meet, modules_join}
 use Rattle.wac_component.specs.Id.{Id}
 use Rattle.wac_component.specs.Collection.{Collection}
 use Rattle.wac_component.specs.Growth.{Extends}
-use Rattle.wac_component.specs.Key.{AllStand, interface_key, world_key, module_key}
+use Rattle.wac_component.specs.Key.{Stands, AllStand, interface_key, world_key, module_key}
+use Rattle.wac_component.specs.Sound.{IsSound}
 use Rattle.wac_component.specs.Tree.{externs, items_of, item_tree, module_tree}
 use Rattle.wac_component.proofs.Extended.{Extends-trans}
 use Rattle.wac_merge.specs.Bounded.{IsMetAs, IsJoinedAs, AreMet, AreJoined, Clash}
 use Rattle.wac_merge.specs.Items.{Externs, extern_keys, entry_item}
-use Rattle.wac_merge.specs.Reads.{HasExports, HasExterns}
+use Rattle.wac_merge.specs.Reads.{imports_at, exports_at, HasExports}
 use Rattle.wac_merge.proofs.ExternLemmas.{items_met, items_joined, items_clash, AreMet-after, AreJoined-before}
+use Rattle.wac_merge.proofs.ReadLemmas.{imports_stay, exports_stay, imports_at_stand, exports_at_stand, world_tree}
 
 -- the tree of an item that names an entry
 
@@ -67,46 +69,66 @@ module _ (c d e : Collection) (grown : Extends c d) (x y : Id) (k : Kind) where
         formed Fits {o = None} {o' = None} (interface_form c c k x es hx.tree) (interface_form c c k y ts hy.tree) refl
         (composite_no_meet k interface no_items (items_of (item_tree c) es) no_items (items_of (item_tree c) ts) h.name (items_clash c es ts h))
 
-  module _ (is es js ts : Externs) (hx : HasExterns c x is es) (hy : HasExterns c y js ts) where
-    pub worlds_met : (ms ns : Externs) (p : Id) → AreMet c d es ts (Some ms) → AreJoined c d is js ns
+  module _ (sound : IsSound c) (sx : Stands c (world_key x)) (sy : Stands c (world_key y)) where
+    abbrev is : Externs
+    is = imports_at c (world_key x)
+
+    abbrev es : Externs
+    es = exports_at c (world_key x)
+
+    abbrev js : Externs
+    js = imports_at c (world_key y)
+
+    abbrev ts : Externs
+    ts = exports_at c (world_key y)
+
+    pub worlds_met : (ms ns : Externs) (p : Id) → AreMet c d (exports_at c (world_key x)) (exports_at c (world_key y)) (Some ms) → AreJoined c d (imports_at c (world_key x)) (imports_at c (world_key y)) ns
         → externs e (world_key p) ≡ record { imports = items_of (item_tree d) ns; exports = items_of (item_tree d) ms }
         → IsMetAs c e (entry_item k (world_key x)) (entry_item k (world_key y)) (Some (entry_item k (world_key p)))
     worlds_met ms ns p met joined tree =
-        formed Fits (world_form c c k x is es hx.tree) (world_form c c k y js ts hy.tree) (ap (λ (t : ItemTree). Some t) (world_form e d k p ns ms tree))
+        formed Fits (world_form c c k x is es (world_tree c x sound sx)) (world_form c c k y js ts (world_tree c y sound sy)) (ap (λ (t : ItemTree). Some t) (world_form e d k p ns ms tree))
         (composite_meet k world (items_of (item_tree c) is) (items_of (item_tree c) es) (items_of (item_tree c) js) (items_of (item_tree c) ts) (items_of (item_tree d) ns) (items_of (item_tree d) ms)
-        (items_met c d grown es ts hx.exports_stand hy.exports_stand ms met) (items_joined c d grown is js hx.imports_stand hy.imports_stand ns joined))
+        (items_met c d grown es ts (exports_at_stand c (world_key x) sound sx) (exports_at_stand c (world_key y) sound sy) ms met)
+        (items_joined c d grown is js (imports_at_stand c (world_key x) sound sx) (imports_at_stand c (world_key y) sound sy) ns joined))
 
-    pub worlds_joined : (ms ns : Externs) (p : Id) → AreMet c d is js (Some ms) → AreJoined c d es ts ns
+    pub worlds_joined : (ms ns : Externs) (p : Id) → AreMet c d (imports_at c (world_key x)) (imports_at c (world_key y)) (Some ms) → AreJoined c d (exports_at c (world_key x)) (exports_at c (world_key y)) ns
         → externs e (world_key p) ≡ record { imports = items_of (item_tree d) ms; exports = items_of (item_tree d) ns }
         → IsJoinedAs c e (entry_item k (world_key x)) (entry_item k (world_key y)) (Some (entry_item k (world_key p)))
     worlds_joined ms ns p met joined tree =
-        formed (λ s t. Fits t s) (world_form c c k x is es hx.tree) (world_form c c k y js ts hy.tree) (ap (λ (t : ItemTree). Some t) (world_form e d k p ms ns tree))
+        formed (λ s t. Fits t s) (world_form c c k x is es (world_tree c x sound sx)) (world_form c c k y js ts (world_tree c y sound sy)) (ap (λ (t : ItemTree). Some t) (world_form e d k p ms ns tree))
         (composite_join k world (items_of (item_tree c) is) (items_of (item_tree c) es) (items_of (item_tree c) js) (items_of (item_tree c) ts) (items_of (item_tree d) ms) (items_of (item_tree d) ns)
-        (items_joined c d grown es ts hx.exports_stand hy.exports_stand ns joined) (items_met c d grown is js hx.imports_stand hy.imports_stand ms met))
+        (items_joined c d grown es ts (exports_at_stand c (world_key x) sound sx) (exports_at_stand c (world_key y) sound sy) ns joined)
+        (items_met c d grown is js (imports_at_stand c (world_key x) sound sx) (imports_at_stand c (world_key y) sound sy) ms met))
 
-    pub worlds_clash : Clash c es ts → IsMetAs c e (entry_item k (world_key x)) (entry_item k (world_key y)) None
+    pub worlds_clash : Clash c (exports_at c (world_key x)) (exports_at c (world_key y)) → IsMetAs c e (entry_item k (world_key x)) (entry_item k (world_key y)) None
     worlds_clash h =
-        formed Fits {o = None} {o' = None} (world_form c c k x is es hx.tree) (world_form c c k y js ts hy.tree) refl
+        formed Fits {o = None} {o' = None} (world_form c c k x is es (world_tree c x sound sx)) (world_form c c k y js ts (world_tree c y sound sy)) refl
         (composite_no_meet k world (items_of (item_tree c) is) (items_of (item_tree c) es) (items_of (item_tree c) js) (items_of (item_tree c) ts) h.name (items_clash c es ts h))
 
-    pub worlds_do_not_join : Clash c is js → IsJoinedAs c e (entry_item k (world_key x)) (entry_item k (world_key y)) None
+    pub worlds_do_not_join : Clash c (imports_at c (world_key x)) (imports_at c (world_key y)) → IsJoinedAs c e (entry_item k (world_key x)) (entry_item k (world_key y)) None
     worlds_do_not_join h =
-        formed (λ s t. Fits t s) {o = None} {o' = None} (world_form c c k x is es hx.tree) (world_form c c k y js ts hy.tree) refl
+        formed (λ s t. Fits t s) {o = None} {o' = None} (world_form c c k x is es (world_tree c x sound sx)) (world_form c c k y js ts (world_tree c y sound sy)) refl
         (composite_no_join k world (items_of (item_tree c) is) (items_of (item_tree c) es) (items_of (item_tree c) js) (items_of (item_tree c) ts) h.name (items_clash c is js h))
 
--- worlds, one part of which is met in d and the other joined in f
-module _ (c d f e : Collection) (grown : Extends c d) (more : Extends d f) (x y : Id) (k : Kind) (is es js ts : Externs) (hx : HasExterns c x is es) (hy : HasExterns c y js ts) (ms ns : Externs) (p : Id) where
-  pub worlds_met_then : AreMet c d es ts (Some ms) → AllStand d (extern_keys ms) → AreJoined d f is js ns → externs e (world_key p) ≡ record { imports = items_of (item_tree f) ns; exports = items_of (item_tree f) ms }
+-- worlds, one part of which is met in d and the other joined in f, by what they have in d
+module _ (c d f e : Collection) (sound : IsSound c) (grown : Extends c d) (more : Extends d f) (x y : Id) (sx : Stands c (world_key x)) (sy : Stands c (world_key y)) (k : Kind) (ms ns : Externs) (p : Id) where
+  pub worlds_met_then : AreMet c d (exports_at c (world_key x)) (exports_at c (world_key y)) (Some ms) → AllStand d (extern_keys ms) → AreJoined d f (imports_at d (world_key x)) (imports_at d (world_key y)) ns
+      → externs e (world_key p) ≡ record { imports = items_of (item_tree f) ns; exports = items_of (item_tree f) ms }
       → IsMetAs c e (entry_item k (world_key x)) (entry_item k (world_key y)) (Some (entry_item k (world_key p)))
   worlds_met_then met standing joined tree =
-      worlds_met c f e (Extends-trans c d f grown more) x y k is es js ts hx hy ms ns p (AreMet-after c d f more es ts ms standing met)
-      (AreJoined-before c d f grown is js ns hx.imports_stand hy.imports_stand joined) tree
+      worlds_met c f e (Extends-trans c d f grown more) x y k sound sx sy ms ns p
+      (AreMet-after c d f more (exports_at c (world_key x)) (exports_at c (world_key y)) ms standing met)
+      (AreJoined-before c d f grown (imports_at c (world_key x)) (imports_at c (world_key y)) ns (imports_at_stand c (world_key x) sound sx) (imports_at_stand c (world_key y) sound sy)
+      (subst (λ l. AreJoined d f l (imports_at c (world_key y)) ns) (imports_stay c d grown (world_key x) sx) (subst (λ l. AreJoined d f (imports_at d (world_key x)) l ns) (imports_stay c d grown (world_key y) sy) joined))) tree
 
-  pub worlds_joined_then : AreMet c d is js (Some ms) → AllStand d (extern_keys ms) → AreJoined d f es ts ns → externs e (world_key p) ≡ record { imports = items_of (item_tree f) ms; exports = items_of (item_tree f) ns }
+  pub worlds_joined_then : AreMet c d (imports_at c (world_key x)) (imports_at c (world_key y)) (Some ms) → AllStand d (extern_keys ms) → AreJoined d f (exports_at d (world_key x)) (exports_at d (world_key y)) ns
+      → externs e (world_key p) ≡ record { imports = items_of (item_tree f) ms; exports = items_of (item_tree f) ns }
       → IsJoinedAs c e (entry_item k (world_key x)) (entry_item k (world_key y)) (Some (entry_item k (world_key p)))
   worlds_joined_then met standing joined tree =
-      worlds_joined c f e (Extends-trans c d f grown more) x y k is es js ts hx hy ms ns p (AreMet-after c d f more is js ms standing met)
-      (AreJoined-before c d f grown es ts ns hx.exports_stand hy.exports_stand joined) tree
+      worlds_joined c f e (Extends-trans c d f grown more) x y k sound sx sy ms ns p
+      (AreMet-after c d f more (imports_at c (world_key x)) (imports_at c (world_key y)) ms standing met)
+      (AreJoined-before c d f grown (exports_at c (world_key x)) (exports_at c (world_key y)) ns (exports_at_stand c (world_key x) sound sx) (exports_at_stand c (world_key y) sound sy)
+      (subst (λ l. AreJoined d f l (exports_at c (world_key y)) ns) (exports_stay c d grown (world_key x) sx) (subst (λ l. AreJoined d f (exports_at d (world_key x)) l ns) (exports_stay c d grown (world_key y) sy) joined))) tree
 
 -- core modules, which name no items
 

@@ -1,25 +1,28 @@
 -- What is read of the entries that a meet or a join is made of, and what is added for them.
-use Rattle.std.proofs.Common.{◌≡◌, ◌<◌, ◌≤◌, List, ◌∷◌, [], ◌++◌, Some, None, slice_get, map, filter, length, refl, ap, sym, subst, ◌∙◌, arith, Bool, true, false, cond, Result, Ok, Err, OnOk, IfOk}
+use Rattle.std.proofs.Common.{◌≡◌, ◌<◌, List, ◌∷◌, [], ◌++◌, Option, Some, None, inl, inr, slice_get, filter, length, refl, ap, sym, subst, ◌∙◌, arith, Bool, true, false, cond, Result, Ok, Err, OnOk, IfOk}
 use Rattle.std.specs.Str.{bytes_eq}
 use Rattle.std.specs.declared.alloc.AllocError.{AllocError}
 use Rattle.wac_model.specs.Text.{Text}
 use Rattle.wac_core_merge.specs.Names.{is_new}
 use Rattle.std.proofs.lemmas.List.{length-map}
-use Rattle.std.specs.Option.{option_map}
+use Rattle.std.specs.Option.{option_map, option_map_or}
+use Rattle.std.proofs.lemmas.Option.{slice_get_cases}
 use Rattle.wac_model.specs.CoreTree.{ModuleTree}
 use Rattle.wac_model.specs.ItemTree.{no_items}
 use Rattle.wac_component.specs.Id.{Id}
 use Rattle.wac_component.specs.Collection.{Collection, UseContent, InterfaceContent, WorldContent}
-use Rattle.wac_component.specs.Growth.{with_entry}
+use Rattle.wac_component.specs.Growth.{Extends, with_entry}
 use Rattle.wac_component.specs.Height.{height, keys_height}
-use Rattle.wac_component.specs.Key.{Key, Stands, AllStand, interface_entry, world_entry, module_entry, entry_at, interface_key, world_key, module_key, interface_keys, world_keys, named_keys, use_keys, item_keys}
-use Rattle.wac_component.specs.Tree.{externs, interface_externs, world_externs, items_of, item_tree, module_tree}
+use Rattle.wac_component.specs.Key.{Key, Stands, AllStand, Entry, defined_entry, resource_entry, func_entry, interface_entry, world_entry, module_entry, entry_at, entry_keys, optional_keys, interface_key, world_key, module_key, interface_keys, world_keys, named_keys, use_keys, item_keys}
+use Rattle.wac_component.specs.Sound.{IsSound}
+use Rattle.wac_component.specs.Tree.{externs, interface_externs, world_externs, items_of, item_tree}
 use Rattle.wac_component.proofs.Keys.{Each-append}
 use Rattle.wac_component.proofs.Lists.{slice_get-map}
 use Rattle.wac_component.proofs.Members.{uses_stand, world_uses_stand, exports_stand, exports_lower, world_imports_stand, world_imports_lower, world_exports_stand, world_exports_lower}
+use Rattle.wac_component.proofs.Trees.{world-externs}
 use Rattle.wac_merge.specs.Built.{uses_of_both}
 use Rattle.wac_merge.specs.Items.{Externs, extern_keys}
-use Rattle.wac_merge.specs.Reads.{HasExports, HasExterns, IsInterfaceOfBoth, IsWorldOfBoth, IsModuleAdded}
+use Rattle.wac_merge.specs.Reads.{entry_imports, entry_exports, imports_at, exports_at, HasExports, AreRead, IsInterfaceOfBoth, IsWorldOfBoth}
 use Rattle.wac_merge.proofs.AddLemmas.{IsLast, with_entry-last}
 
 -- an entry of the list of its sort
@@ -43,19 +46,82 @@ reads_interface c x e es at tree stand lower same = record {
   lower = rw same (omega (arith, lower, exports_lower c e));
 }
 
-pub reads_world : (c : Collection) (x : Id) (e : WorldContent) (is es : Externs) → slice_get c.worlds x.index ≡ Some e → externs c (world_key x) ≡ world_externs (item_tree c) e
-    → AllStand c (world_keys e) → keys_height c (world_keys e) < height c (world_key x) → is ≡ e.imports → es ≡ e.exports → HasExterns c x is es
-reads_world c x e is es at tree stand lower same_imports same_exports = record {
-  entry = e;
-  at = world_at c x e at;
-  tree = tree ∙ ap (λ l. record { imports = items_of (item_tree c) l; exports = items_of (item_tree c) e.exports }) (sym same_imports) ∙ ap (λ l. record { imports = items_of (item_tree c) is; exports = items_of (item_tree c) l }) (sym same_exports);
-  imports = sym same_imports;
-  exports = sym same_exports;
-  imports_stand = rw same_imports (world_imports_stand c e stand);
-  exports_stand = rw same_exports (world_exports_stand c e stand);
-  imports_lower = rw same_imports (omega (arith, lower, world_imports_lower c e));
-  exports_lower = rw same_exports (omega (arith, lower, world_exports_lower c e));
+-- what a world imports and exports, by its entry
+
+pub world_imports_are : (c : Collection) (x : Id) (e : WorldContent) → entry_at c (world_key x) ≡ Some (world_entry e) → imports_at c (world_key x) ≡ e.imports
+unfolding imports_at
+world_imports_are c x e h = ap (λ o. option_map_or entry_imports o []) h
+
+pub world_exports_are : (c : Collection) (x : Id) (e : WorldContent) → entry_at c (world_key x) ≡ Some (world_entry e) → exports_at c (world_key x) ≡ e.exports
+unfolding exports_at
+world_exports_are c x e h = ap (λ o. option_map_or entry_exports o []) h
+
+pub reads_imports : (c : Collection) (x : Id) (e : WorldContent) (is : Externs) → slice_get c.worlds x.index ≡ Some e → AllStand c (world_keys e) → keys_height c (world_keys e) < height c (world_key x)
+    → is ≡ e.imports → AreRead c (world_key x) (imports_at c (world_key x)) is
+reads_imports c x e is at stand lower same = record {
+  are = same ∙ sym (world_imports_are c x e (world_at c x e at));
+  standing = rw same (world_imports_stand c e stand);
+  lower = rw same (omega (arith, lower, world_imports_lower c e));
 }
+
+pub reads_exports : (c : Collection) (x : Id) (e : WorldContent) (es : Externs) → slice_get c.worlds x.index ≡ Some e → AllStand c (world_keys e) → keys_height c (world_keys e) < height c (world_key x)
+    → es ≡ e.exports → AreRead c (world_key x) (exports_at c (world_key x)) es
+reads_exports c x e es at stand lower same = record {
+  are = same ∙ sym (world_exports_are c x e (world_at c x e at));
+  standing = rw same (world_exports_stand c e stand);
+  lower = rw same (omega (arith, lower, world_exports_lower c e));
+}
+
+-- what an id imports and exports is the same while the collection grows
+
+pub imports_stay : (c d : Collection) → Extends c d → (k : Key) → Stands c k → imports_at d k ≡ imports_at c k
+unfolding imports_at
+imports_stay c d grown k stands = ap (λ o. option_map_or entry_imports o []) (grown.same_entry k stands)
+
+pub exports_stay : (c d : Collection) → Extends c d → (k : Key) → Stands c k → exports_at d k ≡ exports_at c k
+unfolding exports_at
+exports_stay c d grown k stands = ap (λ o. option_map_or entry_exports o []) (grown.same_entry k stands)
+
+-- it stands where the id does
+
+pub imports_at_stand : (c : Collection) (k : Key) → IsSound c → Stands c k → AllStand c (extern_keys (imports_at c k))
+unfolding imports_at
+imports_at_stand c k sound stands = go (entry_at c k) (sound.standing k stands)
+  where
+    go : (o : Option Entry) → AllStand c (optional_keys entry_keys o) → AllStand c (extern_keys (option_map_or entry_imports o []))
+    go None h = tt
+    go (Some (defined_entry e)) h = tt
+    go (Some (resource_entry e)) h = tt
+    go (Some (func_entry e)) h = tt
+    go (Some (interface_entry e)) h = tt
+    go (Some (world_entry e)) h = world_imports_stand c e h
+    go (Some (module_entry e)) h = tt
+
+pub exports_at_stand : (c : Collection) (k : Key) → IsSound c → Stands c k → AllStand c (extern_keys (exports_at c k))
+unfolding exports_at
+exports_at_stand c k sound stands = go (entry_at c k) (sound.standing k stands)
+  where
+    go : (o : Option Entry) → AllStand c (optional_keys entry_keys o) → AllStand c (extern_keys (option_map_or entry_exports o []))
+    go None h = tt
+    go (Some (defined_entry e)) h = tt
+    go (Some (resource_entry e)) h = tt
+    go (Some (func_entry e)) h = tt
+    go (Some (interface_entry e)) h = exports_stand c e h
+    go (Some (world_entry e)) h = world_exports_stand c e h
+    go (Some (module_entry e)) h = tt
+
+-- the tree of a world is that of what it imports and exports
+pub world_tree : (c : Collection) (x : Id) → IsSound c → Stands c (world_key x)
+    → externs c (world_key x) ≡ record { imports = items_of (item_tree c) (imports_at c (world_key x)); exports = items_of (item_tree c) (exports_at c (world_key x)) }
+world_tree c x sound stands = elim (slice_get_cases c.worlds x.index).1 [
+  | inl there ↦ of_entry there.0 there.2
+  | inr past ↦ absurd (omega (arith, past.0, stands.1, length-map c.worlds world_entry))
+]
+  where
+    of_entry : (e : WorldContent) → slice_get c.worlds x.index ≡ Some e
+        → externs c (world_key x) ≡ record { imports = items_of (item_tree c) (imports_at c (world_key x)); exports = items_of (item_tree c) (exports_at c (world_key x)) }
+    of_entry e at =
+        rw (world_imports_are c x e (world_at c x e at), world_exports_are c x e (world_at c x e at)) (world-externs c x e sound stands at)
 
 -- the entries that are added are last
 

@@ -1,11 +1,12 @@
 -- What is read of the entries that a meet or a join is made of.
-use Rattle.std.specs.Prelude.{◌≡◌, ◌<◌, Some, None, length}
+use Rattle.std.specs.Prelude.{◌≡◌, ◌<◌, [], Some, None, length}
+use Rattle.std.specs.Option.{option_map_or}
 use Rattle.wac_model.specs.CoreTree.{ModuleTree}
 use Rattle.wac_model.specs.ItemTree.{no_items}
 use Rattle.wac_component.specs.Id.{Id}
 use Rattle.wac_component.specs.Collection.{Collection, InterfaceContent, WorldContent}
 use Rattle.wac_component.specs.Height.{height, keys_height}
-use Rattle.wac_component.specs.Key.{Stands, AllStand, interface_entry, world_entry, module_entry, entry_at, interface_key, world_key, module_key}
+use Rattle.wac_component.specs.Key.{Key, Stands, AllStand, Entry, interface_entry, world_entry, module_entry, entry_at, interface_key, world_key, module_key}
 use Rattle.wac_component.specs.Growth.{with_entry}
 use Rattle.wac_component.specs.Tree.{externs, items_of, item_tree, module_tree}
 use Rattle.wac_merge.specs.Built.{uses_of_both}
@@ -20,17 +21,28 @@ pub record HasExports (c : Collection) (x : Id) (es : Externs) : Type 0 where
   pub standing : AllStand c (extern_keys es)
   pub lower : keys_height c (extern_keys es) < height c (interface_key x)
 
--- the world has these imports and exports, which stand and are lower
-pub record HasExterns (c : Collection) (x : Id) (is es : Externs) : Type 0 where
-  pub entry : WorldContent
-  pub at : entry_at c (world_key x) ≡ Some (world_entry entry)
-  pub tree : externs c (world_key x) ≡ record { imports = items_of (item_tree c) is; exports = items_of (item_tree c) es }
-  pub imports : entry.imports ≡ is
-  pub exports : entry.exports ≡ es
-  pub imports_stand : AllStand c (extern_keys is)
-  pub exports_stand : AllStand c (extern_keys es)
-  pub imports_lower : keys_height c (extern_keys is) < height c (world_key x)
-  pub exports_lower : keys_height c (extern_keys es) < height c (world_key x)
+-- what an entry says that it imports, which only a world does, and exports
+abbrev pub entry_imports : Entry → Externs
+entry_imports (world_entry w) = w.imports
+entry_imports e = []
+
+abbrev pub entry_exports : Entry → Externs
+entry_exports (interface_entry i) = i.exports
+entry_exports (world_entry w) = w.exports
+entry_exports e = []
+
+-- what the entry of an id says that it imports and exports
+unfoldable pub imports_at : Collection → Key → Externs
+imports_at c k = option_map_or entry_imports (entry_at c k) []
+
+unfoldable pub exports_at : Collection → Key → Externs
+exports_at c k = option_map_or entry_exports (entry_at c k) []
+
+-- the items are all of these, which stand and are lower than the id
+pub record AreRead (c : Collection) (k : Key) (all es : Externs) : Type 0 where
+  pub are : es ≡ all
+  pub standing : AllStand c (extern_keys es)
+  pub lower : keys_height c (extern_keys es) < height c k
 
 -- the interface at p is all that d has more than c: it has these exports, and uses what two interfaces do
 pub record IsInterfaceOfBoth (c d : Collection) (x y : Id) (es : Externs) (p : Id) : Type 0 where

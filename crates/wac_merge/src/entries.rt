@@ -6,7 +6,7 @@ ghost use Rattle.wac_component.specs.Growth.{Extends};
 ghost use Rattle.wac_component.specs.Key.{Stands, AllStand, interface_key, world_key};
 ghost use Rattle.wac_merge.specs.Built.{uses_of_both};
 ghost use Rattle.wac_merge.specs.Items.{extern_keys, listed};
-ghost use Rattle.wac_merge.specs.Reads.{HasExports, HasExterns, IsInterfaceOfBoth, IsWorldOfBoth};
+ghost use Rattle.wac_merge.specs.Reads.{imports_at, exports_at, HasExports, AreRead, IsInterfaceOfBoth, IsWorldOfBoth};
 
 use indexmap::IndexMap;
 use std::alloc::AllocError;
@@ -24,16 +24,26 @@ pub(crate) fn exports_of(
     types[id].exports.clone()
 }
 
-// The imports and the exports of a world.
-pub(crate) fn externs_of(
+// The imports of a world.
+pub(crate) fn world_imports_of(
     types: &Types,
     id: WorldId,
-) -> Result<(IndexMap<String, ItemKind>, IndexMap<String, ItemKind>), AllocError>
+) -> Result<IndexMap<String, ItemKind>, AllocError>
     requires { Stands types.now (world_key id) }
-    ensures { IfOk result (λ m. HasExterns types.now id (listed m.0) (listed m.1)) }
+    ensures { IfOk result (λ m. AreRead types.now (world_key id) (imports_at types.now (world_key id)) (listed m)) }
 {
-    let world = &types[id];
-    Ok((world.imports.clone()?, world.exports.clone()?))
+    types[id].imports.clone()
+}
+
+// The exports of a world.
+pub(crate) fn world_exports_of(
+    types: &Types,
+    id: WorldId,
+) -> Result<IndexMap<String, ItemKind>, AllocError>
+    requires { Stands types.now (world_key id) }
+    ensures { IfOk result (λ m. AreRead types.now (world_key id) (exports_at types.now (world_key id)) (listed m)) }
+{
+    types[id].exports.clone()
 }
 
 // What the first uses, and then what the second uses under other names.

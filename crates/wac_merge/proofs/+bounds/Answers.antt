@@ -1,4 +1,4 @@
-use Rattle.std.proofs.Common.{◌≡◌, ◌++◌, ◌∷◌, [], refl, ap, sym, subst, map, Some, None, string_bytes, inl, inr, arith, rules}
+use Rattle.std.proofs.Common.{◌≡◌, ◌++◌, ◌∷◌, [], ap, sym, subst, map, Some, None, string_bytes, inl, inr, arith, rules}
 use Rattle.std.specs.Map.Iter.{deref_pair}
 use Rattle.std.proofs.lemmas.Map.Iter.{iter_end}
 use Rattle.std.proofs.lemmas.Result.{IfOk-weaker}
@@ -7,7 +7,7 @@ use Rattle.wac_component.specs.Content.{named}
 use Rattle.wac_component.specs.Key.{AllStand, item_keys, optional_keys, interface_key, world_key, interface_sort, world_sort, module_sort}
 use Rattle.wac_component.specs.Tree.{item_tree}
 use Rattle.wac_component.specs.declared.items.ItemKind.TheVariants.{«Type» as OfType}
-use Rattle.wac_component.proofs.Extended.{Extends-refl, Extends-trans, AllStand-Extends}
+use Rattle.wac_component.proofs.Extended.{Extends-trans, AllStand-Extends}
 use Rattle.wac_checker.proofs.ExternLemmas.{named_stands}
 use Rattle.wac_merge.specs.Bounded.{AreFirstMet, AreUnlike}
 use Rattle.wac_merge.specs.Items.{extern_keys, item_of, listed}
@@ -16,8 +16,8 @@ use Rattle.wac_merge.proofs.BuiltLemmas.{Runs-map, Runs-same, Runs-then, IfOk-re
 use Rattle.wac_merge.proofs.CompositeLemmas.{interfaces_met, interfaces_joined, interfaces_clash, worlds_met_then, worlds_joined_then, worlds_clash, worlds_do_not_join}
 use Rattle.wac_merge.proofs.ExternLemmas.{found_stands, clash_at, met_with_before, all_met, all_stand, all_built}
 use Rattle.wac_merge.proofs.ItemLemmas.{met_of, joined_of, Runs-of, built_of, made_of, Runs-with}
-use Rattle.wac_merge.proofs.LoopLemmas.{name_not_done, name_has, done_more, heights_stay, item_lower, first_met_turn, joined_turn, dropped_turn, standing_turn, built_turn, dropped_built, ended_built, not_met_yet, not_joined_yet}
-use Rattle.wac_merge.proofs.MadeLemmas.{Runs-exports, interface_of_both, joined_interface_built, Runs-world_exports, Runs-world_imports, met_world_of_both, joined_world_of_both}
+use Rattle.wac_merge.proofs.LoopLemmas.{name_not_done, name_has, done_more, item_lower, first_met_turn, joined_turn, dropped_turn, standing_turn, built_turn, dropped_built, ended_built, not_met_yet, not_joined_yet}
+use Rattle.wac_merge.proofs.MadeLemmas.{Runs-exports, interface_of_both, joined_interface_built, Runs-exports_at, Runs-imports_at, met_world_of_both, joined_world_of_both}
 use Rattle.wac_merge.proofs.OrderLemmas.{all_names_put, some_names_put, some_names_dropped, all_names_with}
 use Rattle.wac_merge.proofs.+bounds.Goals as goal
 
@@ -444,122 +444,168 @@ composites::join_interfaces-returns-clause-built t c =
     joined_interface_built c.add_interface_of.result c.args.types.now c.join_externs.new.types c.add_interface_of.new.types c.args.x c.args.y c.requires.left c.requires.right c.in_ok-exports.ensures.grows c.add_interface_of.ensures.grows (listed c.in_ok-first.first) (listed c.in_ok-second.second) (listed c.in_ok-exports.exports) c.in_ok-first.ensures c.in_ok-second.ensures
     c.add_interface_of.ensures.made c.in_ok-exports.ensures.joined c.in_ok-exports.ensures.names c.in_ok-exports.ensures.built c.add_interface_of.ensures.err
 
+pub composites::meet_world_exports-returns-clause-met : goal.composites::meet_world_exports-returns-clause-met
+composites::meet_world_exports-returns-clause-met t c =
+    rw (c.in_ok-first.ensures.are, c.in_ok-second.ensures.are) at c.meet_externs.ensures.met
+
+pub composites::meet_world_exports-returns-clause-names : goal.composites::meet_world_exports-returns-clause-names
+composites::meet_world_exports-returns-clause-names t c =
+    rw (c.in_ok-first.ensures.are, c.in_ok-second.ensures.are) at c.meet_externs.ensures.names
+
+pub composites::meet_world_exports-returns-clause-built : goal.composites::meet_world_exports-returns-clause-built
+composites::meet_world_exports-returns-clause-built t c =
+    Runs-exports_at c.args.types.now c.meet_externs.new.types (world_key c.args.x) (world_key c.args.y) _ (rw (c.in_ok-first.ensures.are, c.in_ok-second.ensures.are) at c.meet_externs.ensures.built)
+
+pub composites::meet_world_imports-returns-clause-met : goal.composites::meet_world_imports-returns-clause-met
+composites::meet_world_imports-returns-clause-met t c =
+    rw (c.in_ok-first.ensures.are, c.in_ok-second.ensures.are) at c.meet_externs.ensures.met
+
+pub composites::meet_world_imports-returns-clause-names : goal.composites::meet_world_imports-returns-clause-names
+composites::meet_world_imports-returns-clause-names t c =
+    rw (c.in_ok-first.ensures.are, c.in_ok-second.ensures.are) at c.meet_externs.ensures.names
+
+pub composites::meet_world_imports-returns-clause-built : goal.composites::meet_world_imports-returns-clause-built
+composites::meet_world_imports-returns-clause-built t c =
+    Runs-imports_at c.args.types.now c.meet_externs.new.types (world_key c.args.x) (world_key c.args.y) _ (rw (c.in_ok-first.ensures.are, c.in_ok-second.ensures.are) at c.meet_externs.ensures.built)
+
+pub composites::join_world_imports-returns-clause-joined : goal.composites::join_world_imports-returns-clause-joined
+composites::join_world_imports-returns-clause-joined t c =
+    rw (c.in_ok-first.ensures.are, c.in_ok-second.ensures.are) at c.join_externs.ensures.joined
+
+pub composites::join_world_imports-returns-clause-names : goal.composites::join_world_imports-returns-clause-names
+composites::join_world_imports-returns-clause-names t c =
+    rw c.in_ok-first.ensures.are at c.join_externs.ensures.names
+
+pub composites::join_world_imports-returns-clause-built : goal.composites::join_world_imports-returns-clause-built
+composites::join_world_imports-returns-clause-built t c =
+    Runs-imports_at c.args.types.now c.join_externs.new.types (world_key c.args.x) (world_key c.args.y) _ (rw (c.in_ok-first.ensures.are, c.in_ok-second.ensures.are) at c.join_externs.ensures.built)
+
+pub composites::join_world_exports-returns-clause-joined : goal.composites::join_world_exports-returns-clause-joined
+composites::join_world_exports-returns-clause-joined t c =
+    rw (c.in_ok-first.ensures.are, c.in_ok-second.ensures.are) at c.join_externs.ensures.joined
+
+pub composites::join_world_exports-returns-clause-names : goal.composites::join_world_exports-returns-clause-names
+composites::join_world_exports-returns-clause-names t c =
+    rw c.in_ok-first.ensures.are at c.join_externs.ensures.names
+
+pub composites::join_world_exports-returns-clause-built : goal.composites::join_world_exports-returns-clause-built
+composites::join_world_exports-returns-clause-built t c =
+    Runs-exports_at c.args.types.now c.join_externs.new.types (world_key c.args.x) (world_key c.args.y) _ (rw (c.in_ok-first.ensures.are, c.in_ok-second.ensures.are) at c.join_externs.ensures.built)
+
 pub composites::meet_worlds-returns-in_err-exports-clause-built : goal.composites::meet_worlds-returns-in_err-exports-clause-built
 composites::meet_worlds-returns-in_err-exports-clause-built t c =
-    Runs-map (world_key c.args.x ∷ world_key c.args.y ∷ []) c.args.types.now c.meet_externs.new.types _ _ (λ x o h. IfOk-refused c.from_residual-in_err-exports.result _ c.from_residual-in_err-exports.ensures.0) (Runs-world_exports c.args.types.now c.args.types.now c.meet_externs.new.types c.args.x c.args.y c.requires.left c.requires.right (Extends-refl c.args.types.now) (listed c.in_ok-imports.imports) (listed c.in_ok-imports.exports) (listed c.in_ok-other_imports.other_imports) (listed c.in_ok-other_imports.other_exports) c.in_ok-imports.ensures c.in_ok-other_imports.ensures _ c.in_err-exports.ensures.built)
+    Runs-map (world_key c.args.x ∷ world_key c.args.y ∷ []) c.args.types.now c.meet_world_exports.new.types _ _ (λ x o h. IfOk-refused c.from_residual.result _ c.from_residual.ensures.0) c.in_err-exports.ensures.built
 
-pub composites::meet_worlds-join_externs-requires : goal.composites::meet_worlds-join_externs-requires
-composites::meet_worlds-join_externs-requires t c =
-    let same = heights_stay c.args.types.now c.meet_externs.new.types c.in_ok-exports.ensures.grows (extern_keys (listed c.in_ok-imports.imports)) c.in_ok-imports.ensures.imports_stand in (
-      omega (arith, same, c.in_ok-imports.ensures.imports_lower),
-      (AllStand-Extends c.args.types.now c.meet_externs.new.types c.in_ok-exports.ensures.grows (extern_keys (listed c.in_ok-imports.imports)) c.in_ok-imports.ensures.imports_stand, AllStand-Extends c.args.types.now c.meet_externs.new.types c.in_ok-exports.ensures.grows (extern_keys (listed c.in_ok-other_imports.other_imports)) c.in_ok-other_imports.ensures.imports_stand),
-    )
+pub composites::meet_worlds-join_world_imports-requires : goal.composites::meet_worlds-join_world_imports-requires
+composites::meet_worlds-join_world_imports-requires t c =
+    let same = c.in_ok-exports.ensures.grows.heights (world_key c.args.x) c.requires.left in
+    (omega (arith, same), (c.in_ok-exports.ensures.grows.standing (world_key c.args.x) c.requires.left, c.in_ok-exports.ensures.grows.standing (world_key c.args.y) c.requires.right))
 
 pub composites::meet_worlds-returns-in_err-imports-in-Some-clause-grows : goal.composites::meet_worlds-returns-in_err-imports-in-Some-clause-grows
 composites::meet_worlds-returns-in_err-imports-in-Some-clause-grows t c =
-    Extends-trans c.args.types.now c.meet_externs.new.types c.join_externs.new.types c.in_ok-exports.ensures.grows c.in_err-imports-in-Some.ensures.grows
+    Extends-trans c.args.types.now c.meet_world_exports.new.types c.join_world_imports.new.types c.in_ok-exports.ensures.grows c.in_err-imports-in-Some.ensures.grows
 
 pub composites::meet_worlds-returns-in_err-imports-in-Some-clause-built : goal.composites::meet_worlds-returns-in_err-imports-in-Some-clause-built
 composites::meet_worlds-returns-in_err-imports-in-Some-clause-built t c =
-    Runs-map (world_key c.args.x ∷ world_key c.args.y ∷ []) c.args.types.now c.join_externs.new.types _ _ (λ x o h. IfOk-refused c.from_residual-in_err-imports-in-Some.result _ c.from_residual-in_err-imports-in-Some.ensures.0) (Runs-then (world_key c.args.x ∷ world_key c.args.y ∷ []) c.args.types.now c.meet_externs.new.types c.join_externs.new.types _ _ (λ x o. Unit {0}) c.in_ok-exports.ensures.grows (Runs-world_exports c.args.types.now c.args.types.now c.meet_externs.new.types c.args.x c.args.y c.requires.left c.requires.right (Extends-refl c.args.types.now) (listed c.in_ok-imports.imports) (listed c.in_ok-imports.exports) (listed c.in_ok-other_imports.other_imports) (listed c.in_ok-other_imports.other_exports) c.in_ok-imports.ensures c.in_ok-other_imports.ensures _ c.in_ok-exports.ensures.built) (Runs-world_imports c.args.types.now c.meet_externs.new.types c.join_externs.new.types c.args.x c.args.y c.requires.left c.requires.right c.in_ok-exports.ensures.grows (listed c.in_ok-imports.imports) (listed c.in_ok-imports.exports) (listed c.in_ok-other_imports.other_imports) (listed c.in_ok-other_imports.other_exports) c.in_ok-imports.ensures c.in_ok-other_imports.ensures _ c.in_err-imports-in-Some.ensures.built) (λ x o q a h g. tt))
+    Runs-then (world_key c.args.x ∷ world_key c.args.y ∷ []) c.args.types.now c.meet_world_exports.new.types c.join_world_imports.new.types _ _ _ c.in_ok-exports.ensures.grows c.in_ok-exports.ensures.built c.in_err-imports-in-Some.ensures.built (λ x o q a h g. IfOk-refused c.from_residual-in_err-imports-in-Some.result _ c.from_residual-in_err-imports-in-Some.ensures.0)
 
 pub composites::meet_worlds-add_world_of-requires-clause-first : goal.composites::meet_worlds-add_world_of-requires-clause-first
 composites::meet_worlds-add_world_of-requires-clause-first t c =
-    (Extends-trans c.args.types.now c.meet_externs.new.types c.join_externs.new.types c.in_ok-exports.ensures.grows c.in_ok-imports-in-Some.ensures.grows).standing (world_key c.args.x) c.requires.left
+    (Extends-trans c.args.types.now c.meet_world_exports.new.types c.join_world_imports.new.types c.in_ok-exports.ensures.grows c.in_ok-imports-in-Some.ensures.grows).standing (world_key c.args.x) c.requires.left
 
 pub composites::meet_worlds-add_world_of-requires-clause-second : goal.composites::meet_worlds-add_world_of-requires-clause-second
 composites::meet_worlds-add_world_of-requires-clause-second t c =
-    (Extends-trans c.args.types.now c.meet_externs.new.types c.join_externs.new.types c.in_ok-exports.ensures.grows c.in_ok-imports-in-Some.ensures.grows).standing (world_key c.args.y) c.requires.right
+    (Extends-trans c.args.types.now c.meet_world_exports.new.types c.join_world_imports.new.types c.in_ok-exports.ensures.grows c.in_ok-imports-in-Some.ensures.grows).standing (world_key c.args.y) c.requires.right
 
 pub composites::meet_worlds-add_world_of-requires-clause-exports : goal.composites::meet_worlds-add_world_of-requires-clause-exports
 composites::meet_worlds-add_world_of-requires-clause-exports t c =
-    AllStand-Extends c.meet_externs.new.types c.join_externs.new.types c.in_ok-imports-in-Some.ensures.grows (extern_keys (listed c.in-Some.exports)) (rw c.in-Some.is at c.in_ok-exports.ensures.standing)
+    AllStand-Extends c.meet_world_exports.new.types c.join_world_imports.new.types c.in_ok-imports-in-Some.ensures.grows (extern_keys (listed c.in-Some.exports)) (rw c.in-Some.is at c.in_ok-exports.ensures.standing)
 
 pub composites::meet_worlds-returns-in_err-add_world_of-in-Some-clause-grows : goal.composites::meet_worlds-returns-in_err-add_world_of-in-Some-clause-grows
 composites::meet_worlds-returns-in_err-add_world_of-in-Some-clause-grows t c =
-    Extends-trans c.args.types.now c.join_externs.new.types c.add_world_of.new.types (Extends-trans c.args.types.now c.meet_externs.new.types c.join_externs.new.types c.in_ok-exports.ensures.grows c.in_ok-imports-in-Some.ensures.grows) c.in_err-add_world_of-in-Some.ensures.grows
+    Extends-trans c.args.types.now c.join_world_imports.new.types c.add_world_of.new.types (Extends-trans c.args.types.now c.meet_world_exports.new.types c.join_world_imports.new.types c.in_ok-exports.ensures.grows c.in_ok-imports-in-Some.ensures.grows) c.in_err-add_world_of-in-Some.ensures.grows
 
 pub composites::meet_worlds-returns-in_err-add_world_of-in-Some-clause-built : goal.composites::meet_worlds-returns-in_err-add_world_of-in-Some-clause-built
 composites::meet_worlds-returns-in_err-add_world_of-in-Some-clause-built t c =
-    Runs-same (world_key c.args.x ∷ world_key c.args.y ∷ []) c.args.types.now c.join_externs.new.types c.add_world_of.new.types _ _ c.in_err-add_world_of-in-Some.ensures.err (λ x o h. IfOk-refused c.from_residual-in_err-add_world_of-in-Some.result _ c.from_residual-in_err-add_world_of-in-Some.ensures.0) (Runs-then (world_key c.args.x ∷ world_key c.args.y ∷ []) c.args.types.now c.meet_externs.new.types c.join_externs.new.types _ _ (λ x o. Unit {0}) c.in_ok-exports.ensures.grows (Runs-world_exports c.args.types.now c.args.types.now c.meet_externs.new.types c.args.x c.args.y c.requires.left c.requires.right (Extends-refl c.args.types.now) (listed c.in_ok-imports.imports) (listed c.in_ok-imports.exports) (listed c.in_ok-other_imports.other_imports) (listed c.in_ok-other_imports.other_exports) c.in_ok-imports.ensures c.in_ok-other_imports.ensures _ c.in_ok-exports.ensures.built) (Runs-world_imports c.args.types.now c.meet_externs.new.types c.join_externs.new.types c.args.x c.args.y c.requires.left c.requires.right c.in_ok-exports.ensures.grows (listed c.in_ok-imports.imports) (listed c.in_ok-imports.exports) (listed c.in_ok-other_imports.other_imports) (listed c.in_ok-other_imports.other_exports) c.in_ok-imports.ensures c.in_ok-other_imports.ensures _ c.in_ok-imports-in-Some.ensures.built) (λ x o q a h g. tt))
+    Runs-same (world_key c.args.x ∷ world_key c.args.y ∷ []) c.args.types.now c.join_world_imports.new.types c.add_world_of.new.types _ _ c.in_err-add_world_of-in-Some.ensures.err (λ x o h. IfOk-refused c.from_residual-in_err-add_world_of-in-Some.result _ c.from_residual-in_err-add_world_of-in-Some.ensures.0)
+    (Runs-then (world_key c.args.x ∷ world_key c.args.y ∷ []) c.args.types.now c.meet_world_exports.new.types c.join_world_imports.new.types _ _ (λ x o. Unit {0}) c.in_ok-exports.ensures.grows c.in_ok-exports.ensures.built c.in_ok-imports-in-Some.ensures.built (λ x o q a h g. tt))
 
-pub composites::meet_worlds-returns-in-Some-clause-grows : goal.composites::meet_worlds-returns-in-Some-clause-grows
-composites::meet_worlds-returns-in-Some-clause-grows t c =
-    Extends-trans c.args.types.now c.join_externs.new.types c.add_world_of.new.types (Extends-trans c.args.types.now c.meet_externs.new.types c.join_externs.new.types c.in_ok-exports.ensures.grows c.in_ok-imports-in-Some.ensures.grows) c.in_ok-add_world_of-in-Some.ensures.grows
+pub composites::meet_worlds-returns-in_ok-add_world_of-in-Some-clause-grows : goal.composites::meet_worlds-returns-in_ok-add_world_of-in-Some-clause-grows
+composites::meet_worlds-returns-in_ok-add_world_of-in-Some-clause-grows t c =
+    Extends-trans c.args.types.now c.join_world_imports.new.types c.add_world_of.new.types (Extends-trans c.args.types.now c.meet_world_exports.new.types c.join_world_imports.new.types c.in_ok-exports.ensures.grows c.in_ok-imports-in-Some.ensures.grows) c.in_ok-add_world_of-in-Some.ensures.grows
 
-pub composites::meet_worlds-returns-in-Some-clause-met : goal.composites::meet_worlds-returns-in-Some-clause-met
-composites::meet_worlds-returns-in-Some-clause-met t c =
-    λ k. worlds_met_then c.args.types.now c.meet_externs.new.types c.join_externs.new.types c.add_world_of.new.types c.in_ok-exports.ensures.grows c.in_ok-imports-in-Some.ensures.grows c.args.x c.args.y k (listed c.in_ok-imports.imports) (listed c.in_ok-imports.exports) (listed c.in_ok-other_imports.other_imports) (listed c.in_ok-other_imports.other_exports) c.in_ok-imports.ensures c.in_ok-other_imports.ensures (listed c.in-Some.exports) (listed c.in_ok-imports-in-Some.imports) c.in_ok-add_world_of-in-Some.field-0 (rw c.in-Some.is at c.in_ok-exports.ensures.met) (rw c.in-Some.is at c.in_ok-exports.ensures.standing) c.in_ok-imports-in-Some.ensures.joined c.in_ok-add_world_of-in-Some.ensures.made.tree
+pub composites::meet_worlds-returns-in_ok-add_world_of-in-Some-clause-met : goal.composites::meet_worlds-returns-in_ok-add_world_of-in-Some-clause-met
+composites::meet_worlds-returns-in_ok-add_world_of-in-Some-clause-met t c =
+    λ k. worlds_met_then c.args.types.now c.meet_world_exports.new.types c.join_world_imports.new.types c.add_world_of.new.types c.sound.ensures c.in_ok-exports.ensures.grows c.in_ok-imports-in-Some.ensures.grows c.args.x c.args.y c.requires.left c.requires.right k (listed c.in-Some.exports) (listed c.in_ok-imports-in-Some.imports) c.in_ok-add_world_of-in-Some.field-0 (rw c.in-Some.is at c.in_ok-exports.ensures.met) (rw c.in-Some.is at c.in_ok-exports.ensures.standing) c.in_ok-imports-in-Some.ensures.joined c.in_ok-add_world_of-in-Some.ensures.made.tree
 
-pub composites::meet_worlds-returns-in-Some-clause-built : goal.composites::meet_worlds-returns-in-Some-clause-built
-composites::meet_worlds-returns-in-Some-clause-built t c =
-    met_world_of_both c.args.types.now c.meet_externs.new.types c.join_externs.new.types c.add_world_of.new.types c.args.x c.args.y c.in_ok-add_world_of-in-Some.field-0 c.requires.left c.requires.right c.in_ok-exports.ensures.grows c.in_ok-imports-in-Some.ensures.grows c.in_ok-add_world_of-in-Some.ensures.grows (listed c.in_ok-imports.imports) (listed c.in_ok-imports.exports) (listed c.in_ok-other_imports.other_imports) (listed c.in_ok-other_imports.other_exports) c.in_ok-imports.ensures c.in_ok-other_imports.ensures (listed c.in-Some.exports) (listed c.in_ok-imports-in-Some.imports) c.in_ok-add_world_of-in-Some.ensures.made (rw c.in-Some.is at c.in_ok-exports.ensures.names) c.in_ok-imports-in-Some.ensures.names
-    (inl (composites::meet_worlds-returns-in-Some-clause-met t c)) (rw c.in-Some.is at c.in_ok-exports.ensures.built) c.in_ok-imports-in-Some.ensures.built
+pub composites::meet_worlds-returns-in_ok-add_world_of-in-Some-clause-built : goal.composites::meet_worlds-returns-in_ok-add_world_of-in-Some-clause-built
+composites::meet_worlds-returns-in_ok-add_world_of-in-Some-clause-built t c =
+    met_world_of_both c.args.types.now c.meet_world_exports.new.types c.join_world_imports.new.types c.add_world_of.new.types c.args.x c.args.y c.in_ok-add_world_of-in-Some.field-0 c.requires.left c.requires.right c.in_ok-exports.ensures.grows c.in_ok-imports-in-Some.ensures.grows c.in_ok-add_world_of-in-Some.ensures.grows (listed c.in-Some.exports) (listed c.in_ok-imports-in-Some.imports) c.in_ok-add_world_of-in-Some.ensures.made (rw c.in-Some.is at c.in_ok-exports.ensures.names) c.in_ok-imports-in-Some.ensures.names
+    (inl (composites::meet_worlds-returns-in_ok-add_world_of-in-Some-clause-met t c)) (rw c.in-Some.is at c.in_ok-exports.ensures.built) c.in_ok-imports-in-Some.ensures.built
 
-pub composites::meet_worlds-returns-clause-met : goal.composites::meet_worlds-returns-clause-met
-composites::meet_worlds-returns-clause-met t c =
-    λ k. worlds_clash c.args.types.now c.meet_externs.new.types c.meet_externs.new.types c.in_ok-exports.ensures.grows c.args.x c.args.y k (listed c.in_ok-imports.imports) (listed c.in_ok-imports.exports) (listed c.in_ok-other_imports.other_imports) (listed c.in_ok-other_imports.other_exports) c.in_ok-imports.ensures c.in_ok-other_imports.ensures (rw c.in-None.is at c.in_ok-exports.ensures.met)
+pub composites::meet_worlds-returns-in-None-clause-met : goal.composites::meet_worlds-returns-in-None-clause-met
+composites::meet_worlds-returns-in-None-clause-met t c =
+    λ k. worlds_clash c.args.types.now c.meet_world_exports.new.types c.meet_world_exports.new.types c.in_ok-exports.ensures.grows c.args.x c.args.y k c.sound.ensures c.requires.left c.requires.right (rw c.in-None.is at c.in_ok-exports.ensures.met)
 
-pub composites::meet_worlds-returns-clause-built : goal.composites::meet_worlds-returns-clause-built
-composites::meet_worlds-returns-clause-built t c =
-    Runs-map (world_key c.args.x ∷ world_key c.args.y ∷ []) c.args.types.now c.meet_externs.new.types _ _ (λ x o h. tt) (Runs-world_exports c.args.types.now c.args.types.now c.meet_externs.new.types c.args.x c.args.y c.requires.left c.requires.right (Extends-refl c.args.types.now) (listed c.in_ok-imports.imports) (listed c.in_ok-imports.exports) (listed c.in_ok-other_imports.other_imports) (listed c.in_ok-other_imports.other_exports) c.in_ok-imports.ensures c.in_ok-other_imports.ensures _ c.in_ok-exports.ensures.built)
+pub composites::meet_worlds-returns-in-None-clause-built : goal.composites::meet_worlds-returns-in-None-clause-built
+composites::meet_worlds-returns-in-None-clause-built t c =
+    Runs-map (world_key c.args.x ∷ world_key c.args.y ∷ []) c.args.types.now c.meet_world_exports.new.types _ _ (λ x o h. tt) c.in_ok-exports.ensures.built
 
-pub composites::join_worlds-returns-in_err-imports-2-clause-built : goal.composites::join_worlds-returns-in_err-imports-2-clause-built
-composites::join_worlds-returns-in_err-imports-2-clause-built t c =
-    Runs-map (world_key c.args.x ∷ world_key c.args.y ∷ []) c.args.types.now c.meet_externs.new.types _ _ (λ x o h. IfOk-refused c.from_residual-in_err-imports-2.result _ c.from_residual-in_err-imports-2.ensures.0) (Runs-world_imports c.args.types.now c.args.types.now c.meet_externs.new.types c.args.x c.args.y c.requires.left c.requires.right (Extends-refl c.args.types.now) (listed c.in_ok-imports.imports) (listed c.in_ok-imports.exports) (listed c.in_ok-other_imports.other_imports) (listed c.in_ok-other_imports.other_exports) c.in_ok-imports.ensures c.in_ok-other_imports.ensures _ c.in_err-imports-2.ensures.built)
+pub composites::join_worlds-returns-in_err-imports-clause-built : goal.composites::join_worlds-returns-in_err-imports-clause-built
+composites::join_worlds-returns-in_err-imports-clause-built t c =
+    Runs-map (world_key c.args.x ∷ world_key c.args.y ∷ []) c.args.types.now c.meet_world_imports.new.types _ _ (λ x o h. IfOk-refused c.from_residual.result _ c.from_residual.ensures.0) c.in_err-imports.ensures.built
 
-pub composites::join_worlds-join_externs-requires : goal.composites::join_worlds-join_externs-requires
-composites::join_worlds-join_externs-requires t c =
-    let same = heights_stay c.args.types.now c.meet_externs.new.types c.in_ok-imports-2.ensures.grows (extern_keys (listed c.in_ok-imports.exports)) c.in_ok-imports.ensures.exports_stand in (
-      omega (arith, same, c.in_ok-imports.ensures.exports_lower),
-      (AllStand-Extends c.args.types.now c.meet_externs.new.types c.in_ok-imports-2.ensures.grows (extern_keys (listed c.in_ok-imports.exports)) c.in_ok-imports.ensures.exports_stand, AllStand-Extends c.args.types.now c.meet_externs.new.types c.in_ok-imports-2.ensures.grows (extern_keys (listed c.in_ok-other_imports.other_exports)) c.in_ok-other_imports.ensures.exports_stand),
-    )
+pub composites::join_worlds-join_world_exports-requires : goal.composites::join_worlds-join_world_exports-requires
+composites::join_worlds-join_world_exports-requires t c =
+    let same = c.in_ok-imports.ensures.grows.heights (world_key c.args.x) c.requires.left in
+    (omega (arith, same), (c.in_ok-imports.ensures.grows.standing (world_key c.args.x) c.requires.left, c.in_ok-imports.ensures.grows.standing (world_key c.args.y) c.requires.right))
 
 pub composites::join_worlds-returns-in_err-exports-in-Some-clause-grows : goal.composites::join_worlds-returns-in_err-exports-in-Some-clause-grows
 composites::join_worlds-returns-in_err-exports-in-Some-clause-grows t c =
-    Extends-trans c.args.types.now c.meet_externs.new.types c.join_externs.new.types c.in_ok-imports-2.ensures.grows c.in_err-exports-in-Some.ensures.grows
+    Extends-trans c.args.types.now c.meet_world_imports.new.types c.join_world_exports.new.types c.in_ok-imports.ensures.grows c.in_err-exports-in-Some.ensures.grows
 
 pub composites::join_worlds-returns-in_err-exports-in-Some-clause-built : goal.composites::join_worlds-returns-in_err-exports-in-Some-clause-built
 composites::join_worlds-returns-in_err-exports-in-Some-clause-built t c =
-    Runs-map (world_key c.args.x ∷ world_key c.args.y ∷ []) c.args.types.now c.join_externs.new.types _ _ (λ x o h. IfOk-refused c.from_residual-in_err-exports-in-Some.result _ c.from_residual-in_err-exports-in-Some.ensures.0) (Runs-then (world_key c.args.x ∷ world_key c.args.y ∷ []) c.args.types.now c.meet_externs.new.types c.join_externs.new.types _ _ (λ x o. Unit {0}) c.in_ok-imports-2.ensures.grows (Runs-world_imports c.args.types.now c.args.types.now c.meet_externs.new.types c.args.x c.args.y c.requires.left c.requires.right (Extends-refl c.args.types.now) (listed c.in_ok-imports.imports) (listed c.in_ok-imports.exports) (listed c.in_ok-other_imports.other_imports) (listed c.in_ok-other_imports.other_exports) c.in_ok-imports.ensures c.in_ok-other_imports.ensures _ c.in_ok-imports-2.ensures.built) (Runs-world_exports c.args.types.now c.meet_externs.new.types c.join_externs.new.types c.args.x c.args.y c.requires.left c.requires.right c.in_ok-imports-2.ensures.grows (listed c.in_ok-imports.imports) (listed c.in_ok-imports.exports) (listed c.in_ok-other_imports.other_imports) (listed c.in_ok-other_imports.other_exports) c.in_ok-imports.ensures c.in_ok-other_imports.ensures _ c.in_err-exports-in-Some.ensures.built) (λ x o q a h g. tt))
+    Runs-then (world_key c.args.x ∷ world_key c.args.y ∷ []) c.args.types.now c.meet_world_imports.new.types c.join_world_exports.new.types _ _ _ c.in_ok-imports.ensures.grows c.in_ok-imports.ensures.built c.in_err-exports-in-Some.ensures.built (λ x o q a h g. IfOk-refused c.from_residual-in_err-exports-in-Some.result _ c.from_residual-in_err-exports-in-Some.ensures.0)
 
 pub composites::join_worlds-add_world_of-requires-clause-first : goal.composites::join_worlds-add_world_of-requires-clause-first
 composites::join_worlds-add_world_of-requires-clause-first t c =
-    (Extends-trans c.args.types.now c.meet_externs.new.types c.join_externs.new.types c.in_ok-imports-2.ensures.grows c.in_ok-exports-in-Some.ensures.grows).standing (world_key c.args.x) c.requires.left
+    (Extends-trans c.args.types.now c.meet_world_imports.new.types c.join_world_exports.new.types c.in_ok-imports.ensures.grows c.in_ok-exports-in-Some.ensures.grows).standing (world_key c.args.x) c.requires.left
 
 pub composites::join_worlds-add_world_of-requires-clause-second : goal.composites::join_worlds-add_world_of-requires-clause-second
 composites::join_worlds-add_world_of-requires-clause-second t c =
-    (Extends-trans c.args.types.now c.meet_externs.new.types c.join_externs.new.types c.in_ok-imports-2.ensures.grows c.in_ok-exports-in-Some.ensures.grows).standing (world_key c.args.y) c.requires.right
+    (Extends-trans c.args.types.now c.meet_world_imports.new.types c.join_world_exports.new.types c.in_ok-imports.ensures.grows c.in_ok-exports-in-Some.ensures.grows).standing (world_key c.args.y) c.requires.right
 
 pub composites::join_worlds-add_world_of-requires-clause-imports : goal.composites::join_worlds-add_world_of-requires-clause-imports
 composites::join_worlds-add_world_of-requires-clause-imports t c =
-    AllStand-Extends c.meet_externs.new.types c.join_externs.new.types c.in_ok-exports-in-Some.ensures.grows (extern_keys (listed c.in-Some.imports)) (rw c.in-Some.is at c.in_ok-imports-2.ensures.standing)
+    AllStand-Extends c.meet_world_imports.new.types c.join_world_exports.new.types c.in_ok-exports-in-Some.ensures.grows (extern_keys (listed c.in-Some.imports)) (rw c.in-Some.is at c.in_ok-imports.ensures.standing)
 
 pub composites::join_worlds-returns-in_err-add_world_of-in-Some-clause-grows : goal.composites::join_worlds-returns-in_err-add_world_of-in-Some-clause-grows
 composites::join_worlds-returns-in_err-add_world_of-in-Some-clause-grows t c =
-    Extends-trans c.args.types.now c.join_externs.new.types c.add_world_of.new.types (Extends-trans c.args.types.now c.meet_externs.new.types c.join_externs.new.types c.in_ok-imports-2.ensures.grows c.in_ok-exports-in-Some.ensures.grows) c.in_err-add_world_of-in-Some.ensures.grows
+    Extends-trans c.args.types.now c.join_world_exports.new.types c.add_world_of.new.types (Extends-trans c.args.types.now c.meet_world_imports.new.types c.join_world_exports.new.types c.in_ok-imports.ensures.grows c.in_ok-exports-in-Some.ensures.grows) c.in_err-add_world_of-in-Some.ensures.grows
 
 pub composites::join_worlds-returns-in_err-add_world_of-in-Some-clause-built : goal.composites::join_worlds-returns-in_err-add_world_of-in-Some-clause-built
 composites::join_worlds-returns-in_err-add_world_of-in-Some-clause-built t c =
-    Runs-same (world_key c.args.x ∷ world_key c.args.y ∷ []) c.args.types.now c.join_externs.new.types c.add_world_of.new.types _ _ c.in_err-add_world_of-in-Some.ensures.err (λ x o h. IfOk-refused c.from_residual-in_err-add_world_of-in-Some.result _ c.from_residual-in_err-add_world_of-in-Some.ensures.0) (Runs-then (world_key c.args.x ∷ world_key c.args.y ∷ []) c.args.types.now c.meet_externs.new.types c.join_externs.new.types _ _ (λ x o. Unit {0}) c.in_ok-imports-2.ensures.grows (Runs-world_imports c.args.types.now c.args.types.now c.meet_externs.new.types c.args.x c.args.y c.requires.left c.requires.right (Extends-refl c.args.types.now) (listed c.in_ok-imports.imports) (listed c.in_ok-imports.exports) (listed c.in_ok-other_imports.other_imports) (listed c.in_ok-other_imports.other_exports) c.in_ok-imports.ensures c.in_ok-other_imports.ensures _ c.in_ok-imports-2.ensures.built) (Runs-world_exports c.args.types.now c.meet_externs.new.types c.join_externs.new.types c.args.x c.args.y c.requires.left c.requires.right c.in_ok-imports-2.ensures.grows (listed c.in_ok-imports.imports) (listed c.in_ok-imports.exports) (listed c.in_ok-other_imports.other_imports) (listed c.in_ok-other_imports.other_exports) c.in_ok-imports.ensures c.in_ok-other_imports.ensures _ c.in_ok-exports-in-Some.ensures.built) (λ x o q a h g. tt))
+    Runs-same (world_key c.args.x ∷ world_key c.args.y ∷ []) c.args.types.now c.join_world_exports.new.types c.add_world_of.new.types _ _ c.in_err-add_world_of-in-Some.ensures.err (λ x o h. IfOk-refused c.from_residual-in_err-add_world_of-in-Some.result _ c.from_residual-in_err-add_world_of-in-Some.ensures.0)
+    (Runs-then (world_key c.args.x ∷ world_key c.args.y ∷ []) c.args.types.now c.meet_world_imports.new.types c.join_world_exports.new.types _ _ (λ x o. Unit {0}) c.in_ok-imports.ensures.grows c.in_ok-imports.ensures.built c.in_ok-exports-in-Some.ensures.built (λ x o q a h g. tt))
 
-pub composites::join_worlds-returns-in-Some-clause-grows : goal.composites::join_worlds-returns-in-Some-clause-grows
-composites::join_worlds-returns-in-Some-clause-grows t c =
-    Extends-trans c.args.types.now c.join_externs.new.types c.add_world_of.new.types (Extends-trans c.args.types.now c.meet_externs.new.types c.join_externs.new.types c.in_ok-imports-2.ensures.grows c.in_ok-exports-in-Some.ensures.grows) c.in_ok-add_world_of-in-Some.ensures.grows
+pub composites::join_worlds-returns-in_ok-add_world_of-in-Some-clause-grows : goal.composites::join_worlds-returns-in_ok-add_world_of-in-Some-clause-grows
+composites::join_worlds-returns-in_ok-add_world_of-in-Some-clause-grows t c =
+    Extends-trans c.args.types.now c.join_world_exports.new.types c.add_world_of.new.types (Extends-trans c.args.types.now c.meet_world_imports.new.types c.join_world_exports.new.types c.in_ok-imports.ensures.grows c.in_ok-exports-in-Some.ensures.grows) c.in_ok-add_world_of-in-Some.ensures.grows
 
-pub composites::join_worlds-returns-in-Some-clause-joined : goal.composites::join_worlds-returns-in-Some-clause-joined
-composites::join_worlds-returns-in-Some-clause-joined t c =
-    λ k. worlds_joined_then c.args.types.now c.meet_externs.new.types c.join_externs.new.types c.add_world_of.new.types c.in_ok-imports-2.ensures.grows c.in_ok-exports-in-Some.ensures.grows c.args.x c.args.y k (listed c.in_ok-imports.imports) (listed c.in_ok-imports.exports) (listed c.in_ok-other_imports.other_imports) (listed c.in_ok-other_imports.other_exports) c.in_ok-imports.ensures c.in_ok-other_imports.ensures (listed c.in-Some.imports) (listed c.in_ok-exports-in-Some.exports) c.in_ok-add_world_of-in-Some.field-0 (rw c.in-Some.is at c.in_ok-imports-2.ensures.met) (rw c.in-Some.is at c.in_ok-imports-2.ensures.standing) c.in_ok-exports-in-Some.ensures.joined c.in_ok-add_world_of-in-Some.ensures.made.tree
+pub composites::join_worlds-returns-in_ok-add_world_of-in-Some-clause-joined : goal.composites::join_worlds-returns-in_ok-add_world_of-in-Some-clause-joined
+composites::join_worlds-returns-in_ok-add_world_of-in-Some-clause-joined t c =
+    λ k. worlds_joined_then c.args.types.now c.meet_world_imports.new.types c.join_world_exports.new.types c.add_world_of.new.types c.sound.ensures c.in_ok-imports.ensures.grows c.in_ok-exports-in-Some.ensures.grows c.args.x c.args.y c.requires.left c.requires.right k (listed c.in-Some.imports) (listed c.in_ok-exports-in-Some.exports) c.in_ok-add_world_of-in-Some.field-0 (rw c.in-Some.is at c.in_ok-imports.ensures.met) (rw c.in-Some.is at c.in_ok-imports.ensures.standing) c.in_ok-exports-in-Some.ensures.joined c.in_ok-add_world_of-in-Some.ensures.made.tree
 
-pub composites::join_worlds-returns-in-Some-clause-built : goal.composites::join_worlds-returns-in-Some-clause-built
-composites::join_worlds-returns-in-Some-clause-built t c =
-    joined_world_of_both c.args.types.now c.meet_externs.new.types c.join_externs.new.types c.add_world_of.new.types c.args.x c.args.y c.in_ok-add_world_of-in-Some.field-0 c.requires.left c.requires.right c.in_ok-imports-2.ensures.grows c.in_ok-exports-in-Some.ensures.grows c.in_ok-add_world_of-in-Some.ensures.grows (listed c.in_ok-imports.imports) (listed c.in_ok-imports.exports) (listed c.in_ok-other_imports.other_imports) (listed c.in_ok-other_imports.other_exports) c.in_ok-imports.ensures c.in_ok-other_imports.ensures (listed c.in-Some.imports) (listed c.in_ok-exports-in-Some.exports) c.in_ok-add_world_of-in-Some.ensures.made (rw c.in-Some.is at c.in_ok-imports-2.ensures.names) c.in_ok-exports-in-Some.ensures.names
-    (inr (composites::join_worlds-returns-in-Some-clause-joined t c)) (rw c.in-Some.is at c.in_ok-imports-2.ensures.built) c.in_ok-exports-in-Some.ensures.built
+pub composites::join_worlds-returns-in_ok-add_world_of-in-Some-clause-built : goal.composites::join_worlds-returns-in_ok-add_world_of-in-Some-clause-built
+composites::join_worlds-returns-in_ok-add_world_of-in-Some-clause-built t c =
+    joined_world_of_both c.args.types.now c.meet_world_imports.new.types c.join_world_exports.new.types c.add_world_of.new.types c.args.x c.args.y c.in_ok-add_world_of-in-Some.field-0 c.requires.left c.requires.right c.in_ok-imports.ensures.grows c.in_ok-exports-in-Some.ensures.grows c.in_ok-add_world_of-in-Some.ensures.grows (listed c.in-Some.imports) (listed c.in_ok-exports-in-Some.exports) c.in_ok-add_world_of-in-Some.ensures.made (rw c.in-Some.is at c.in_ok-imports.ensures.names) c.in_ok-exports-in-Some.ensures.names
+    (inr (composites::join_worlds-returns-in_ok-add_world_of-in-Some-clause-joined t c)) (rw c.in-Some.is at c.in_ok-imports.ensures.built) c.in_ok-exports-in-Some.ensures.built
 
-pub composites::join_worlds-returns-clause-joined : goal.composites::join_worlds-returns-clause-joined
-composites::join_worlds-returns-clause-joined t c =
-    λ k. worlds_do_not_join c.args.types.now c.meet_externs.new.types c.meet_externs.new.types c.in_ok-imports-2.ensures.grows c.args.x c.args.y k (listed c.in_ok-imports.imports) (listed c.in_ok-imports.exports) (listed c.in_ok-other_imports.other_imports) (listed c.in_ok-other_imports.other_exports) c.in_ok-imports.ensures c.in_ok-other_imports.ensures (rw c.in-None.is at c.in_ok-imports-2.ensures.met)
+pub composites::join_worlds-returns-in-None-clause-joined : goal.composites::join_worlds-returns-in-None-clause-joined
+composites::join_worlds-returns-in-None-clause-joined t c =
+    λ k. worlds_do_not_join c.args.types.now c.meet_world_imports.new.types c.meet_world_imports.new.types c.in_ok-imports.ensures.grows c.args.x c.args.y k c.sound.ensures c.requires.left c.requires.right (rw c.in-None.is at c.in_ok-imports.ensures.met)
 
-pub composites::join_worlds-returns-clause-built : goal.composites::join_worlds-returns-clause-built
-composites::join_worlds-returns-clause-built t c =
-    Runs-map (world_key c.args.x ∷ world_key c.args.y ∷ []) c.args.types.now c.meet_externs.new.types _ _ (λ x o h. tt) (Runs-world_imports c.args.types.now c.args.types.now c.meet_externs.new.types c.args.x c.args.y c.requires.left c.requires.right (Extends-refl c.args.types.now) (listed c.in_ok-imports.imports) (listed c.in_ok-imports.exports) (listed c.in_ok-other_imports.other_imports) (listed c.in_ok-other_imports.other_exports) c.in_ok-imports.ensures c.in_ok-other_imports.ensures _ c.in_ok-imports-2.ensures.built)
+pub composites::join_worlds-returns-in-None-clause-built : goal.composites::join_worlds-returns-in-None-clause-built
+composites::join_worlds-returns-in-None-clause-built t c =
+    Runs-map (world_key c.args.x ∷ world_key c.args.y ∷ []) c.args.types.now c.meet_world_imports.new.types _ _ (λ x o h. tt) c.in_ok-imports.ensures.built

@@ -14,43 +14,55 @@ use Rattle.wac_merge.specs.Runs.{Runs}
 use Rattle.wac_merge.proofs.+bounds.Given as goal
 
 abbrev pub decreases-items::meet_items : goal.decreases-items::meet_items
-decreases-items::meet_items l = 6 * keys_height l.types.now (item_keys l.a) + 2
+decreases-items::meet_items l = 7 * keys_height l.types.now (item_keys l.a) + 3
 
 abbrev pub decreases-items::meet_types : goal.decreases-items::meet_types
-decreases-items::meet_types l = 6 * keys_height l.types.now (type_keys l.a) + 1
+decreases-items::meet_types l = 7 * keys_height l.types.now (type_keys l.a) + 2
 
 abbrev pub decreases-items::join_items : goal.decreases-items::join_items
-decreases-items::join_items l = 6 * keys_height l.types.now (item_keys l.a) + 2
+decreases-items::join_items l = 7 * keys_height l.types.now (item_keys l.a) + 3
 
 abbrev pub decreases-items::join_types : goal.decreases-items::join_types
-decreases-items::join_types l = 6 * keys_height l.types.now (type_keys l.a) + 1
+decreases-items::join_types l = 7 * keys_height l.types.now (type_keys l.a) + 2
 
 abbrev pub decreases-composites::meet_interfaces : goal.decreases-composites::meet_interfaces
-decreases-composites::meet_interfaces l = 6 * height l.types.now (interface_key l.x)
+decreases-composites::meet_interfaces l = 7 * height l.types.now (interface_key l.x)
 
 abbrev pub decreases-composites::join_interfaces : goal.decreases-composites::join_interfaces
-decreases-composites::join_interfaces l = 6 * height l.types.now (interface_key l.x)
+decreases-composites::join_interfaces l = 7 * height l.types.now (interface_key l.x)
 
 abbrev pub decreases-composites::meet_worlds : goal.decreases-composites::meet_worlds
-decreases-composites::meet_worlds l = 6 * height l.types.now (world_key l.x)
+decreases-composites::meet_worlds l = 7 * height l.types.now (world_key l.x) + 1
 
 abbrev pub decreases-composites::join_worlds : goal.decreases-composites::join_worlds
-decreases-composites::join_worlds l = 6 * height l.types.now (world_key l.x)
+decreases-composites::join_worlds l = 7 * height l.types.now (world_key l.x) + 1
+
+abbrev pub decreases-composites::meet_world_exports : goal.decreases-composites::meet_world_exports
+decreases-composites::meet_world_exports l = 7 * height l.types.now (world_key l.x)
+
+abbrev pub decreases-composites::meet_world_imports : goal.decreases-composites::meet_world_imports
+decreases-composites::meet_world_imports l = 7 * height l.types.now (world_key l.x)
+
+abbrev pub decreases-composites::join_world_imports : goal.decreases-composites::join_world_imports
+decreases-composites::join_world_imports l = 7 * height l.types.now (world_key l.x)
+
+abbrev pub decreases-composites::join_world_exports : goal.decreases-composites::join_world_exports
+decreases-composites::join_world_exports l = 7 * height l.types.now (world_key l.x)
 
 abbrev pub decreases-externs::meet_externs : goal.decreases-externs::meet_externs
-decreases-externs::meet_externs l = 6 * keys_height l.types.now (extern_keys (listed l.first.now)) + 5
+decreases-externs::meet_externs l = 7 * keys_height l.types.now (extern_keys (listed l.first.now)) + 6
 
 abbrev pub decreases-externs::meet_first : goal.decreases-externs::meet_first
-decreases-externs::meet_first l = 6 * keys_height l.types.now (extern_keys (listed l.first.now)) + 4
+decreases-externs::meet_first l = 7 * keys_height l.types.now (extern_keys (listed l.first.now)) + 5
 
 abbrev pub decreases-externs::join_externs : goal.decreases-externs::join_externs
-decreases-externs::join_externs l = 6 * keys_height l.types.now (extern_keys (listed l.first.now)) + 5
+decreases-externs::join_externs l = 7 * keys_height l.types.now (extern_keys (listed l.first.now)) + 6
 
 abbrev pub decreases-externs::meet_with : goal.decreases-externs::meet_with
-decreases-externs::meet_with l = 6 * keys_height l.types.now (item_keys l.a) + 3
+decreases-externs::meet_with l = 7 * keys_height l.types.now (item_keys l.a) + 4
 
 abbrev pub decreases-externs::join_with : goal.decreases-externs::join_with
-decreases-externs::join_with l = 6 * keys_height l.types.now (item_keys l.a) + 3
+decreases-externs::join_with l = 7 * keys_height l.types.now (item_keys l.a) + 4
 
 abbrev pub invariant-externs::meet_first-loop-name : goal.invariant-externs::meet_first-loop-name
 invariant-externs::meet_first-loop-name l = record {
