@@ -1,17 +1,11 @@
 //! The program `wac-vectors`: asks the library built-in questions and prints its answers.
 #![tactic(auto)]
 
-mod rows;
-mod run;
-mod sides;
-#[cfg(test)]
-mod tests;
-
-use run::{FAILED, run, usage};
 use std::alloc::Global;
 use std::io::Write;
 use std::process::ExitCode;
 use std::{env, io};
+use wac_vectors_program::{FAILED, run, usage};
 
 fn main(rt: HostRuntime) -> ExitCode {
     let out = rt.stdout();

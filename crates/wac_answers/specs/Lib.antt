@@ -1,6 +1,0 @@
-pub mod ErrorText
-pub mod OneLine
-pub mod Answers
-pub mod Packages
-pub mod NameMaps
-pub mod Queries

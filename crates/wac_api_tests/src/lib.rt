@@ -1,0 +1,34 @@
+//! Tests of what a script can't ask: the values that calls hand out and take back, what stays over several
+//! calls, and what is written to a writer that fails.
+#![tactic(auto)]
+
+#[cfg(test)]
+mod building;
+#[cfg(test)]
+mod checking;
+#[cfg(test)]
+mod checks;
+#[cfg(test)]
+mod collections;
+#[cfg(test)]
+mod errors;
+#[cfg(test)]
+mod ids;
+#[cfg(test)]
+mod name_maps;
+#[cfg(test)]
+mod package_keys;
+#[cfg(test)]
+mod packages;
+#[cfg(test)]
+mod programs;
+#[cfg(test)]
+mod replacing;
+#[cfg(test)]
+mod reports;
+#[cfg(test)]
+mod scripts;
+#[cfg(test)]
+mod showing;
+#[cfg(test)]
+mod visits;

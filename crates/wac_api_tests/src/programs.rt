@@ -1,0 +1,119 @@
+//! The command lines of `wac-vectors`, over writers in memory and over one that fails.
+
+use std::alloc::Global;
+use std::io;
+use std::io::Write;
+use std::process::Abort;
+use wac_vectors_program::run;
+
+const USAGE: &str = "usage: wac-vectors rows | track NAME | compatible A B\n";
+
+const ROWS: &str = "1 yes
+2 no: expected s8, found u8
+3 yes
+4 no: mismatched type for stream payload
+5 no: expected function parameter 0 to be named `b`, found name `a`
+6 no: expected function without a result, found function with a result
+7 no: expected resource `dir`, found resource `file`
+8 yes
+9 yes
+10 no: instance is missing expected function export `g`
+11 no: component is missing expected function import `x`
+12 yes
+13 no: mismatched type for export `m`
+14 no: expected function, found value
+";
+
+// The words of a command line, what it prints, what it prints on the error output, and its status.
+type Line = (&'static [&'static str], &'static str, &'static str, u8);
+
+static LINES: [Line; 12] = [
+    (&["rows"], ROWS, "", 0),
+    (&["track", "x:y/z"], "none\n", "", 0),
+    (&["track", "x:y/z@0.2.3+abc"], "x:y/z@0.2\n", "", 0),
+    (
+        &["compatible", "a:b/c@0.2.0", "a:b/c@0.2.3"],
+        "yes\n",
+        "",
+        0,
+    ),
+    (&["compatible", "a:b/c@0.2.0", "a:b/c@0.3.0"], "no\n", "", 0),
+    (&[], "", USAGE, 2),
+    (&[""], "", USAGE, 2),
+    (&["row"], "", USAGE, 2),
+    (&["rows", "1"], "", USAGE, 2),
+    (&["track"], "", USAGE, 2),
+    (&["track", "x:y/z", "x:y/z"], "", USAGE, 2),
+    (&["compatible", "a:b/c@0.2.0"], "", USAGE, 2),
+];
+
+fn lines() -> &'static [Line] {
+    &LINES
+}
+
+// A writer whose write of this number fails, and what it was given before.
+#[derive(Drop)]
+struct Failing {
+    number: u32,
+    writes: u32,
+    text: Vec<u8>,
+}
+
+impl Failing {
+    fn at(alloc: Global, number: u32) -> Failing {
+        Failing {
+            number,
+            writes: 0,
+            text: Vec::new(alloc),
+        }
+    }
+}
+
+impl Write for Failing {
+    fn write(&mut self, buf: &[u8]) -> io::Result<usize> {
+        self.writes = self.writes.saturating_add(1);
+        if self.writes == self.number {
+            return Err(io::Error::from(io::ErrorKind::Other));
+        }
+        self.text.extend_from_slice(buf)?;
+        Ok(buf.len())
+    }
+
+    fn flush(&mut self) -> io::Result<()> {
+        Ok(())
+    }
+}
+
+// Runs a command line over writers whose writes of this number fail; whether one did. Then the status is 1,
+// nothing more is written, and what was written is the front of what the line prints.
+fn fails<R: Abort>(rt: &R, alloc: Global, line: &Line, number: u32) -> bool {
+    let (words, text, error, status) = line;
+    let mut out = Failing::at(alloc, number);
+    let mut err = Failing::at(alloc, number);
+    let answer = run(alloc, words, &mut out, &mut err);
+    if out.writes < number && err.writes < number {
+        assert_eq!(rt; answer, *status);
+        assert_eq!(rt; out.text.as_slice(), text.as_bytes());
+        assert_eq!(rt; err.text.as_slice(), error.as_bytes());
+        return false;
+    }
+    assert_eq!(rt; answer, 1);
+    assert!(rt; out.writes <= number && err.writes <= number);
+    assert!(rt; text.as_bytes().starts_with(&out.text));
+    assert!(rt; error.as_bytes().starts_with(&err.text));
+    true
+}
+
+#[test]
+fn each_command_line_has_its_output_and_each_failed_write_ends_it(rt: HostRuntime) {
+    for line in lines() {
+        let mut failed = 0usize;
+        for number in 1..200 {
+            if fails(&rt, rt.alloc(), line, number) {
+                failed = failed.saturating_add(1);
+            }
+        }
+        // each line that is printed is one write at least
+        assert!(&rt; failed >= line.1.lines().count() && failed >= 1);
+    }
+}

@@ -1,0 +1,55 @@
+//! Visits, whose visitors may end them by an error of their own.
+
+use super::building::{BYTE, ELSEWHERE, add_defined};
+use std::alloc::Global;
+use std::process::Abort;
+use std::test::Fail;
+use wac_types::{DefinedType, DefinedTypeId, Type, Types, ValueType};
+
+// The index at which a visit was ended.
+#[derive(Debug, Drop)]
+struct Ended(usize);
+
+// Asserts what a visitor is called on that ends the visit at an index, and the index that the visit hands on.
+fn check_visit<R: Abort>(
+    rt: &R,
+    alloc: Global,
+    types: &Types,
+    ty: ValueType,
+    last: usize,
+    wanted: (&[usize], Option<usize>),
+) -> Result<(), Fail> {
+    let ty = Type::Value(ty);
+    if !types.contains(ty) {
+        return Err(Fail::new(ELSEWHERE));
+    }
+    let mut seen = Vec::new(alloc);
+    let mut visitor = |_: &Types, id: DefinedTypeId| -> Result<(), Ended> {
+        let index = id.index();
+        let pushed = seen.push(index);
+        if pushed.is_err() || index == last {
+            return Err(Ended(index));
+        }
+        Ok(())
+    };
+    let ended = match ty.visit_defined_types(types, &mut visitor) {
+        Ok(()) => None,
+        Err(Ended(index)) => Some(index),
+    };
+    assert_eq!(rt; seen.as_slice(), wanted.0);
+    assert_eq!(rt; ended, wanted.1);
+    Ok(())
+}
+
+#[test]
+fn the_error_of_a_visitor_ends_the_visit_and_is_its_answer(rt: HostRuntime) -> Result<(), Fail> {
+    let alloc = rt.alloc();
+    let mut types = Types::new(alloc, 1);
+    let first = ValueType::Defined(add_defined(&mut types, DefinedType::List(BYTE))?);
+    let second = ValueType::Defined(add_defined(&mut types, DefinedType::List(BYTE))?);
+    let items = vec![in alloc; first, BYTE, second, first]?;
+    let tuple = ValueType::Defined(add_defined(&mut types, DefinedType::Tuple(items))?);
+    check_visit(&rt, alloc, &types, tuple, 9, (&[2, 0, 1, 0], None))?;
+    check_visit(&rt, alloc, &types, tuple, 1, (&[2, 0, 1], Some(1)))?;
+    check_visit(&rt, alloc, &types, tuple, 2, (&[2], Some(2)))
+}

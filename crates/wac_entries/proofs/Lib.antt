@@ -1,2 +1,0 @@
-pub mod IdLemmas
-pub mod MapLemmas

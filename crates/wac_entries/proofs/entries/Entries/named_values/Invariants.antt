@@ -1,9 +1,0 @@
-use Rattle.std.proofs.Common.{◌≡◌}
-use Rattle.wac_component.specs.Content.{named}
-use Rattle.wac_component.specs.Key.{AllStand, named_keys, value_keys}
-use Rattle.wac_entries.specs.Maps.{listed}
-use Rattle.wac_entries.specs.Names.{value_type}
-use Rattle.wac_entries.proofs.entries.Entries.named_values.Given as goal
-
-abbrev pub invariant-loop-value : goal.invariant-loop-value
-invariant-loop-value l = (named (λ t. t) l.types.entries ≡ listed (value_type l.self.number) l.yielded) × AllStand l.self (named_keys value_keys (named (λ t. t) l.types.entries))

@@ -1,0 +1,21 @@
+//! The entries of a collection of types, as the lines of a script describe and name them.
+#![tactic(auto)]
+
+mod adding;
+mod contents;
+mod definitions;
+mod error;
+mod lines;
+mod maps;
+mod modules;
+mod names;
+mod words;
+
+pub use adding::{Replacement, add, replace};
+pub use error::{EntryError, EntryName, Sort};
+pub use lines::entry_line;
+pub use names::{
+    find_defined, find_func, find_interface, find_item, find_module, find_resource, find_type,
+    find_value, find_world,
+};
+pub use words::{item_word, type_word, value_word};

@@ -1,0 +1,9 @@
+-- What a checker asks of two items.
+use Rattle.std.specs.Prelude.{◌≡◌}
+use Rattle.wac_component.specs.Collection.{Collection}
+use Rattle.wac_component.specs.Key.{AllStand, item_keys}
+use Rattle.wac_component.specs.declared.items.ItemKind.{ItemKind}
+
+-- they stand in two collections of different numbers
+abbrev pub CanBeAsked : Collection → ItemKind → Collection → ItemKind → Type 0
+CanBeAsked c a d b = AllStand c (item_keys a) × AllStand d (item_keys b) × (c.number ≡ d.number → ⊥)

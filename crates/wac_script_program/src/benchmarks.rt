@@ -1,0 +1,15 @@
+//! Benchmarks of the library: each builds its input, and then measures how long its work takes.
+
+mod benchmark;
+mod building;
+mod error;
+mod instances;
+mod measuring;
+mod name_maps;
+mod running;
+mod tuples;
+mod worlds;
+
+pub use benchmark::Benchmark;
+pub use error::BenchError;
+pub use running::bench;

@@ -1,0 +1,65 @@
+//! The benchmarks.
+
+/// A benchmark. `n` is the size of its input.
+#[derive(Clone, Copy)]
+pub enum Benchmark {
+    /// With an empty cache, whether an instance fits where one of the same type in another collection is
+    /// asked for. They export n functions, each an entry of its own, over one list.
+    Instances,
+    /// The same, with a cache that has the pair.
+    AskedAgain,
+    /// With an empty cache, whether a value of the nth tuple fits where the nth tuple of another
+    /// collection is asked for. The first is a pair of bytes, and each next one a pair of the one before.
+    TupleChain,
+    /// Whether a component fits a target world of the same n imports and n exports, all functions.
+    ValidatePlain,
+    /// The same with instances, whose names have a greater version on their track in the target world.
+    ValidateVersions,
+    /// Puts n names with versions into a new map.
+    Insert,
+    /// Gets the value of each of n names.
+    GetExact,
+    /// Gets the value of each of n names by a name with a greater version on its track.
+    GetTrack,
+}
+
+impl Benchmark {
+    /// The benchmark of a name.
+    pub fn named(name: &str) -> Option<Benchmark> {
+        match name {
+            "1-subtype-instances" => Some(Benchmark::Instances),
+            "1b-asked-again" => Some(Benchmark::AskedAgain),
+            "2-tuple-chain" => Some(Benchmark::TupleChain),
+            "4a-validate-plain" => Some(Benchmark::ValidatePlain),
+            "4b-validate-versions" => Some(Benchmark::ValidateVersions),
+            "5a-namemap-insert" => Some(Benchmark::Insert),
+            "5b-namemap-get-exact" => Some(Benchmark::GetExact),
+            "5c-namemap-get-track" => Some(Benchmark::GetTrack),
+            _ => None,
+        }
+    }
+
+    /// The name of the benchmark.
+    pub fn name(self) -> &'static str {
+        match self {
+            Benchmark::Instances => "1-subtype-instances",
+            Benchmark::AskedAgain => "1b-asked-again",
+            Benchmark::TupleChain => "2-tuple-chain",
+            Benchmark::ValidatePlain => "4a-validate-plain",
+            Benchmark::ValidateVersions => "4b-validate-versions",
+            Benchmark::Insert => "5a-namemap-insert",
+            Benchmark::GetExact => "5b-namemap-get-exact",
+            Benchmark::GetTrack => "5c-namemap-get-track",
+        }
+    }
+
+    /// How many operations one run has at this size.
+    pub fn operations(self, n: u32) -> u64 {
+        match self {
+            Benchmark::AskedAgain | Benchmark::TupleChain => 1,
+            Benchmark::ValidatePlain | Benchmark::ValidateVersions => u64::from(n) * 2,
+            Benchmark::Instances | Benchmark::Insert | Benchmark::GetExact | Benchmark::GetTrack =>
+                u64::from(n),
+        }
+    }
+}

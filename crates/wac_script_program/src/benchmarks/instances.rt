@@ -1,0 +1,133 @@
+//! Two items in two collections, of which one is to fit where the other is asked for.
+
+ghost use Rattle.std.specs.Prelude.{IsTrue};
+ghost use Rattle.wac_script_program.specs.Asking.{CanBeAsked};
+
+use super::building::{add_byte_list, add_func_over, add_instance};
+use super::error::BenchError;
+use super::measuring::Work;
+use indexmap::IndexMap;
+use std::alloc::Global;
+use std::collections::HashSet;
+use wac_types::{ItemKind, SubtypeChecker, Types};
+
+/// An item and its collection.
+#[derive(Drop)]
+pub(crate) struct Side {
+    /// The collection.
+    pub(crate) types: Types,
+    /// The item.
+    pub(crate) item: ItemKind,
+}
+
+// An instance in a collection of this number.
+fn instance_side(alloc: Global, number: u64, n: u32) -> Result<Side, BenchError> {
+    let mut types = Types::new(alloc, number);
+    let list = add_byte_list(&mut types)?;
+    let mut exports = IndexMap::new(alloc);
+    for i in 0..n {
+        let func = add_func_over(alloc, &mut types, &list)?;
+        exports.insert(format!(in alloc; "f{i}")?, func)?;
+    }
+    let item = add_instance(alloc, &mut types, exports)?;
+    Ok(Side { types, item })
+}
+
+// Whether the left item fits where the right one is asked for.
+fn ask(
+    alloc: Global,
+    cache: &mut HashSet<(ItemKind, ItemKind)>,
+    left: &Side,
+    right: &Side,
+) -> Result<(), BenchError>
+    requires { CanBeAsked left.now.types left.now.item right.now.types right.now.item }
+{
+    let mut checker = SubtypeChecker::new(cache);
+    match checker.is_subtype(alloc, left.item, &left.types, right.item, &right.types) {
+        Ok(()) => Ok(()),
+        Err(_) => Err(BenchError::Answer),
+    }
+}
+
+// Whether a checker may be asked about the two.
+fn can_be_asked(left: &Side, right: &Side) -> bool
+    ensures { IsTrue result → CanBeAsked left.now.types left.now.item right.now.types right.now.item }
+{
+    left.types.number() != right.types.number()
+        && left.types.contains_item(left.item)
+        && right.types.contains_item(right.item)
+}
+
+// Asks so many times, with this cache each time.
+fn ask_again(
+    alloc: Global,
+    cache: &mut HashSet<(ItemKind, ItemKind)>,
+    left: &Side,
+    right: &Side,
+    times: u64,
+) -> Result<(), BenchError> {
+    if !can_be_asked(left, right) {
+        return Err(BenchError::Input);
+    }
+    for _ in 0..times {
+        ask(alloc, cache, left, right)?;
+    }
+    Ok(())
+}
+
+/// Two items, about which a checker is asked with an empty cache each time.
+#[derive(Drop)]
+pub(crate) struct AskAfresh {
+    pub(crate) left: Side,
+    pub(crate) right: Side,
+}
+
+impl AskAfresh {
+    /// Two instances of the same type, with n functions.
+    pub(crate) fn instances(alloc: Global, n: u32) -> Result<AskAfresh, BenchError> {
+        Ok(AskAfresh {
+            left: instance_side(alloc, 1, n)?,
+            right: instance_side(alloc, 2, n)?,
+        })
+    }
+}
+
+impl Work for AskAfresh {
+    fn run(&mut self, alloc: Global, times: u64) -> Result<(), BenchError> {
+        if !can_be_asked(&self.left, &self.right) {
+            return Err(BenchError::Input);
+        }
+        for _ in 0..times {
+            let mut cache = HashSet::new(alloc);
+            ask(alloc, &mut cache, &self.left, &self.right)?;
+        }
+        Ok(())
+    }
+}
+
+/// Two items, about which a checker is asked with one cache, which has them.
+#[derive(Drop)]
+pub(crate) struct AskAgain {
+    left: Side,
+    right: Side,
+    cache: HashSet<(ItemKind, ItemKind)>,
+}
+
+impl AskAgain {
+    /// Two instances of the same type, with n functions.
+    pub(crate) fn instances(alloc: Global, n: u32) -> Result<AskAgain, BenchError> {
+        let mut work = AskAgain {
+            left: instance_side(alloc, 1, n)?,
+            right: instance_side(alloc, 2, n)?,
+            cache: HashSet::new(alloc),
+        };
+        work.run(alloc, 1)?;
+        Ok(work)
+    }
+}
+
+impl Work for AskAgain {
+    fn run(&mut self, alloc: Global, times: u64) -> Result<(), BenchError> {
+        ask_again(alloc, &mut self.cache, &self.left, &self.right, times)
+    }
+}

@@ -1,0 +1,31 @@
+//! What the program `wac-replay` does with its words: it answers a script, checks scripts whose questions
+//! have their answers beside them, and measures how long some work takes.
+//!
+//! # Questions with their answers
+//!
+//! In a script that is checked, each line of the answer stands after its query, after `= `, without the
+//! number of the query:
+//!
+//! ```text
+//! # a component may import less than the target world has
+//! coll 1
+//! func sync -
+//! world - m:log=F:fn0
+//! world -
+//! validate 1 w0 w1
+//! = ok
+//! ```
+#![tactic(auto)]
+
+mod benchmarks;
+mod check;
+mod command_line;
+mod failure;
+mod replaying;
+mod status;
+
+pub use benchmarks::{BenchError, Benchmark, bench};
+pub use check::{check_files, check_script};
+pub use command_line::run;
+pub use replaying::replay;
+pub use status::{DONE, FAILED, MALFORMED, usage};

@@ -1,0 +1,34 @@
+//! What the program answers to its caller.
+
+use std::io;
+use std::io::Write;
+
+/// The status after a script that was read to its end, after scripts whose answers are right, and after a
+/// benchmark.
+pub const DONE: u8 = 0;
+
+/// The status where an answer differs from the one beside its question, where there was no memory, and
+/// where a read or a write failed.
+pub const FAILED: u8 = 1;
+
+/// The status after a line that is malformed, or words that are no command.
+pub const MALFORMED: u8 = 2;
+
+/// Prints the usage line, and answers the status.
+pub fn usage<E: Write>(err: &mut E) -> u8 {
+    status_of(
+        MALFORMED,
+        writeln!(
+            err,
+            "usage: wac-replay < SCRIPT | wac-replay check FILE.. | wac-replay bench NAME N"
+        ),
+    )
+}
+
+/// This status, or `FAILED` where something was not written.
+pub(crate) fn status_of(status: u8, written: io::Result<()>) -> u8 {
+    match written {
+        Ok(()) => status,
+        Err(_) => FAILED,
+    }
+}

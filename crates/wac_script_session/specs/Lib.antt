@@ -1,0 +1,11 @@
+pub mod State
+pub mod Truth
+pub mod Plain
+pub mod OneLine
+pub mod NameMaps
+pub mod Targets
+pub mod Visits
+pub mod Errors
+pub mod Packages
+pub mod Answers
+pub mod Runs

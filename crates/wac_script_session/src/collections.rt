@@ -1,0 +1,121 @@
+//! Collections by their numbers.
+
+ghost use Rattle.std.specs.Prelude.{◌≡◌, [], None, Some, IfOk, IfErr, OnOk, OnErr};
+ghost use Rattle.wac_script_session.specs.Errors.{IsAbsent};
+ghost use Rattle.wac_script_session.specs.State.{collection_at, AreSame, AreExtended, IsBegun, IsAdded, IsReplaced};
+ghost use Rattle.wac_script_session.specs.declared.error.RunError.TheVariants.{Memory, NoCollection};
+
+use super::error::RunError;
+use super::growth::{Growth, grow};
+use indexmap::IndexMap;
+use std::alloc::Global;
+use std::marker::Model;
+use wac_component::Types;
+use wac_script_entries::{Replacement, add, replace};
+use wac_script_syntax::Content;
+
+/// Collections, each under its own number.
+#[derive(Drop)]
+pub(crate) struct Collections {
+    by_number: IndexMap<u64, Types>,
+}
+
+impl Model for Collections {
+    ghost use Rattle.wac_script_session.specs.Errors.{IsAbsent};
+    ghost use Rattle.wac_script_session.specs.State.{Numbered, AreNumbered};
+
+    ghost Value = { Numbered };
+
+    ghost view = { λ a. a.by_number.entries };
+
+    ghost invariant = { λ a. AreNumbered a.by_number.entries };
+}
+
+impl Collections {
+    /// No collections.
+    pub(crate) fn new(alloc: Global) -> Collections
+        ensures { result ≡ [] }
+    {
+        Collections {
+            by_number: IndexMap::new(alloc),
+        }
+    }
+
+    /// The collection of this number. `NoCollection` comes exactly where there is none.
+    pub(crate) fn get(&self, number: u64) -> Result<&Types, RunError>
+        ensures found { IfOk result (λ types. collection_at self.now number ≡ Some types.now) }
+        ensures numbered { IfOk result (λ types. types.now.number ≡ number) }
+        ensures none { IfErr result (λ e. (e ≡ NoCollection number) × (collection_at self.now number ≡ None)) }
+    {
+        match self.by_number.get(&number) {
+            Some(types) => Ok(types),
+            None => Err(RunError::NoCollection(number)),
+        }
+    }
+
+    /// Begins an empty collection of this number, unless one is there.
+    pub(crate) fn begin(&mut self, alloc: Global, number: u64) -> Result<(), RunError>
+        ensures begun { OnOk result (IsBegun self.old number self.new) }
+        ensures err { OnErr result (AreSame self.old self.new) }
+        ensures memory { IfErr result (λ e. e ≡ Memory) }
+    {
+        if self.by_number.contains_key(&number) {
+            return Ok(());
+        }
+        self.by_number.insert(number, Types::new(alloc, number))?;
+        Ok(())
+    }
+
+    /// Adds an entry to the collection of this number.
+    pub(crate) fn add(
+        &mut self,
+        alloc: Global,
+        number: u64,
+        content: Content,
+    ) -> Result<(), RunError>
+        ensures added { OnOk result (IsAdded self.old number content self.new) }
+        ensures grows { AreExtended self.old self.new }
+        ensures err { OnErr result (AreSame self.old self.new) }
+        ensures absent { IfErr result (IsAbsent self.old) }
+    {
+        let Some(types) = self.by_number.get_mut(&number) else {
+            return Err(RunError::NoCollection(number));
+        };
+        add(alloc, types, content)?;
+        Ok(())
+    }
+
+    /// Replaces an entry of the collection of this number, unless that closes a cycle.
+    pub(crate) fn replace(
+        &mut self,
+        alloc: Global,
+        number: u64,
+        index: usize,
+        content: Content,
+    ) -> Result<Replacement, RunError>
+        ensures replaced { IfOk result (λ r. IsReplaced self.old number index content r self.new) }
+        ensures err { OnErr result (AreSame self.old self.new) }
+        ensures absent { IfErr result (IsAbsent self.old) }
+    {
+        let Some(types) = self.by_number.get_mut(&number) else {
+            return Err(RunError::NoCollection(number));
+        };
+        let replacement = replace(alloc, types, index, content)?;
+        Ok(replacement)
+    }
+    /// Adds to the collection of this number what a query makes, and gives the answer.
+    pub(crate) fn grow(
+        &mut self,
+        alloc: Global,
+        number: u64,
+        growth: Growth,
+    ) -> Result<String, RunError>
+        ensures grows { AreExtended self.old self.new }
+        ensures absent { IfErr result (IsAbsent self.old) }
+    {
+        let Some(types) = self.by_number.get_mut(&number) else {
+            return Err(RunError::NoCollection(number));
+        };
+        grow(alloc, types, growth)
+    }
+}

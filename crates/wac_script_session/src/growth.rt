@@ -1,0 +1,145 @@
+//! Answers that add entries to a collection.
+
+ghost use Rattle.std.specs.Prelude.{IfErr, IfSome};
+ghost use Rattle.wac_component.specs.Growth.{Extends};
+ghost use Rattle.wac_component.specs.Key.{AllStand, item_keys};
+ghost use Rattle.wac_script_session.specs.Errors.{IsMissingIn};
+
+use super::error::RunError;
+use std::alloc::{AllocError, Global};
+use wac_component::{ItemKind, Types};
+use wac_item_text::item_text;
+use wac_merge::{join, meet};
+use wac_package::Package;
+use wac_script_entries::{find_item, find_world, item_word};
+use wac_script_syntax::{Item, name_word};
+
+/// What is made of entries of a collection.
+#[derive(Drop)]
+pub(crate) enum Growth {
+    /// The meet of two items.
+    Meet(Item, Item),
+    /// The join of two items.
+    Join(Item, Item),
+    /// A package of a world.
+    Package(usize),
+}
+
+/// Adds what is to be made to the collection, and gives the answer.
+pub(crate) fn grow(alloc: Global, types: &mut Types, growth: Growth) -> Result<String, RunError>
+    ensures grows { Extends types.old types.new }
+    ensures missing { IfErr result (IsMissingIn types.old) }
+{
+    match growth {
+        Growth::Meet(left, right) => meet_answer(alloc, types, left, right),
+        Growth::Join(left, right) => join_answer(alloc, types, left, right),
+        Growth::Package(world) => definitions_answer(alloc, types, world),
+    }
+}
+
+// The number of entries of a collection.
+fn entry_count(types: &Types) -> usize {
+    let values = types
+        .defined_types()
+        .len()
+        .saturating_add(types.resources().len());
+    let functions = types
+        .func_types()
+        .len()
+        .saturating_add(types.modules().len());
+    let composites = types
+        .interfaces()
+        .len()
+        .saturating_add(types.worlds().len());
+    values.saturating_add(functions).saturating_add(composites)
+}
+
+// The meet of two items: its word, its canonical tree, and how many entries were added.
+fn meet_answer(
+    alloc: Global,
+    types: &mut Types,
+    left: Item,
+    right: Item,
+) -> Result<String, RunError>
+    ensures grows { Extends types.old types.new }
+    ensures missing { IfErr result (IsMissingIn types.old) }
+{
+    let before = entry_count(types);
+    match (find_item(types, left), find_item(types, right)) {
+        (Ok(a), Ok(b)) => match meet(alloc, types, a, b) {
+            Ok(bound) => Ok(bound_text(alloc, types, &bound, before)?),
+            Err(error) => Err(RunError::from(error)),
+        },
+        (Err(error), _) | (_, Err(error)) => Err(RunError::from(error)),
+    }
+}
+
+// The join of two items, as `meet_answer` gives the meet.
+fn join_answer(
+    alloc: Global,
+    types: &mut Types,
+    left: Item,
+    right: Item,
+) -> Result<String, RunError>
+    ensures grows { Extends types.old types.new }
+    ensures missing { IfErr result (IsMissingIn types.old) }
+{
+    let before = entry_count(types);
+    match (find_item(types, left), find_item(types, right)) {
+        (Ok(a), Ok(b)) => match join(alloc, types, a, b) {
+            Ok(bound) => Ok(bound_text(alloc, types, &bound, before)?),
+            Err(error) => Err(RunError::from(error)),
+        },
+        (Err(error), _) | (_, Err(error)) => Err(RunError::from(error)),
+    }
+}
+
+// A bound, where there is one, and how many entries there are more than before.
+fn bound_text(
+    alloc: Global,
+    types: &Types,
+    bound: &Option<ItemKind>,
+    before: usize,
+) -> Result<String, AllocError>
+    requires { IfSome bound.now (λ item. AllStand types.now (item_keys item)) }
+{
+    let added = entry_count(types).saturating_sub(before);
+    match bound {
+        Some(item) => item_line(alloc, types, item, added),
+        None => format!(in alloc; "none added {added}"),
+    }
+}
+
+fn item_line(
+    alloc: Global,
+    types: &Types,
+    item: &ItemKind,
+    added: usize,
+) -> Result<String, AllocError>
+    requires { AllStand types.now (item_keys item.now) }
+{
+    let word = item_word(alloc, *item)?;
+    let tree = item_text(alloc, types, *item)?;
+    format!(in alloc; "{word} {tree} added {added}")
+}
+
+// A package that is made of a world: the interface that is added, and the definitions in order.
+fn definitions_answer(alloc: Global, types: &mut Types, world: usize) -> Result<String, RunError>
+    ensures grows { Extends types.old types.new }
+    ensures missing { IfErr result (IsMissingIn types.old) }
+{
+    let world = find_world(types, world)?;
+    let package = Package::from_world(alloc, "package", None, Vec::new(alloc), types, world)?;
+    Ok(definitions_text(alloc, &package)?)
+}
+
+fn definitions_text(alloc: Global, package: &Package) -> Result<String, AllocError> {
+    let interface = package.instance_type();
+    let mut text = format!(in alloc; "i{interface}")?;
+    for (name, item) in package.definitions() {
+        let name = name_word(alloc, name)?;
+        let item = item_word(alloc, *item)?;
+        text.push_str(&format!(in alloc; " {name}={item}")?)?;
+    }
+    Ok(text)
+}

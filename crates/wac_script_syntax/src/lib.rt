@@ -1,0 +1,63 @@
+//! Reads the lines of a script, one command each, that builds collections of types and asks questions.
+//!
+//! [`read_line`] reads a line and looks at nothing else: whether an index names an entry that stands, and
+//! what a command answers, is the caller's to say.
+//!
+//! # Lines
+//!
+//! A line is a command and its words, with a single space between two words; one space may end it. Two
+//! spaces would stand around an empty word, which is malformed. An empty line, and one that begins with
+//! `#`, holds no command. A name that stands twice in one map is malformed. Members may stand in any order.
+//!
+//! | Word | Stands for |
+//! |---|---|
+//! | `NAME` | a text. Letters, digits and `:/@.+_-[]#*` stand for themselves, every other byte of its UTF-8 is `%` and two upper-case hexadecimal digits; the empty text is `%`, the text `-` is `%2D`. No text is written in another way |
+//! | `-` | none, where `\|-` stands below |
+//! | `COLL` `N` `SIZE` `K` | a number in decimal digits |
+//! | `dN` `rN` `fnN` `iN` `wN` `mN` | the defined type, resource, function, interface, world or core module at index N, from 0 |
+//! | `VALUE` | a value type: `u8 s8 u16 s16 u32 s32 u64 s64 f32 f64 char bool string error-context`, `own:rN`, `borrow:rN`, `dN` |
+//! | `TYPE` | `rN`, `fnN`, `iN`, `wN`, `mN` or `VALUE` |
+//! | `ITEM` | `T:TYPE`, `F:fnN` (a function), `I:iN` (an instance), `C:wN` (a component), `M:mN` (a core module), `V:VALUE` |
+//! | `CORE` | a core type: `i32 i64 f32 f64 v128`, or `REF`: `null.HEAP` or `ref.HEAP`, where `HEAP` is one of `func extern any none noextern nofunc eq struct array i31 exn noexn cont nocont` or the index of a type |
+//! | `EXTERN` | `func:CORES:RESULTS` and `tag:CORES:RESULTS`, with commas between core types; `table:REF:INITIAL:MAXIMUM\|-:TABLE64:SHARED`; `mem:INITIAL:MAXIMUM\|-:MEMORY64:SHARED:PAGE_SIZE_LOG2\|-`; `global:CORE:MUTABLE:SHARED`. Flags are `0` or `1` |
+//!
+//! | Command | Asks for |
+//! |---|---|
+//! | `script NAME` | forgets everything |
+//! | `coll N` | begins collection N, or goes back to it |
+//! | `def KIND ..` | adds a defined type: `tuple VALUE*`, `list VALUE`, `option VALUE`, `alias VALUE`, `fixed VALUE SIZE`, `result VALUE\|- VALUE\|-`, `stream VALUE\|-`, `future VALUE\|-`, `variant (NAME=VALUE\|-)*`, `record (NAME=VALUE)*`, `flags NAME*`, `enum NAME*` |
+//! | `res NAME [rN iN\|-]` | adds a resource, with what it is an alias of and that alias's owner |
+//! | `func sync\|async VALUE\|- (NAME=VALUE)*` | adds a function: its result and its parameters |
+//! | `iface NAME\|- MEMBER*` | adds an interface: its identifier, uses `u:NAME=iN[=NAME]` (with the name that the type has there) and exports `e:NAME=ITEM` |
+//! | `world NAME\|- MEMBER*` | adds a world: also imports `m:NAME=ITEM` |
+//! | `module MEMBER*` | adds a core module: imports `m:NAME,NAME=EXTERN` and exports `e:NAME=EXTERN` |
+//! | `cache keep`, `cache drop` | shares one cache among questions, or gives each an empty one |
+//! | a query | an answer: the variants of [`Query`] |
+#![tactic(auto)]
+
+mod commands;
+mod contents;
+mod definitions;
+mod error;
+mod externs;
+mod interfaces;
+mod maps;
+mod modules;
+mod name_maps;
+mod names;
+mod numbers;
+mod queries;
+mod query_lines;
+mod values;
+
+pub use commands::{Command, read_line};
+pub use contents::{Alias, Content, Function, Resource};
+pub use definitions::Definition;
+pub use error::ReadError;
+pub use interfaces::{Interface, UsedType, World};
+pub use maps::Named;
+pub use modules::{CoreImport, Module};
+pub use name_maps::{NameKeys, NameMapOperation, NameMapScript};
+pub use names::name_word;
+pub use queries::{ItemIn, PackageName, Query, Resolvable, Variance};
+pub use values::{EntryWord, Item, TypeWord, Value};

@@ -1,3 +1,0 @@
-pub use Rattle.wac_types.specs.Content
-pub use Rattle.wac_types.specs.Key
-pub mod Asking

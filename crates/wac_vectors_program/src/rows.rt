@@ -1,0 +1,66 @@
+//! The built-in rows: questions whether one item fits where another is asked for.
+
+use super::sides::{Side, add_side};
+use std::alloc::{AllocError, Global};
+use std::collections::HashSet;
+use std::io;
+use std::io::Write;
+use wac_checker::SubtypeChecker;
+use wac_component::Types;
+use wac_mismatch::SubtypeError;
+use wac_model::PrimitiveType;
+
+// Which item is asked about, and which is asked for.
+static ROWS: [(Side, Side); 14] = [
+    (
+        Side::Value(PrimitiveType::U8),
+        Side::Value(PrimitiveType::U8),
+    ),
+    (
+        Side::Value(PrimitiveType::U8),
+        Side::Value(PrimitiveType::S8),
+    ),
+    (Side::List(PrimitiveType::U8), Side::List(PrimitiveType::U8)),
+    (Side::Stream(None), Side::Stream(Some(PrimitiveType::U8))),
+    (Side::Func(Some("a")), Side::Func(Some("b"))),
+    (Side::FuncGiving(PrimitiveType::U8), Side::Func(None)),
+    (Side::Resource("file"), Side::Resource("dir")),
+    (
+        Side::Alias(PrimitiveType::U8),
+        Side::Type(PrimitiveType::U8),
+    ),
+    (Side::Instance(&["f", "g"]), Side::Instance(&["f"])),
+    (Side::Instance(&["f"]), Side::Instance(&["f", "g"])),
+    (Side::Component(&["x"]), Side::Component(&[])),
+    (Side::Module(2, Some(5)), Side::Module(1, None)),
+    (Side::Module(1, None), Side::Module(2, Some(5))),
+    (Side::Value(PrimitiveType::U8), Side::Func(None)),
+];
+
+/// Prints each row's number and answer: `yes`, or `no:` and the outermost text of the error.
+pub fn print_rows<W: Write>(alloc: Global, out: &mut W) -> io::Result<()> {
+    for (i, (left, right)) in ROWS.iter().enumerate() {
+        print_row(alloc, i + 1, *left, *right, out)?;
+    }
+    Ok(())
+}
+
+// Asks in a covariant check with an empty cache, of an item of collection 1 and one of collection 2.
+fn print_row<W: Write>(
+    alloc: Global,
+    number: usize,
+    left: Side,
+    right: Side,
+    out: &mut W,
+) -> io::Result<()> {
+    let mut at = Types::new(alloc, 1);
+    let mut bt = Types::new(alloc, 2);
+    let a = add_side(alloc, &mut at, left)?;
+    let b = add_side(alloc, &mut bt, right)?;
+    let mut cache = HashSet::new(alloc);
+    match SubtypeChecker::new(&mut cache).is_subtype(alloc, a, &at, b, &bt) {
+        Ok(()) => writeln!(out, "{number} yes"),
+        Err(SubtypeError::Memory) => Err(io::Error::from(AllocError)),
+        Err(error) => writeln!(out, "{number} no: {error}"),
+    }
+}
