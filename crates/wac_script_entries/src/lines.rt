@@ -1,8 +1,5 @@
 //! The lines of a script that build the entries of a collection.
 
-ghost use Rattle.std.specs.Prelude.{IfErr};
-ghost use Rattle.wac_script_entries.specs.Names.{IsMissing};
-
 use super::error::EntryError;
 use super::names::{
     find_defined, find_func, find_interface, find_module, find_resource, find_world,
@@ -19,9 +16,7 @@ use wac_script_syntax::{EntryWord, name_word};
 
 /// The line that builds an entry, with its names in their order. `NoEntry`, with its name, comes exactly
 /// where there is none.
-pub fn entry_line(alloc: Global, types: &Types, entry: EntryWord) -> Result<String, EntryError>
-    ensures { IfErr result (IsMissing types.now) }
-{
+pub fn entry_line(alloc: Global, types: &Types, entry: EntryWord) -> Result<String, EntryError> {
     let line = match entry {
         EntryWord::Defined(index) => definition_line(alloc, &types[find_defined(types, index)?])?,
         EntryWord::Resource(index) => resource_line(alloc, &types[find_resource(types, index)?])?,

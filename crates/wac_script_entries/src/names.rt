@@ -1,10 +1,7 @@
 //! What words name in a collection: entries by their indices, value types, types and items.
 
-ghost use Rattle.std.specs.Prelude.{◌≡◌, IfOk, IfErr, IsErr};
+ghost use Rattle.std.specs.Prelude.{IfOk};
 ghost use Rattle.wac_component.specs.Key.{Stands, AllStand, defined_key, resource_key, func_key, interface_key, world_key, module_key, value_keys, type_keys, item_keys};
-ghost use Rattle.wac_script_entries.specs.Names.{id_at, value_type, type_at, item_kind, IsMissing};
-ghost use Rattle.wac_script_entries.specs.declared.error.EntryError.TheVariants.{NoEntry};
-ghost use Rattle.wac_script_entries.specs.declared.error.Sort.TheVariants as sort;
 
 use super::error::{EntryError, EntryName, Sort};
 use wac_component::{
@@ -13,19 +10,13 @@ use wac_component::{
 };
 use wac_script_syntax::{Item, TypeWord, Value};
 
-fn missing(sort: Sort, index: usize) -> EntryError
-    ensures { result ≡ NoEntry (record { sort = sort; index = index }) }
-{
+fn missing(sort: Sort, index: usize) -> EntryError {
     EntryError::NoEntry(EntryName { sort, index })
 }
 
 /// The defined type at an index. `NoEntry`, with its name, comes exactly where there is none.
 pub fn find_defined(types: &Types, index: usize) -> Result<DefinedTypeId, EntryError>
-    ensures id { IfOk result (λ id. id ≡ id_at types.now.number index) }
-    ensures standing { IfOk result (λ id. Stands types.now (defined_key id)) }
-    ensures refused { IsErr result → ¬ Stands types.now (defined_key (id_at types.now.number index)) }
-    ensures missing { IfErr result (IsMissing types.now) }
-    ensures error { IfErr result (λ e. e ≡ NoEntry (record { sort = sort.DefinedType; index = index })) }
+    ensures { IfOk result (λ id. Stands types.now (defined_key id)) }
 {
     match types.defined_type_at(index) {
         Some(id) => Ok(id),
@@ -35,11 +26,7 @@ pub fn find_defined(types: &Types, index: usize) -> Result<DefinedTypeId, EntryE
 
 /// The resource at an index. `NoEntry`, with its name, comes exactly where there is none.
 pub fn find_resource(types: &Types, index: usize) -> Result<ResourceId, EntryError>
-    ensures id { IfOk result (λ id. id ≡ id_at types.now.number index) }
-    ensures standing { IfOk result (λ id. Stands types.now (resource_key id)) }
-    ensures refused { IsErr result → ¬ Stands types.now (resource_key (id_at types.now.number index)) }
-    ensures missing { IfErr result (IsMissing types.now) }
-    ensures error { IfErr result (λ e. e ≡ NoEntry (record { sort = sort.Resource; index = index })) }
+    ensures { IfOk result (λ id. Stands types.now (resource_key id)) }
 {
     match types.resource_at(index) {
         Some(id) => Ok(id),
@@ -49,11 +36,7 @@ pub fn find_resource(types: &Types, index: usize) -> Result<ResourceId, EntryErr
 
 /// The function type at an index. `NoEntry`, with its name, comes exactly where there is none.
 pub fn find_func(types: &Types, index: usize) -> Result<FuncTypeId, EntryError>
-    ensures id { IfOk result (λ id. id ≡ id_at types.now.number index) }
-    ensures standing { IfOk result (λ id. Stands types.now (func_key id)) }
-    ensures refused { IsErr result → ¬ Stands types.now (func_key (id_at types.now.number index)) }
-    ensures missing { IfErr result (IsMissing types.now) }
-    ensures error { IfErr result (λ e. e ≡ NoEntry (record { sort = sort.Func; index = index })) }
+    ensures { IfOk result (λ id. Stands types.now (func_key id)) }
 {
     match types.func_type_at(index) {
         Some(id) => Ok(id),
@@ -63,11 +46,7 @@ pub fn find_func(types: &Types, index: usize) -> Result<FuncTypeId, EntryError>
 
 /// The interface at an index. `NoEntry`, with its name, comes exactly where there is none.
 pub fn find_interface(types: &Types, index: usize) -> Result<InterfaceId, EntryError>
-    ensures id { IfOk result (λ id. id ≡ id_at types.now.number index) }
-    ensures standing { IfOk result (λ id. Stands types.now (interface_key id)) }
-    ensures refused { IsErr result → ¬ Stands types.now (interface_key (id_at types.now.number index)) }
-    ensures missing { IfErr result (IsMissing types.now) }
-    ensures error { IfErr result (λ e. e ≡ NoEntry (record { sort = sort.Interface; index = index })) }
+    ensures { IfOk result (λ id. Stands types.now (interface_key id)) }
 {
     match types.interface_at(index) {
         Some(id) => Ok(id),
@@ -77,11 +56,7 @@ pub fn find_interface(types: &Types, index: usize) -> Result<InterfaceId, EntryE
 
 /// The world at an index. `NoEntry`, with its name, comes exactly where there is none.
 pub fn find_world(types: &Types, index: usize) -> Result<WorldId, EntryError>
-    ensures id { IfOk result (λ id. id ≡ id_at types.now.number index) }
-    ensures standing { IfOk result (λ id. Stands types.now (world_key id)) }
-    ensures refused { IsErr result → ¬ Stands types.now (world_key (id_at types.now.number index)) }
-    ensures missing { IfErr result (IsMissing types.now) }
-    ensures error { IfErr result (λ e. e ≡ NoEntry (record { sort = sort.World; index = index })) }
+    ensures { IfOk result (λ id. Stands types.now (world_key id)) }
 {
     match types.world_at(index) {
         Some(id) => Ok(id),
@@ -91,11 +66,7 @@ pub fn find_world(types: &Types, index: usize) -> Result<WorldId, EntryError>
 
 /// The core module type at an index. `NoEntry`, with its name, comes exactly where there is none.
 pub fn find_module(types: &Types, index: usize) -> Result<ModuleTypeId, EntryError>
-    ensures id { IfOk result (λ id. id ≡ id_at types.now.number index) }
-    ensures standing { IfOk result (λ id. Stands types.now (module_key id)) }
-    ensures refused { IsErr result → ¬ Stands types.now (module_key (id_at types.now.number index)) }
-    ensures missing { IfErr result (IsMissing types.now) }
-    ensures error { IfErr result (λ e. e ≡ NoEntry (record { sort = sort.Module; index = index })) }
+    ensures { IfOk result (λ id. Stands types.now (module_key id)) }
 {
     match types.module_type_at(index) {
         Some(id) => Ok(id),
@@ -105,10 +76,7 @@ pub fn find_module(types: &Types, index: usize) -> Result<ModuleTypeId, EntryErr
 
 /// The value type that a word names. `NoEntry` comes exactly where its entry isn't there.
 pub fn find_value(types: &Types, value: Value) -> Result<ValueType, EntryError>
-    ensures named { IfOk result (λ ty. ty ≡ value_type types.now.number value) }
-    ensures standing { IfOk result (λ ty. AllStand types.now (value_keys ty)) }
-    ensures refused { IsErr result → ¬ AllStand types.now (value_keys (value_type types.now.number value)) }
-    ensures missing { IfErr result (IsMissing types.now) }
+    ensures { IfOk result (λ ty. AllStand types.now (value_keys ty)) }
 {
     match value {
         Value::Primitive(primitive) => Ok(ValueType::Primitive(primitive)),
@@ -120,10 +88,7 @@ pub fn find_value(types: &Types, value: Value) -> Result<ValueType, EntryError>
 
 /// The type that a word names. `NoEntry` comes exactly where its entry isn't there.
 pub fn find_type(types: &Types, ty: TypeWord) -> Result<Type, EntryError>
-    ensures named { IfOk result (λ found. found ≡ type_at types.now.number ty) }
-    ensures standing { IfOk result (λ found. AllStand types.now (type_keys found)) }
-    ensures refused { IsErr result → ¬ AllStand types.now (type_keys (type_at types.now.number ty)) }
-    ensures missing { IfErr result (IsMissing types.now) }
+    ensures { IfOk result (λ found. AllStand types.now (type_keys found)) }
 {
     match ty {
         TypeWord::Resource(index) => Ok(Type::Resource(find_resource(types, index)?)),
@@ -137,10 +102,7 @@ pub fn find_type(types: &Types, ty: TypeWord) -> Result<Type, EntryError>
 
 /// The item that a word names. `NoEntry` comes exactly where its entry isn't there.
 pub fn find_item(types: &Types, item: Item) -> Result<ItemKind, EntryError>
-    ensures named { IfOk result (λ found. found ≡ item_kind types.now.number item) }
-    ensures standing { IfOk result (λ found. AllStand types.now (item_keys found)) }
-    ensures refused { IsErr result → ¬ AllStand types.now (item_keys (item_kind types.now.number item)) }
-    ensures missing { IfErr result (IsMissing types.now) }
+    ensures { IfOk result (λ found. AllStand types.now (item_keys found)) }
 {
     match item {
         Item::Type(ty) => Ok(ItemKind::Type(find_type(types, ty)?)),

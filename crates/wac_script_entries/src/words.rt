@@ -1,15 +1,10 @@
 //! Value types, types and items, as words name them.
 
-ghost use Rattle.std.specs.Prelude.{◌≡◌, IfOk, string_bytes};
-ghost use Rattle.wac_script_entries.specs.Words.{value_text, type_text, item_text};
-
 use std::alloc::{AllocError, Global};
 use wac_component::{ItemKind, Type, ValueType};
 
 /// The word that names a value type, as `u8`, `own:r0` or `d0`.
-pub fn value_word(alloc: Global, value: ValueType) -> Result<String, AllocError>
-    ensures { IfOk result (λ word. string_bytes word ≡ value_text value) }
-{
+pub fn value_word(alloc: Global, value: ValueType) -> Result<String, AllocError> {
     match value {
         ValueType::Primitive(primitive) => String::from_str(alloc, primitive.desc()),
         ValueType::Own(id) => format!(in alloc; "own:r{id}"),
@@ -19,9 +14,7 @@ pub fn value_word(alloc: Global, value: ValueType) -> Result<String, AllocError>
 }
 
 /// The word that names a type, as `fn0` or `u8`.
-pub fn type_word(alloc: Global, ty: Type) -> Result<String, AllocError>
-    ensures { IfOk result (λ word. string_bytes word ≡ type_text ty) }
-{
+pub fn type_word(alloc: Global, ty: Type) -> Result<String, AllocError> {
     match ty {
         Type::Resource(id) => format!(in alloc; "r{id}"),
         Type::Func(id) => format!(in alloc; "fn{id}"),
@@ -33,9 +26,7 @@ pub fn type_word(alloc: Global, ty: Type) -> Result<String, AllocError>
 }
 
 /// The word that names an item, as `T:r0`, `F:fn0`, `I:i0`, `C:w0`, `M:m0` or `V:u8`.
-pub fn item_word(alloc: Global, item: ItemKind) -> Result<String, AllocError>
-    ensures { IfOk result (λ word. string_bytes word ≡ item_text item) }
-{
+pub fn item_word(alloc: Global, item: ItemKind) -> Result<String, AllocError> {
     match item {
         ItemKind::Type(ty) => {
             let word = type_word(alloc, ty)?;

@@ -1,11 +1,2 @@
-pub mod State
-pub mod Truth
-pub mod Plain
-pub mod OneLine
-pub mod NameMaps
-pub mod Targets
-pub mod Visits
-pub mod Errors
-pub mod Packages
-pub mod Answers
-pub mod Runs
+pub mod Collections
+pub mod Queries

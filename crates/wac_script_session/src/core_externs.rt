@@ -1,9 +1,5 @@
 //! Answers about core externs.
 
-ghost use Rattle.std.specs.Prelude.{◌≡◌, IfOk, string_bytes};
-ghost use Rattle.wac_core.specs.Content.{core_tree};
-ghost use Rattle.wac_script_session.specs.Plain.{core_text, IsRefusalText, IsCoreSubtypeText};
-
 use std::alloc::{AllocError, Global};
 use std::collections::HashSet;
 use wac_checker::SubtypeChecker;
@@ -16,9 +12,7 @@ pub(crate) fn core_subtype_answer(
     alloc: Global,
     left: &CoreExtern,
     right: &CoreExtern,
-) -> Result<String, AllocError>
-    ensures { IfOk result (λ s. IsCoreSubtypeText (core_tree left.now) (core_tree right.now) (string_bytes s)) }
-{
+) -> Result<String, AllocError> {
     let mut cache = HashSet::new(alloc);
     let checker = SubtypeChecker::new(&mut cache);
     match checker.core_subtype(alloc, left, right) {
@@ -28,9 +22,7 @@ pub(crate) fn core_subtype_answer(
 }
 
 // The answer where a check without frames says no.
-fn refusal_text(alloc: Global, error: &SubtypeError) -> Result<String, AllocError>
-    ensures { IfOk result (λ s. IsRefusalText error.now (string_bytes s)) }
-{
+fn refusal_text(alloc: Global, error: &SubtypeError) -> Result<String, AllocError> {
     match error.fault() {
         Some(fault) => format!(in alloc; "no: {fault}"),
         None => Err(AllocError),
@@ -39,9 +31,7 @@ fn refusal_text(alloc: Global, error: &SubtypeError) -> Result<String, AllocErro
 
 /// The answer to `core`: the sort of the extern, and the text of its function type, its element type or
 /// the type of its value. `Err` is want of memory.
-pub(crate) fn core_answer(alloc: Global, of: &CoreExtern) -> Result<String, AllocError>
-    ensures { IfOk result (λ s. string_bytes s ≡ core_text (core_tree of.now)) }
-{
+pub(crate) fn core_answer(alloc: Global, of: &CoreExtern) -> Result<String, AllocError> {
     match of {
         CoreExtern::Func(ty) => format!(in alloc; "{of}: {ty}"),
         CoreExtern::Table { element_type, .. } => format!(in alloc; "{of}: {element_type}"),

@@ -1,8 +1,5 @@
 //! Why a command was not carried out.
 
-ghost use Rattle.std.specs.Prelude.{◌≡◌};
-ghost use Rattle.wac_script_session.specs.declared.error.RunError.TheVariants.{Memory};
-
 use std::alloc::{AllocError, AllocFailed};
 use std::{error, fmt};
 use wac_script_entries::{EntryError, EntryName};
@@ -25,26 +22,18 @@ pub enum RunError {
 }
 
 impl From<AllocError> for RunError {
-    ghost from_gives = { λ _ r. r ≡ Memory };
-
     fn from(_error: AllocError) -> RunError {
         RunError::Memory
     }
 }
 
 impl<T: Drop> From<AllocFailed<T>> for RunError {
-    ghost from_gives = { λ _ r. r ≡ Memory };
-
     fn from(_error: AllocFailed<T>) -> RunError {
         RunError::Memory
     }
 }
 
 impl From<EntryError> for RunError {
-    ghost use Rattle.wac_script_session.specs.Errors.{of_entry_error};
-
-    ghost from_gives = { λ e r. r ≡ of_entry_error e };
-
     fn from(error: EntryError) -> RunError {
         match error {
             EntryError::NoEntry(name) => RunError::NoEntry(name),
@@ -56,11 +45,6 @@ impl From<EntryError> for RunError {
 impl error::Error for RunError {}
 
 impl fmt::Display for RunError {
-    ghost use Rattle.std.specs.Prelude.{Some};
-    ghost use Rattle.wac_script_session.specs.Errors.{run_error_text};
-
-    ghost output = { λ e. Some (run_error_text e) };
-
     fn fmt<W: fmt::Write>(&self, f: &mut fmt::Formatter<W>) -> fmt::Result {
         match self {
             RunError::NoneAtHand => write!(f, "no collection has been begun"),

@@ -1,9 +1,7 @@
 //! Answers that add entries to a collection.
 
-ghost use Rattle.std.specs.Prelude.{IfErr, IfSome};
-ghost use Rattle.wac_component.specs.Growth.{Extends};
+ghost use Rattle.std.specs.Prelude.{◌≡◌, IfOk, IfSome};
 ghost use Rattle.wac_component.specs.Key.{AllStand, item_keys};
-ghost use Rattle.wac_script_session.specs.Errors.{IsMissingIn};
 
 use super::error::RunError;
 use std::alloc::{AllocError, Global};
@@ -14,25 +12,28 @@ use wac_package::Package;
 use wac_script_entries::{find_item, find_world, item_word};
 use wac_script_syntax::{Item, name_word};
 
+/// One of the two bounds of items.
+#[derive(Clone, Copy)]
+pub(crate) enum Bound {
+    Meet,
+    Join,
+}
+
 /// What is made of entries of a collection.
 #[derive(Drop)]
 pub(crate) enum Growth {
-    /// The meet of two items.
-    Meet(Item, Item),
-    /// The join of two items.
-    Join(Item, Item),
+    /// The meet or the join of two items.
+    Bound(Bound, Item, Item),
     /// A package of a world.
     Package(usize),
 }
 
 /// Adds what is to be made to the collection, and gives the answer.
 pub(crate) fn grow(alloc: Global, types: &mut Types, growth: Growth) -> Result<String, RunError>
-    ensures grows { Extends types.old types.new }
-    ensures missing { IfErr result (IsMissingIn types.old) }
+    ensures { types.new.number ≡ types.old.number }
 {
     match growth {
-        Growth::Meet(left, right) => meet_answer(alloc, types, left, right),
-        Growth::Join(left, right) => join_answer(alloc, types, left, right),
+        Growth::Bound(of, left, right) => bound_answer(alloc, types, of, left, right),
         Growth::Package(world) => definitions_answer(alloc, types, world),
     }
 }
@@ -54,19 +55,19 @@ fn entry_count(types: &Types) -> usize {
     values.saturating_add(functions).saturating_add(composites)
 }
 
-// The meet of two items: its word, its canonical tree, and how many entries were added.
-fn meet_answer(
+// A bound of two items: its word, its canonical tree, and how many entries were added.
+fn bound_answer(
     alloc: Global,
     types: &mut Types,
+    of: Bound,
     left: Item,
     right: Item,
 ) -> Result<String, RunError>
-    ensures grows { Extends types.old types.new }
-    ensures missing { IfErr result (IsMissingIn types.old) }
+    ensures { types.new.number ≡ types.old.number }
 {
     let before = entry_count(types);
     match (find_item(types, left), find_item(types, right)) {
-        (Ok(a), Ok(b)) => match meet(alloc, types, a, b) {
+        (Ok(a), Ok(b)) => match bound_of(alloc, types, of, a, b) {
             Ok(bound) => Ok(bound_text(alloc, types, &bound, before)?),
             Err(error) => Err(RunError::from(error)),
         },
@@ -74,23 +75,21 @@ fn meet_answer(
     }
 }
 
-// The join of two items, as `meet_answer` gives the meet.
-fn join_answer(
+fn bound_of(
     alloc: Global,
     types: &mut Types,
-    left: Item,
-    right: Item,
-) -> Result<String, RunError>
-    ensures grows { Extends types.old types.new }
-    ensures missing { IfErr result (IsMissingIn types.old) }
+    of: Bound,
+    a: ItemKind,
+    b: ItemKind,
+) -> Result<Option<ItemKind>, AllocError>
+    requires left { AllStand types.old (item_keys a) }
+    requires right { AllStand types.old (item_keys b) }
+    ensures standing { IfOk result (λ bound. IfSome bound (λ item. AllStand types.new (item_keys item))) }
+    ensures number { types.new.number ≡ types.old.number }
 {
-    let before = entry_count(types);
-    match (find_item(types, left), find_item(types, right)) {
-        (Ok(a), Ok(b)) => match join(alloc, types, a, b) {
-            Ok(bound) => Ok(bound_text(alloc, types, &bound, before)?),
-            Err(error) => Err(RunError::from(error)),
-        },
-        (Err(error), _) | (_, Err(error)) => Err(RunError::from(error)),
+    match of {
+        Bound::Meet => meet(alloc, types, a, b),
+        Bound::Join => join(alloc, types, a, b),
     }
 }
 
@@ -125,8 +124,7 @@ fn item_line(
 
 // A package that is made of a world: the interface that is added, and the definitions in order.
 fn definitions_answer(alloc: Global, types: &mut Types, world: usize) -> Result<String, RunError>
-    ensures grows { Extends types.old types.new }
-    ensures missing { IfErr result (IsMissingIn types.old) }
+    ensures { types.new.number ≡ types.old.number }
 {
     let world = find_world(types, world)?;
     let package = Package::from_world(alloc, "package", None, Vec::new(alloc), types, world)?;

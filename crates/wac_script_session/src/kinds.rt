@@ -1,15 +1,10 @@
 //! The answer about kinds.
 
-ghost use Rattle.std.specs.Prelude.{◌≡◌, IfOk, string_bytes};
-ghost use Rattle.wac_script_session.specs.Plain.{kinds_text};
-
 use std::alloc::{AllocError, Global};
 use wac_component::{ExternKind, FuncKind};
 
 /// The answer to `kinds`: the texts of the kinds of functions and of externs. `Err` is want of memory.
-pub(crate) fn kinds_answer(alloc: Global) -> Result<String, AllocError>
-    ensures { IfOk result (λ s. string_bytes s ≡ kinds_text) }
-{
+pub(crate) fn kinds_answer(alloc: Global) -> Result<String, AllocError> {
     let free = FuncKind::Free;
     let method = FuncKind::Method;
     let of_type = FuncKind::Static;

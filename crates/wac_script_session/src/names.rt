@@ -1,18 +1,12 @@
 //! Answers about names with versions.
 
-ghost use Rattle.std.specs.Prelude.{◌≡◌, IfOk, string_bytes};
-ghost use Rattle.wac_names.specs.Track.{IsCompatible};
-ghost use Rattle.wac_script_session.specs.Plain.{IsTrackText, IsYesOrNo};
-
 use std::alloc::{AllocError, Global};
 use wac_names::{are_semver_compatible, track_of};
 use wac_script_syntax::name_word;
 
 /// The answer to `track`: the word that writes the track key of a name, or `none`. `Err` is want of
 /// memory.
-pub(crate) fn track_answer(alloc: Global, name: &str) -> Result<String, AllocError>
-    ensures { IfOk result (λ s. IsTrackText name.now (string_bytes s)) }
-{
+pub(crate) fn track_answer(alloc: Global, name: &str) -> Result<String, AllocError> {
     match track_of(alloc, name)? {
         Some(key) => name_word(alloc, key),
         None => String::from_str(alloc, "none"),
@@ -21,9 +15,7 @@ pub(crate) fn track_answer(alloc: Global, name: &str) -> Result<String, AllocErr
 
 /// The answer to `compatible`: whether two names are equal or on one track, `yes` or `no`. `Err` is want
 /// of memory.
-pub(crate) fn compatible_answer(alloc: Global, a: &str, b: &str) -> Result<String, AllocError>
-    ensures { IfOk result (λ s. IsYesOrNo (IsCompatible a.now b.now) (string_bytes s)) }
-{
+pub(crate) fn compatible_answer(alloc: Global, a: &str, b: &str) -> Result<String, AllocError> {
     if are_semver_compatible(alloc, a, b)? {
         String::from_str(alloc, "yes")
     } else {

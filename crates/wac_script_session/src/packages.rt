@@ -1,15 +1,5 @@
 //! The answer about two packages.
 
-ghost use Rattle.std.specs.Prelude.{◌≡◌, ◌↔◌, [], ◌∷◌, codes, IfOk, IsTrue, MatchResult, string_bytes};
-ghost use Rattle.std.specs.Option.{option_map};
-ghost use Rattle.semver.specs.Identifiers.{parts_of};
-ghost use Rattle.semver.specs.Parse.{memory_error};
-ghost use Rattle.wac_model.specs.Text.{joined};
-ghost use Rattle.wac_package.specs.Key.{key_eq, key_text};
-ghost use Rattle.wac_script_session.specs.declared.error.RunError.TheVariants.{Keys};
-ghost use Rattle.wac_script_session.specs.OneLine.{text_on_line};
-ghost use Rattle.wac_script_session.specs.Packages.{HasNoAnswer, IsKeyOfName, IsNoVersionOf, IsPairText, IsVersionOf, ordering_text, pair_text, same_text};
-
 use super::error::RunError;
 use super::lines::one_line;
 use semver::Version;
@@ -19,16 +9,12 @@ use wac_package::{BorrowedPackageKey, PackageKey, same_key};
 use wac_script_syntax::PackageName;
 
 // Whether an error of the reader of versions is want of memory.
-fn is_memory(e: &semver::Error) -> bool
-    ensures { IsTrue result ↔ (e.now ≡ memory_error) }
-{
+fn is_memory(e: &semver::Error) -> bool {
     *e == semver::Error::from(AllocError)
 }
 
 // The version of a package.
-fn version_of(alloc: Global, named: &PackageName) -> Result<Option<Version>, RunError>
-    ensures { MatchResult result (λ v. IsVersionOf named.now (option_map parts_of v)) (IsNoVersionOf named.now) }
-{
+fn version_of(alloc: Global, named: &PackageName) -> Result<Option<Version>, RunError> {
     let Some(text) = &named.version else {
         return Ok(None);
     };
@@ -45,17 +31,13 @@ fn version_of(alloc: Global, named: &PackageName) -> Result<Option<Version>, Run
 }
 
 // The key of a package.
-fn key_of(alloc: Global, named: &PackageName) -> Result<PackageKey, RunError>
-    ensures { MatchResult result (λ k. IsKeyOfName named.now k) (IsNoVersionOf named.now) }
-{
+fn key_of(alloc: Global, named: &PackageName) -> Result<PackageKey, RunError> {
     let version = version_of(alloc, named)?;
     let key = BorrowedPackageKey::from_name_and_version(named.name.as_str(), version.as_ref());
     Ok(key.into_owned(alloc)?)
 }
 
-fn ordering_word(ordering: Ordering) -> &'static str
-    ensures { result.now ≡ ordering_text ordering }
-{
+fn ordering_word(ordering: Ordering) -> &'static str {
     match ordering {
         Ordering::Less => "less",
         Ordering::Equal => "equal",
@@ -63,17 +45,13 @@ fn ordering_word(ordering: Ordering) -> &'static str
     }
 }
 
-fn same_word(same: bool) -> &'static str
-    ensures { result.now ≡ same_text same }
-{
+fn same_word(same: bool) -> &'static str {
     if same { "same" } else { "different" }
 }
 
 // Whether two keys are equal. The call through `dyn` has to say so too; no contract can tell here what
 // the keys that it is given stand for.
-fn are_same(a: &PackageKey, b: &PackageKey) -> Result<bool, RunError>
-    ensures { MatchResult result (λ r. r ≡ key_eq a.now b.now) (λ e. e ≡ Keys) }
-{
+fn are_same(a: &PackageKey, b: &PackageKey) -> Result<bool, RunError> {
     let same = a == b;
     if same_key(a, b) != same {
         return Err(RunError::Keys);
@@ -82,9 +60,7 @@ fn are_same(a: &PackageKey, b: &PackageKey) -> Result<bool, RunError>
 }
 
 // The text of a key on one line.
-fn key_line(alloc: Global, key: &PackageKey) -> Result<String, AllocError>
-    ensures { IfOk result (λ s. string_bytes s ≡ text_on_line (key_text key.now)) }
-{
+fn key_line(alloc: Global, key: &PackageKey) -> Result<String, AllocError> {
     let text = key.to_string(alloc)?;
     one_line(alloc, &text)
 }
@@ -96,9 +72,7 @@ fn spaced(
     second: &str,
     third: &str,
     fourth: &str,
-) -> Result<String, AllocError>
-    ensures { IfOk result (λ s. string_bytes s ≡ joined (first.now ∷ codes " " ∷ second.now ∷ codes " " ∷ third.now ∷ codes " " ∷ fourth.now ∷ [])) }
-{
+) -> Result<String, AllocError> {
     format!(in alloc; "{first} {second} {third} {fourth}")
 }
 
@@ -108,10 +82,7 @@ fn pair_answer(
     a: &PackageKey,
     b: &PackageKey,
     same: bool,
-) -> Result<String, AllocError>
-    requires { same ≡ key_eq a.now b.now }
-    ensures { IfOk result (λ s. string_bytes s ≡ pair_text a.now b.now) }
-{
+) -> Result<String, AllocError> {
     let first = key_line(alloc, a)?;
     let second = key_line(alloc, b)?;
     let order = ordering_word(a.cmp(b));
@@ -126,9 +97,7 @@ pub(crate) fn package_answer(
     alloc: Global,
     left: &PackageName,
     right: &PackageName,
-) -> Result<String, RunError>
-    ensures { MatchResult result (λ s. IsPairText left.now right.now (string_bytes s)) (HasNoAnswer left.now right.now) }
-{
+) -> Result<String, RunError> {
     let left = key_of(alloc, left)?;
     let right = key_of(alloc, right)?;
     let same = are_same(&left, &right)?;

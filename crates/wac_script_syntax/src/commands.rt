@@ -1,7 +1,6 @@
 //! Commands, and the lines that write them.
 
-ghost use Rattle.std.specs.Prelude.{◌≡◌, Ok, None, IsNone, IfOk, IfSome};
-ghost use Rattle.wac_script_syntax.specs.Contents.{IsDistinctCommand};
+ghost use Rattle.std.specs.Prelude.{◌≡◌, Ok, None, IsNone, IfOk};
 ghost use Rattle.wac_script_syntax.specs.Lines.{HasNoCommand};
 
 use super::contents::{Content, read_content};
@@ -29,27 +28,21 @@ pub enum Command {
     Query(Query),
 }
 
-fn read_script(alloc: Global, words: &[&str]) -> Result<Command, ReadError>
-    ensures { IfOk result IsDistinctCommand }
-{
+fn read_script(alloc: Global, words: &[&str]) -> Result<Command, ReadError> {
     let [name] = *words else {
         return Err(misused(alloc, "script NAME"));
     };
     Ok(Command::Script(read_name(alloc, name)?))
 }
 
-fn read_collection(alloc: Global, words: &[&str]) -> Result<Command, ReadError>
-    ensures { IfOk result IsDistinctCommand }
-{
+fn read_collection(alloc: Global, words: &[&str]) -> Result<Command, ReadError> {
     let [number] = *words else {
         return Err(misused(alloc, "coll N"));
     };
     Ok(Command::Collection(read_number(alloc, number)?))
 }
 
-fn read_cache(alloc: Global, words: &[&str]) -> Result<Command, ReadError>
-    ensures { IfOk result IsDistinctCommand }
-{
+fn read_cache(alloc: Global, words: &[&str]) -> Result<Command, ReadError> {
     match *words {
         ["keep"] => Ok(Command::KeepCache),
         ["drop"] => Ok(Command::DropCache),
@@ -58,9 +51,7 @@ fn read_cache(alloc: Global, words: &[&str]) -> Result<Command, ReadError>
 }
 
 // Reads an entry or a query.
-fn read_other(alloc: Global, command: &str, words: &[&str]) -> Result<Command, ReadError>
-    ensures { IfOk result IsDistinctCommand }
-{
+fn read_other(alloc: Global, command: &str, words: &[&str]) -> Result<Command, ReadError> {
     if let Some(content) = read_content(alloc, command, words)? {
         return Ok(Command::Add(content));
     }
@@ -71,9 +62,7 @@ fn read_other(alloc: Global, command: &str, words: &[&str]) -> Result<Command, R
 }
 
 // Reads a command from its first word and the words after it.
-fn read_command(alloc: Global, command: &str, words: &[&str]) -> Result<Command, ReadError>
-    ensures { IfOk result IsDistinctCommand }
-{
+fn read_command(alloc: Global, command: &str, words: &[&str]) -> Result<Command, ReadError> {
     match command {
         "script" => read_script(alloc, words),
         "coll" => read_collection(alloc, words),
@@ -86,14 +75,12 @@ fn read_command(alloc: Global, command: &str, words: &[&str]) -> Result<Command,
 /// other line is read as a command or refused. No name stands twice in a map of what is read.
 pub fn read_line(alloc: Global, line: &str) -> Result<Option<Command>, ReadError>
     ensures no_command { HasNoCommand line.now → result ≡ Ok None }
-    ensures distinct { IfOk result (λ read. IfSome read IsDistinctCommand) }
     ensures command { IfOk result (λ read. IsNone read → HasNoCommand line.now) }
 {
     if line.is_empty() || line.starts_with('#') {
         return Ok(None);
     }
-    let text = line.strip_suffix(' ').unwrap_or(line);
-    let words: Vec<&str> = text.split(' ').collect(alloc)?;
+    let words: Vec<&str> = line.split(' ').collect(alloc)?;
     if words.contains(&"") {
         return Err(unexpected(alloc, "single spaces between words", line));
     }

@@ -1,8 +1,5 @@
 //! The contents of entries.
 
-ghost use Rattle.std.specs.Prelude.{IfOk, IfSome};
-ghost use Rattle.wac_script_syntax.specs.Contents.{IsDistinct, IsDistinctFunction};
-
 use super::definitions::{Definition, read_definition};
 use super::error::{ReadError, misused, unexpected};
 use super::interfaces::{Interface, World, read_interface, read_world};
@@ -100,9 +97,7 @@ fn read_is_async(alloc: Global, word: &str) -> Result<bool, ReadError> {
 }
 
 // Reads the words after `func`.
-fn read_function(alloc: Global, words: &[&str]) -> Result<Function, ReadError>
-    ensures { IfOk result IsDistinctFunction }
-{
+fn read_function(alloc: Global, words: &[&str]) -> Result<Function, ReadError> {
     let [kind, value, params @ ..] = words else {
         return Err(misused(alloc, "func sync|async RESULT|- (NAME=VALUE)*"));
     };
@@ -118,9 +113,7 @@ pub(crate) fn read_content(
     alloc: Global,
     sort: &str,
     words: &[&str],
-) -> Result<Option<Content>, ReadError>
-    ensures { IfOk result (λ read. IfSome read IsDistinct) }
-{
+) -> Result<Option<Content>, ReadError> {
     let content = match sort {
         "def" => Content::Definition(read_definition(alloc, words)?),
         "res" => Content::Resource(read_resource(alloc, words)?),
@@ -154,9 +147,10 @@ fn entry_of(word: &str) -> Option<(&'static str, usize)> {
 }
 
 /// Reads an entry and the content that replaces its own, which is one of the same sort.
-pub(crate) fn read_replacement(alloc: Global, words: &[&str]) -> Result<(usize, Content), ReadError>
-    ensures { IfOk result (λ read. IsDistinct read.1) }
-{
+pub(crate) fn read_replacement(
+    alloc: Global,
+    words: &[&str],
+) -> Result<(usize, Content), ReadError> {
     let Some((&entry, words)) = words.split_first() else {
         return Err(misused(alloc, "replace ENTRY CONTENT"));
     };

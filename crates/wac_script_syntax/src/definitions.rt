@@ -1,8 +1,5 @@
 //! The contents of defined types.
 
-ghost use Rattle.std.specs.Prelude.{IfOk};
-ghost use Rattle.wac_script_syntax.specs.Contents.{IsDistinctDefinition};
-
 use super::error::{ReadError, misused, unexpected};
 use super::maps::{Named, read_named_optional_values, read_named_values, read_names};
 use super::numbers::read_small_number;
@@ -44,9 +41,7 @@ pub enum Definition {
 }
 
 // Reads the value types of a tuple.
-fn read_tuple(alloc: Global, words: &[&str]) -> Result<Definition, ReadError>
-    ensures { IfOk result IsDistinctDefinition }
-{
+fn read_tuple(alloc: Global, words: &[&str]) -> Result<Definition, ReadError> {
     let mut values = Vec::new(alloc);
     for word in words {
         values.push(read_value(alloc, word)?)?;
@@ -54,36 +49,28 @@ fn read_tuple(alloc: Global, words: &[&str]) -> Result<Definition, ReadError>
     Ok(Definition::Tuple(values))
 }
 
-fn read_list(alloc: Global, words: &[&str]) -> Result<Definition, ReadError>
-    ensures { IfOk result IsDistinctDefinition }
-{
+fn read_list(alloc: Global, words: &[&str]) -> Result<Definition, ReadError> {
     let [value] = *words else {
         return Err(misused(alloc, "def list VALUE"));
     };
     Ok(Definition::List(read_value(alloc, value)?))
 }
 
-fn read_option(alloc: Global, words: &[&str]) -> Result<Definition, ReadError>
-    ensures { IfOk result IsDistinctDefinition }
-{
+fn read_option(alloc: Global, words: &[&str]) -> Result<Definition, ReadError> {
     let [value] = *words else {
         return Err(misused(alloc, "def option VALUE"));
     };
     Ok(Definition::Option(read_value(alloc, value)?))
 }
 
-fn read_alias(alloc: Global, words: &[&str]) -> Result<Definition, ReadError>
-    ensures { IfOk result IsDistinctDefinition }
-{
+fn read_alias(alloc: Global, words: &[&str]) -> Result<Definition, ReadError> {
     let [value] = *words else {
         return Err(misused(alloc, "def alias VALUE"));
     };
     Ok(Definition::Alias(read_value(alloc, value)?))
 }
 
-fn read_fixed(alloc: Global, words: &[&str]) -> Result<Definition, ReadError>
-    ensures { IfOk result IsDistinctDefinition }
-{
+fn read_fixed(alloc: Global, words: &[&str]) -> Result<Definition, ReadError> {
     let [value, size] = *words else {
         return Err(misused(alloc, "def fixed VALUE SIZE"));
     };
@@ -91,9 +78,7 @@ fn read_fixed(alloc: Global, words: &[&str]) -> Result<Definition, ReadError>
     Ok(Definition::Fixed(value, read_small_number(alloc, size)?))
 }
 
-fn read_result(alloc: Global, words: &[&str]) -> Result<Definition, ReadError>
-    ensures { IfOk result IsDistinctDefinition }
-{
+fn read_result(alloc: Global, words: &[&str]) -> Result<Definition, ReadError> {
     let [ok, err] = *words else {
         return Err(misused(alloc, "def result VALUE|- VALUE|-"));
     };
@@ -102,18 +87,14 @@ fn read_result(alloc: Global, words: &[&str]) -> Result<Definition, ReadError>
     Ok(Definition::Result { ok, err })
 }
 
-fn read_stream(alloc: Global, words: &[&str]) -> Result<Definition, ReadError>
-    ensures { IfOk result IsDistinctDefinition }
-{
+fn read_stream(alloc: Global, words: &[&str]) -> Result<Definition, ReadError> {
     let [value] = *words else {
         return Err(misused(alloc, "def stream VALUE|-"));
     };
     Ok(Definition::Stream(read_optional_value(alloc, value)?))
 }
 
-fn read_future(alloc: Global, words: &[&str]) -> Result<Definition, ReadError>
-    ensures { IfOk result IsDistinctDefinition }
-{
+fn read_future(alloc: Global, words: &[&str]) -> Result<Definition, ReadError> {
     let [value] = *words else {
         return Err(misused(alloc, "def future VALUE|-"));
     };
@@ -121,9 +102,7 @@ fn read_future(alloc: Global, words: &[&str]) -> Result<Definition, ReadError>
 }
 
 /// Reads the words after `def`.
-pub(crate) fn read_definition(alloc: Global, words: &[&str]) -> Result<Definition, ReadError>
-    ensures { IfOk result IsDistinctDefinition }
-{
+pub(crate) fn read_definition(alloc: Global, words: &[&str]) -> Result<Definition, ReadError> {
     let Some((&kind, words)) = words.split_first() else {
         return Err(misused(alloc, "def KIND .."));
     };

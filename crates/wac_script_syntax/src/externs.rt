@@ -5,25 +5,32 @@ use super::numbers::{flag_of, limit_of, number_of, small_number_of};
 use std::alloc::Global;
 use wac_core::{CoreExtern, CoreFuncType, CoreRefType, CoreType, HeapType};
 
-// The heap type that a word names.
+// The words of the abstract heap types.
+const HEAP_TYPES: [(&str, HeapType); 14] = [
+    ("func", HeapType::Func),
+    ("extern", HeapType::Extern),
+    ("any", HeapType::Any),
+    ("none", HeapType::None),
+    ("noextern", HeapType::NoExtern),
+    ("nofunc", HeapType::NoFunc),
+    ("eq", HeapType::Eq),
+    ("struct", HeapType::Struct),
+    ("array", HeapType::Array),
+    ("i31", HeapType::I31),
+    ("exn", HeapType::Exn),
+    ("noexn", HeapType::NoExn),
+    ("cont", HeapType::Cont),
+    ("nocont", HeapType::NoCont),
+];
+
+// The heap type that a word names: an abstract one, or that of the type at an index.
 fn heap_type_of(word: &str) -> Option<HeapType> {
-    match word {
-        "func" => Some(HeapType::Func),
-        "extern" => Some(HeapType::Extern),
-        "any" => Some(HeapType::Any),
-        "none" => Some(HeapType::None),
-        "noextern" => Some(HeapType::NoExtern),
-        "nofunc" => Some(HeapType::NoFunc),
-        "eq" => Some(HeapType::Eq),
-        "struct" => Some(HeapType::Struct),
-        "array" => Some(HeapType::Array),
-        "i31" => Some(HeapType::I31),
-        "exn" => Some(HeapType::Exn),
-        "noexn" => Some(HeapType::NoExn),
-        "cont" => Some(HeapType::Cont),
-        "nocont" => Some(HeapType::NoCont),
-        _ => Some(HeapType::Concrete(small_number_of(word)?)),
+    for (name, heap_type) in HEAP_TYPES {
+        if name == word {
+            return Some(heap_type);
+        }
     }
+    Some(HeapType::Concrete(small_number_of(word)?))
 }
 
 // The reference type that a word names.

@@ -1,9 +1,5 @@
 //! The contents of interfaces and worlds.
 
-ghost use Rattle.std.specs.Prelude.{IfOk};
-ghost use Rattle.wac_script_syntax.specs.Contents.{IsDistinctInterface, IsDistinctWorld};
-ghost use Rattle.wac_script_syntax.specs.Maps.{HasDistinctNames};
-
 use super::error::{ReadError, misused, unexpected};
 use super::maps::{Named, push_named, read_named_item, split_named};
 use super::names::{read_name, read_optional_name};
@@ -59,18 +55,14 @@ fn read_used_type(alloc: Global, word: &str) -> Result<UsedType, ReadError> {
 }
 
 // Reads `NAME=iN` or `NAME=iN=NAME` and puts it last.
-fn read_use(alloc: Global, map: &mut Vec<Named<UsedType>>, word: &str) -> Result<(), ReadError>
-    ensures { HasDistinctNames map.old.items → HasDistinctNames map.new.items }
-{
+fn read_use(alloc: Global, map: &mut Vec<Named<UsedType>>, word: &str) -> Result<(), ReadError> {
     let (name, of) = split_named(alloc, "`NAME=iN[=NAME]`", word)?;
     push_named(alloc, map, name, read_used_type(alloc, of)?)
 }
 
 impl Interface {
     // Reads a use or an export and puts it last in its map.
-    fn read_member(&mut self, alloc: Global, word: &str) -> Result<(), ReadError>
-        ensures { IsDistinctInterface self.old → IsDistinctInterface self.new }
-    {
+    fn read_member(&mut self, alloc: Global, word: &str) -> Result<(), ReadError> {
         match word.split_once(':') {
             Some(("u", rest)) => read_use(alloc, &mut self.uses, rest),
             Some(("e", rest)) => read_named_item(alloc, &mut self.exports, rest),
@@ -81,9 +73,7 @@ impl Interface {
 
 impl World {
     // Reads a use, an import or an export and puts it last in its map.
-    fn read_member(&mut self, alloc: Global, word: &str) -> Result<(), ReadError>
-        ensures { IsDistinctWorld self.old → IsDistinctWorld self.new }
-    {
+    fn read_member(&mut self, alloc: Global, word: &str) -> Result<(), ReadError> {
         match word.split_once(':') {
             Some(("u", rest)) => read_use(alloc, &mut self.uses, rest),
             Some(("m", rest)) => read_named_item(alloc, &mut self.imports, rest),
@@ -94,9 +84,7 @@ impl World {
 }
 
 /// Reads the words after `iface`.
-pub(crate) fn read_interface(alloc: Global, words: &[&str]) -> Result<Interface, ReadError>
-    ensures { IfOk result IsDistinctInterface }
-{
+pub(crate) fn read_interface(alloc: Global, words: &[&str]) -> Result<Interface, ReadError> {
     let Some((id, members)) = words.split_first() else {
         return Err(misused(alloc, "iface ID|- (u:NAME=iN[=NAME])* (e:NAME=ITEM)*"));
     };
@@ -112,9 +100,7 @@ pub(crate) fn read_interface(alloc: Global, words: &[&str]) -> Result<Interface,
 }
 
 /// Reads the words after `world`.
-pub(crate) fn read_world(alloc: Global, words: &[&str]) -> Result<World, ReadError>
-    ensures { IfOk result IsDistinctWorld }
-{
+pub(crate) fn read_world(alloc: Global, words: &[&str]) -> Result<World, ReadError> {
     let Some((id, members)) = words.split_first() else {
         return Err(misused(
             alloc,

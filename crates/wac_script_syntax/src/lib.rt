@@ -5,8 +5,8 @@
 //!
 //! # Lines
 //!
-//! A line is a command and its words, with a single space between two words; one space may end it. Two
-//! spaces would stand around an empty word, which is malformed. An empty line, and one that begins with
+//! A line is a command and its words, with a single space between two words. Two spaces, and one at the
+//! end, would stand beside an empty word, which is malformed. An empty line, and one that begins with
 //! `#`, holds no command. A name that stands twice in one map is malformed. Members may stand in any order.
 //!
 //! | Word | Stands for |

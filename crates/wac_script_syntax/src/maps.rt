@@ -1,8 +1,5 @@
 //! Maps from names, in the order of a line. A name stands once in a map.
 
-ghost use Rattle.std.specs.Prelude.{◌≡◌, ◌++◌, ◌∷◌, [], string_bytes, OnOk, OnErr, IsErr, IsTrue, IfOk};
-ghost use Rattle.wac_script_syntax.specs.Maps.{has_name, has_text, HasDistinctNames, AreDistinct};
-
 use super::error::{ReadError, repeated, unexpected};
 use super::names::{name_word, read_name};
 use super::values::{Item, Value, read_item, read_optional_value, read_value};
@@ -26,9 +23,7 @@ fn twice(alloc: Global, name: &str) -> ReadError {
 }
 
 // Whether a name stands in a map.
-fn has_name<T>(map: &[Named<T>], name: &str) -> bool
-    ensures { result ≡ has_name map.now name.now }
-{
+fn has_name<T>(map: &[Named<T>], name: &str) -> bool {
     map.iter().any(|entry| entry.name.as_str() == name)
 }
 
@@ -38,12 +33,7 @@ pub(crate) fn push_named<T: Drop>(
     map: &mut Vec<Named<T>>,
     name: String,
     of: T,
-) -> Result<(), ReadError>
-    ensures ok { OnOk result (map.new.items ≡ map.old.items ++ (record { name = name; of = of }) ∷ []) }
-    ensures err { OnErr result (map.new.items ≡ map.old.items) }
-    ensures distinct { HasDistinctNames map.old.items → HasDistinctNames map.new.items }
-    ensures twice { IsTrue (has_name map.old.items (string_bytes name)) → IsErr result }
-{
+) -> Result<(), ReadError> {
     if has_name(map, &name) {
         return Err(twice(alloc, &name));
     }
@@ -64,16 +54,12 @@ pub(crate) fn split_named<'a>(
 }
 
 // Whether a name stands among others.
-fn has_text(names: &[String], name: &str) -> bool
-    ensures { result ≡ has_text names.now name.now }
-{
+fn has_text(names: &[String], name: &str) -> bool {
     names.iter().any(|other| other.as_str() == name)
 }
 
 /// Reads names, each of which stands once.
-pub(crate) fn read_names(alloc: Global, words: &[&str]) -> Result<Vec<String>, ReadError>
-    ensures { IfOk result (λ names. AreDistinct names.items) }
-{
+pub(crate) fn read_names(alloc: Global, words: &[&str]) -> Result<Vec<String>, ReadError> {
     let mut names: Vec<String> = Vec::new(alloc);
     for word in words {
         let name = read_name(alloc, word)?;
@@ -89,9 +75,7 @@ pub(crate) fn read_names(alloc: Global, words: &[&str]) -> Result<Vec<String>, R
 pub(crate) fn read_named_values(
     alloc: Global,
     words: &[&str],
-) -> Result<Vec<Named<Value>>, ReadError>
-    ensures { IfOk result (λ map. HasDistinctNames map.items) }
-{
+) -> Result<Vec<Named<Value>>, ReadError> {
     let mut map = Vec::new(alloc);
     for word in words {
         let (name, value) = split_named(alloc, "`NAME=VALUE`", word)?;
@@ -104,9 +88,7 @@ pub(crate) fn read_named_values(
 pub(crate) fn read_named_optional_values(
     alloc: Global,
     words: &[&str],
-) -> Result<Vec<Named<Option<Value>>>, ReadError>
-    ensures { IfOk result (λ map. HasDistinctNames map.items) }
-{
+) -> Result<Vec<Named<Option<Value>>>, ReadError> {
     let mut map = Vec::new(alloc);
     for word in words {
         let (name, value) = split_named(alloc, "`NAME=VALUE` or `NAME=-`", word)?;
@@ -120,9 +102,7 @@ pub(crate) fn read_named_item(
     alloc: Global,
     map: &mut Vec<Named<Item>>,
     word: &str,
-) -> Result<(), ReadError>
-    ensures { HasDistinctNames map.old.items → HasDistinctNames map.new.items }
-{
+) -> Result<(), ReadError> {
     let (name, item) = split_named(alloc, "`NAME=ITEM`", word)?;
     push_named(alloc, map, name, read_item(alloc, item)?)
 }

@@ -1,8 +1,5 @@
 //! The contents of core modules.
 
-ghost use Rattle.std.specs.Prelude.{◌≡◌, IfOk};
-ghost use Rattle.wac_script_syntax.specs.Contents.{has_import, IsDistinctModule};
-
 use super::error::{ReadError, repeated, unexpected};
 use super::externs::read_extern;
 use super::maps::{Named, push_named, split_named};
@@ -32,17 +29,13 @@ pub struct CoreImport {
 
 impl Module {
     // Whether an import has these two names.
-    fn has_import(&self, source: &str, name: &str) -> bool
-        ensures { result ≡ has_import self.now.imports.items source.now name.now }
-    {
+    fn has_import(&self, source: &str, name: &str) -> bool {
         self.imports.iter().any(|import| import.source.as_str() == source
             && import.name.as_str() == name)
     }
 
     // Reads `NAME,NAME=EXTERN` and puts it last.
-    fn read_import(&mut self, alloc: Global, word: &str) -> Result<(), ReadError>
-        ensures { IsDistinctModule self.old → IsDistinctModule self.new }
-    {
+    fn read_import(&mut self, alloc: Global, word: &str) -> Result<(), ReadError> {
         let Some((names, of)) = word.split_once('=') else {
             return Err(unexpected(alloc, "`NAME,NAME=EXTERN`", word));
         };
@@ -60,17 +53,13 @@ impl Module {
     }
 
     // Reads an export and puts it last.
-    fn read_export(&mut self, alloc: Global, word: &str) -> Result<(), ReadError>
-        ensures { IsDistinctModule self.old → IsDistinctModule self.new }
-    {
+    fn read_export(&mut self, alloc: Global, word: &str) -> Result<(), ReadError> {
         let (name, of) = split_named(alloc, "`NAME=EXTERN`", word)?;
         push_named(alloc, &mut self.exports, name, read_extern(alloc, of)?)
     }
 
     // Reads an import or an export and puts it last in its map.
-    fn read_member(&mut self, alloc: Global, word: &str) -> Result<(), ReadError>
-        ensures { IsDistinctModule self.old → IsDistinctModule self.new }
-    {
+    fn read_member(&mut self, alloc: Global, word: &str) -> Result<(), ReadError> {
         match word.split_once(':') {
             Some(("m", rest)) => self.read_import(alloc, rest),
             Some(("e", rest)) => self.read_export(alloc, rest),
@@ -80,9 +69,7 @@ impl Module {
 }
 
 /// Reads the words after `module`.
-pub(crate) fn read_module(alloc: Global, words: &[&str]) -> Result<Module, ReadError>
-    ensures { IfOk result IsDistinctModule }
-{
+pub(crate) fn read_module(alloc: Global, words: &[&str]) -> Result<Module, ReadError> {
     let mut module = Module {
         imports: Vec::new(alloc),
         exports: Vec::new(alloc),

@@ -1,10 +1,7 @@
 //! Names, as words write them.
 
-ghost use Rattle.std.specs.Prelude.{◌≡◌, string_bytes, IfOk, IfSome, IsSomeAnd, IsUtf8, MatchOption, MatchResult};
-ghost use Rattle.percent_encoding.specs.Percent.{percent_decode};
-ghost use Rattle.wac_model.specs.Text.{Text};
-ghost use Rattle.wac_script_syntax.specs.declared.error.ReadError.TheVariants.{Memory};
-ghost use Rattle.wac_script_syntax.specs.Names.{written_name, IsText};
+ghost use Rattle.std.specs.Prelude.{◌≡◌, string_bytes, IfOk};
+ghost use Rattle.wac_script_syntax.specs.Names.{written_name};
 
 use super::error::{ReadError, unexpected};
 use percent_encoding::{
@@ -46,9 +43,7 @@ pub fn name_word(alloc: Global, text: &str) -> Result<String, AllocError>
 }
 
 // The text that a word's escapes stand for, where it is UTF-8.
-fn unescaped(alloc: Global, word: &str) -> Result<Option<String>, AllocError>
-    ensures { IfOk result (λ read. MatchOption read (¬ IsUtf8 (percent_decode word.now)) (λ text. string_bytes text ≡ percent_decode word.now)) }
-{
+fn unescaped(alloc: Global, word: &str) -> Result<Option<String>, AllocError> {
     match percent_decode_str(word).decode_utf8(alloc) {
         Ok(text) => Ok(Some(text.into_owned(alloc)?)),
         Err(DecodeError::Utf8(_)) => Ok(None),
@@ -57,10 +52,7 @@ fn unescaped(alloc: Global, word: &str) -> Result<Option<String>, AllocError>
 }
 
 // The name that a word stands for. Each name is written in one way alone.
-fn name_of(alloc: Global, word: &str) -> Result<Option<String>, AllocError>
-    ensures written { IfOk result (λ read. IfSome read (λ name. written_name (string_bytes name) ≡ word.now)) }
-    ensures read { (name : Text) → IsText name → written_name name ≡ word.now → IfOk result (λ read. IsSomeAnd read (λ text. string_bytes text ≡ name)) }
-{
+fn name_of(alloc: Global, word: &str) -> Result<Option<String>, AllocError> {
     if word == "%" {
         return Ok(Some(String::new(alloc)));
     }
@@ -75,10 +67,7 @@ fn name_of(alloc: Global, word: &str) -> Result<Option<String>, AllocError>
 }
 
 /// Reads a name.
-pub(crate) fn read_name(alloc: Global, word: &str) -> Result<String, ReadError>
-    ensures written { IfOk result (λ name. written_name (string_bytes name) ≡ word.now) }
-    ensures read { (name : Text) → IsText name → written_name name ≡ word.now → MatchResult result (λ text. string_bytes text ≡ name) (λ e. e ≡ Memory) }
-{
+pub(crate) fn read_name(alloc: Global, word: &str) -> Result<String, ReadError> {
     match name_of(alloc, word)? {
         Some(name) => Ok(name),
         None => Err(unexpected(alloc, "a name", word)),

@@ -1,14 +1,10 @@
 //! Numbers, flags and indices.
 
-ghost use Rattle.std.specs.Prelude.{◌≡◌, ℕ, ◌<◌, ◌^◌, Some, decimal};
-
 use super::error::{ReadError, unexpected};
 use std::alloc::Global;
 
 /// The number below 2^64 that a word writes in decimal digits, with no sign.
-pub(crate) fn number_of(word: &str) -> Option<u64>
-    ensures { (n : ℕ) → n < 2 ^ 64 → word.now ≡ decimal n → result ≡ Some n }
-{
+pub(crate) fn number_of(word: &str) -> Option<u64> {
     if word.starts_with('+') {
         return None;
     }
@@ -16,9 +12,7 @@ pub(crate) fn number_of(word: &str) -> Option<u64>
 }
 
 /// The number below 2^32 that a word writes in decimal digits.
-pub(crate) fn small_number_of(word: &str) -> Option<u32>
-    ensures { (n : ℕ) → n < 2 ^ 32 → word.now ≡ decimal n → result ≡ Some n }
-{
+pub(crate) fn small_number_of(word: &str) -> Option<u32> {
     u32::try_from(number_of(word)?).ok()
 }
 

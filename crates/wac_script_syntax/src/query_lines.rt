@@ -1,8 +1,5 @@
 //! Reading queries.
 
-ghost use Rattle.std.specs.Prelude.{IfOk, IfSome};
-ghost use Rattle.wac_script_syntax.specs.Contents.{IsDistinctQuery};
-
 use super::contents::read_replacement;
 use super::error::{ReadError, misused, unexpected};
 use super::externs::read_extern;
@@ -30,9 +27,7 @@ fn read_variance(alloc: Global, word: &str) -> Result<Variance, ReadError> {
     }
 }
 
-fn read_subtype(alloc: Global, words: &[&str]) -> Result<Query, ReadError>
-    ensures { IfOk result IsDistinctQuery }
-{
+fn read_subtype(alloc: Global, words: &[&str]) -> Result<Query, ReadError> {
     let [left, left_item, right, right_item, variance] = *words else {
         return Err(misused(alloc, "subtype COLL ITEM COLL ITEM co|contra"));
     };
@@ -43,9 +38,7 @@ fn read_subtype(alloc: Global, words: &[&str]) -> Result<Query, ReadError>
     })
 }
 
-fn read_core_subtype(alloc: Global, words: &[&str]) -> Result<Query, ReadError>
-    ensures { IfOk result IsDistinctQuery }
-{
+fn read_core_subtype(alloc: Global, words: &[&str]) -> Result<Query, ReadError> {
     let [left, right] = *words else {
         return Err(misused(alloc, "coresub EXTERN EXTERN"));
     };
@@ -55,18 +48,14 @@ fn read_core_subtype(alloc: Global, words: &[&str]) -> Result<Query, ReadError>
     })
 }
 
-fn read_track(alloc: Global, words: &[&str]) -> Result<Query, ReadError>
-    ensures { IfOk result IsDistinctQuery }
-{
+fn read_track(alloc: Global, words: &[&str]) -> Result<Query, ReadError> {
     let [name] = *words else {
         return Err(misused(alloc, "track NAME"));
     };
     Ok(Query::Track(read_name(alloc, name)?))
 }
 
-fn read_compatible(alloc: Global, words: &[&str]) -> Result<Query, ReadError>
-    ensures { IfOk result IsDistinctQuery }
-{
+fn read_compatible(alloc: Global, words: &[&str]) -> Result<Query, ReadError> {
     let [name, other] = *words else {
         return Err(misused(alloc, "compatible NAME NAME"));
     };
@@ -90,9 +79,7 @@ fn read_package_name(alloc: Global, name: &str, version: &str) -> Result<Package
     })
 }
 
-fn read_package(alloc: Global, words: &[&str]) -> Result<Query, ReadError>
-    ensures { IfOk result IsDistinctQuery }
-{
+fn read_package(alloc: Global, words: &[&str]) -> Result<Query, ReadError> {
     let [left, left_version, right, right_version] = *words else {
         return Err(misused(alloc, "pkg NAME VERSION|- NAME VERSION|-"));
     };
@@ -101,9 +88,7 @@ fn read_package(alloc: Global, words: &[&str]) -> Result<Query, ReadError>
     Ok(Query::Package(left, right))
 }
 
-fn read_validate(alloc: Global, words: &[&str]) -> Result<Query, ReadError>
-    ensures { IfOk result IsDistinctQuery }
-{
+fn read_validate(alloc: Global, words: &[&str]) -> Result<Query, ReadError> {
     let [collection, target, component] = *words else {
         return Err(misused(alloc, "validate COLL wTARGET wCOMPONENT"));
     };
@@ -114,9 +99,7 @@ fn read_validate(alloc: Global, words: &[&str]) -> Result<Query, ReadError>
     })
 }
 
-fn read_implicit(alloc: Global, words: &[&str]) -> Result<Query, ReadError>
-    ensures { IfOk result IsDistinctQuery }
-{
+fn read_implicit(alloc: Global, words: &[&str]) -> Result<Query, ReadError> {
     let [collection, world] = *words else {
         return Err(misused(alloc, "implicit COLL wN"));
     };
@@ -134,9 +117,7 @@ fn read_asked_item(alloc: Global, form: &str, words: &[&str]) -> Result<ItemIn, 
     read_item_in(alloc, collection, item)
 }
 
-fn read_borrows(alloc: Global, words: &[&str]) -> Result<Query, ReadError>
-    ensures { IfOk result IsDistinctQuery }
-{
+fn read_borrows(alloc: Global, words: &[&str]) -> Result<Query, ReadError> {
     let [collection, value] = *words else {
         return Err(misused(alloc, "borrows COLL VALUE"));
     };
@@ -154,9 +135,7 @@ fn resolvable_of(word: &str) -> Option<Resolvable> {
     Some(Resolvable::Value(value_of(word)?))
 }
 
-fn read_resolve(alloc: Global, words: &[&str]) -> Result<Query, ReadError>
-    ensures { IfOk result IsDistinctQuery }
-{
+fn read_resolve(alloc: Global, words: &[&str]) -> Result<Query, ReadError> {
     let [collection, word] = *words else {
         return Err(misused(alloc, "resolve COLL VALUE|rN"));
     };
@@ -167,9 +146,7 @@ fn read_resolve(alloc: Global, words: &[&str]) -> Result<Query, ReadError>
     }
 }
 
-fn read_visit(alloc: Global, words: &[&str]) -> Result<Query, ReadError>
-    ensures { IfOk result IsDistinctQuery }
-{
+fn read_visit(alloc: Global, words: &[&str]) -> Result<Query, ReadError> {
     let [collection, ty, fails_at] = *words else {
         return Err(misused(alloc, "visit COLL TYPE K"));
     };
@@ -180,9 +157,7 @@ fn read_visit(alloc: Global, words: &[&str]) -> Result<Query, ReadError>
     })
 }
 
-fn read_contains(alloc: Global, words: &[&str]) -> Result<Query, ReadError>
-    ensures { IfOk result IsDistinctQuery }
-{
+fn read_contains(alloc: Global, words: &[&str]) -> Result<Query, ReadError> {
     let [collection, other, ty] = *words else {
         return Err(misused(alloc, "contains COLL OTHER TYPE"));
     };
@@ -193,9 +168,7 @@ fn read_contains(alloc: Global, words: &[&str]) -> Result<Query, ReadError>
     })
 }
 
-fn read_replace(alloc: Global, words: &[&str]) -> Result<Query, ReadError>
-    ensures { IfOk result IsDistinctQuery }
-{
+fn read_replace(alloc: Global, words: &[&str]) -> Result<Query, ReadError> {
     let (index, content) = read_replacement(alloc, words)?;
     Ok(Query::Replace { index, content })
 }
@@ -210,9 +183,7 @@ fn read_pair(alloc: Global, form: &str, words: &[&str]) -> Result<(u64, Item, It
     Ok((collection, left, read_item(alloc, right)?))
 }
 
-fn read_meet(alloc: Global, words: &[&str]) -> Result<Query, ReadError>
-    ensures { IfOk result IsDistinctQuery }
-{
+fn read_meet(alloc: Global, words: &[&str]) -> Result<Query, ReadError> {
     let (collection, left, right) = read_pair(alloc, "meet COLL ITEM ITEM", words)?;
     Ok(Query::Meet {
         collection,
@@ -221,9 +192,7 @@ fn read_meet(alloc: Global, words: &[&str]) -> Result<Query, ReadError>
     })
 }
 
-fn read_join(alloc: Global, words: &[&str]) -> Result<Query, ReadError>
-    ensures { IfOk result IsDistinctQuery }
-{
+fn read_join(alloc: Global, words: &[&str]) -> Result<Query, ReadError> {
     let (collection, left, right) = read_pair(alloc, "join COLL ITEM ITEM", words)?;
     Ok(Query::Join {
         collection,
@@ -232,9 +201,7 @@ fn read_join(alloc: Global, words: &[&str]) -> Result<Query, ReadError>
     })
 }
 
-fn read_definitions(alloc: Global, words: &[&str]) -> Result<Query, ReadError>
-    ensures { IfOk result IsDistinctQuery }
-{
+fn read_definitions(alloc: Global, words: &[&str]) -> Result<Query, ReadError> {
     let [collection, world] = *words else {
         return Err(misused(alloc, "package COLL wN"));
     };
@@ -244,9 +211,7 @@ fn read_definitions(alloc: Global, words: &[&str]) -> Result<Query, ReadError>
     })
 }
 
-fn read_entry(alloc: Global, words: &[&str]) -> Result<Query, ReadError>
-    ensures { IfOk result IsDistinctQuery }
-{
+fn read_entry(alloc: Global, words: &[&str]) -> Result<Query, ReadError> {
     let [collection, word] = *words else {
         return Err(misused(alloc, "entry COLL ENTRY"));
     };
@@ -257,27 +222,21 @@ fn read_entry(alloc: Global, words: &[&str]) -> Result<Query, ReadError>
     }
 }
 
-fn read_core(alloc: Global, words: &[&str]) -> Result<Query, ReadError>
-    ensures { IfOk result IsDistinctQuery }
-{
+fn read_core(alloc: Global, words: &[&str]) -> Result<Query, ReadError> {
     let [word] = *words else {
         return Err(misused(alloc, "core EXTERN"));
     };
     Ok(Query::Core(read_extern(alloc, word)?))
 }
 
-fn read_kinds(alloc: Global, words: &[&str]) -> Result<Query, ReadError>
-    ensures { IfOk result IsDistinctQuery }
-{
+fn read_kinds(alloc: Global, words: &[&str]) -> Result<Query, ReadError> {
     if !words.is_empty() {
         return Err(misused(alloc, "kinds"));
     }
     Ok(Query::Kinds)
 }
 
-fn read_count(alloc: Global, words: &[&str]) -> Result<Query, ReadError>
-    ensures { IfOk result IsDistinctQuery }
-{
+fn read_count(alloc: Global, words: &[&str]) -> Result<Query, ReadError> {
     let [collection] = *words else {
         return Err(misused(alloc, "count COLL"));
     };
@@ -285,9 +244,11 @@ fn read_count(alloc: Global, words: &[&str]) -> Result<Query, ReadError>
 }
 
 // Reads a query about an item, where the word before its words is one of such a query.
-fn read_item_query(alloc: Global, command: &str, words: &[&str]) -> Result<Option<Query>, ReadError>
-    ensures { IfOk result (λ read. IfSome read IsDistinctQuery) }
-{
+fn read_item_query(
+    alloc: Global,
+    command: &str,
+    words: &[&str],
+) -> Result<Option<Query>, ReadError> {
     let query = match command {
         "tree" => Query::Tree(read_asked_item(alloc, "tree COLL ITEM", words)?),
         "desc" => Query::Desc(read_asked_item(alloc, "desc COLL ITEM", words)?),
@@ -299,9 +260,11 @@ fn read_item_query(alloc: Global, command: &str, words: &[&str]) -> Result<Optio
 }
 
 // Reads a query about names, where the word before its words is one of such a query.
-fn read_name_query(alloc: Global, command: &str, words: &[&str]) -> Result<Option<Query>, ReadError>
-    ensures { IfOk result (λ read. IfSome read IsDistinctQuery) }
-{
+fn read_name_query(
+    alloc: Global,
+    command: &str,
+    words: &[&str],
+) -> Result<Option<Query>, ReadError> {
     let query = match command {
         "track" => read_track(alloc, words)?,
         "compatible" => read_compatible(alloc, words)?,
@@ -317,9 +280,7 @@ pub(crate) fn read_query(
     alloc: Global,
     command: &str,
     words: &[&str],
-) -> Result<Option<Query>, ReadError>
-    ensures { IfOk result (λ read. IfSome read IsDistinctQuery) }
-{
+) -> Result<Option<Query>, ReadError> {
     let query = match command {
         "subtype" => read_subtype(alloc, words)?,
         "coresub" => read_core_subtype(alloc, words)?,

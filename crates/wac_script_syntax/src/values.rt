@@ -1,9 +1,5 @@
 //! Value types, types and items, as words name them.
 
-ghost use Rattle.std.specs.Prelude.{◌≡◌, Some, IfSome};
-ghost use Rattle.wac_model.specs.Desc.{primitive_desc};
-ghost use Rattle.wac_model.specs.declared.primitive.PrimitiveType.{PrimitiveType};
-
 use super::error::{ReadError, unexpected};
 use super::numbers::index_after;
 use std::alloc::Global;
@@ -73,28 +69,32 @@ pub enum EntryWord {
     Module(usize),
 }
 
+// The primitive types.
+const PRIMITIVES: [PrimitiveType; 14] = [
+    PrimitiveType::U8,
+    PrimitiveType::S8,
+    PrimitiveType::U16,
+    PrimitiveType::S16,
+    PrimitiveType::U32,
+    PrimitiveType::S32,
+    PrimitiveType::U64,
+    PrimitiveType::S64,
+    PrimitiveType::F32,
+    PrimitiveType::F64,
+    PrimitiveType::Char,
+    PrimitiveType::Bool,
+    PrimitiveType::String,
+    PrimitiveType::ErrorContext,
+];
+
 // The primitive type of this name.
-fn primitive_of(word: &str) -> Option<PrimitiveType>
-    ensures named { IfSome result (λ p. primitive_desc p ≡ word.now) }
-    ensures all { (p : PrimitiveType) → primitive_desc p ≡ word.now → result ≡ Some p }
-{
-    match word {
-        "u8" => Some(PrimitiveType::U8),
-        "s8" => Some(PrimitiveType::S8),
-        "u16" => Some(PrimitiveType::U16),
-        "s16" => Some(PrimitiveType::S16),
-        "u32" => Some(PrimitiveType::U32),
-        "s32" => Some(PrimitiveType::S32),
-        "u64" => Some(PrimitiveType::U64),
-        "s64" => Some(PrimitiveType::S64),
-        "f32" => Some(PrimitiveType::F32),
-        "f64" => Some(PrimitiveType::F64),
-        "char" => Some(PrimitiveType::Char),
-        "bool" => Some(PrimitiveType::Bool),
-        "string" => Some(PrimitiveType::String),
-        "error-context" => Some(PrimitiveType::ErrorContext),
-        _ => None,
+fn primitive_of(word: &str) -> Option<PrimitiveType> {
+    for primitive in PRIMITIVES {
+        if primitive.desc() == word {
+            return Some(primitive);
+        }
     }
+    None
 }
 
 /// The entry that a word names.

@@ -1,12 +1,9 @@
-use Rattle.std.proofs.Common.{◌≡◌, ◌+◌, ◌*◌, map, take, string_bytes}
+use Rattle.std.proofs.Common.{◌+◌, ◌*◌}
 use Rattle.std.specs.List.{flat_map}
-use Rattle.std.specs.Option.{option_to_list, option_map}
+use Rattle.std.specs.Option.{option_to_list}
 use Rattle.wac_component.specs.Content.{defined_content, types_of, case_types}
 use Rattle.wac_component.specs.Height.{keys_height}
 use Rattle.wac_component.specs.Key.{value_keys, defined_keys}
-use Rattle.wac_component.specs.Tree.{value_tree}
-use Rattle.wac_item_text.specs.ValueText.{value_text, named_text}
-use Rattle.wac_item_text.specs.Members.{case_text}
 use Rattle.wac_item_text.proofs.values.+values.Given as goal
 
 abbrev pub decreases-value_text : goal.decreases-value_text
@@ -29,12 +26,3 @@ decreases-fields_text l = 4 * keys_height l.types.now (flat_map value_keys (type
 
 abbrev pub decreases-cases_text : goal.decreases-cases_text
 decreases-cases_text l = 4 * keys_height l.types.now (flat_map value_keys (case_types l.cases.now.entries)) + 2
-
-abbrev pub invariant-items_text-loop-i : goal.invariant-items_text-loop-i
-invariant-items_text-loop-i l = map string_bytes l.texts.items ≡ map (λ v. value_text (value_tree l.types v)) (take l.i l.items)
-
-abbrev pub invariant-fields_text-loop-i : goal.invariant-fields_text-loop-i
-invariant-fields_text-loop-i l = map string_bytes l.texts.items ≡ map (λ e. named_text (string_bytes e.0) (value_text (value_tree l.types e.1))) (take l.i l.fields.entries)
-
-abbrev pub invariant-cases_text-loop-i : goal.invariant-cases_text-loop-i
-invariant-cases_text-loop-i l = map string_bytes l.texts.items ≡ map (λ e. case_text (string_bytes e.0) (option_map (value_tree l.types) e.1)) (take l.i l.cases.entries)

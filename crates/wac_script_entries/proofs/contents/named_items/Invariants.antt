@@ -1,9 +1,6 @@
-use Rattle.std.proofs.Common.{◌≡◌}
 use Rattle.wac_component.specs.Content.{named}
 use Rattle.wac_component.specs.Key.{AllStand, named_keys, item_keys}
-use Rattle.wac_script_entries.specs.Maps.{listed}
-use Rattle.wac_script_entries.specs.Names.{item_kind}
 use Rattle.wac_script_entries.proofs.contents.named_items.Given as goal
 
 abbrev pub invariant-loop-item : goal.invariant-loop-item
-invariant-loop-item l = (named (λ k. k) l.kinds.entries ≡ listed (item_kind l.types.number) l.yielded) × AllStand l.types (named_keys item_keys (named (λ k. k) l.kinds.entries))
+invariant-loop-item l = AllStand l.types (named_keys item_keys (named (λ k. k) l.kinds.entries))

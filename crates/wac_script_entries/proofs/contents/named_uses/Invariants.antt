@@ -1,9 +1,6 @@
-use Rattle.std.proofs.Common.{◌≡◌}
 use Rattle.wac_component.specs.Content.{named, use_content}
 use Rattle.wac_component.specs.Key.{AllStand, named_keys, use_keys}
-use Rattle.wac_script_entries.specs.Maps.{listed}
-use Rattle.wac_script_entries.specs.Names.{used_content}
 use Rattle.wac_script_entries.proofs.contents.named_uses.Given as goal
 
 abbrev pub invariant-loop-used : goal.invariant-loop-used
-invariant-loop-used l = (named use_content l.found.entries ≡ listed (used_content l.types.number) l.yielded) × AllStand l.types (named_keys use_keys (named use_content l.found.entries))
+invariant-loop-used l = AllStand l.types (named_keys use_keys (named use_content l.found.entries))

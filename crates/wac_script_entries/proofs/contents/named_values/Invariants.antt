@@ -1,9 +1,6 @@
-use Rattle.std.proofs.Common.{◌≡◌}
 use Rattle.wac_component.specs.Content.{named}
 use Rattle.wac_component.specs.Key.{AllStand, named_keys, value_keys}
-use Rattle.wac_script_entries.specs.Maps.{listed}
-use Rattle.wac_script_entries.specs.Names.{value_type}
 use Rattle.wac_script_entries.proofs.contents.named_values.Given as goal
 
 abbrev pub invariant-loop-value : goal.invariant-loop-value
-invariant-loop-value l = (named (λ t. t) l.found.entries ≡ listed (value_type l.types.number) l.yielded) × AllStand l.types (named_keys value_keys (named (λ t. t) l.found.entries))
+invariant-loop-value l = AllStand l.types (named_keys value_keys (named (λ t. t) l.found.entries))

@@ -1,8 +1,6 @@
-use Rattle.std.proofs.Common.{◌≡◌, map}
 use Rattle.std.specs.List.{flat_map}
 use Rattle.wac_component.specs.Key.{AllStand, value_keys}
-use Rattle.wac_script_entries.specs.Names.{value_type}
 use Rattle.wac_script_entries.proofs.definitions.value_types.Given as goal
 
 abbrev pub invariant-loop-value : goal.invariant-loop-value
-invariant-loop-value l = (l.found.items ≡ map (value_type l.types.number) l.yielded) × AllStand l.types (flat_map value_keys l.found.items)
+invariant-loop-value l = AllStand l.types (flat_map value_keys l.found.items)

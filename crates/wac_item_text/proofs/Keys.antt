@@ -1,32 +1,24 @@
--- The texts of named items, and the ids in them.
-use Rattle.std.proofs.Common.{◌≡◌, ◌≤◌, ℕ, List, [], ◌∷◌, Some, map, suc, zero, slice_get, refl, ap, string_bytes, arith}
+-- The ids in what is named, and in what may be there.
+use Rattle.std.proofs.Common.{◌≡◌, ◌≤◌, ℕ, List, [], ◌∷◌, ◌++◌, Option, Some, None, suc, zero, slice_get, refl, ap, arith}
+use Rattle.std.specs.List.{flat_map}
+use Rattle.std.specs.Option.{option_to_list}
 use Rattle.std.specs.declared.string.String.{String}
 use Rattle.std.specs.declared.alloc.Global.{Global}
-use Rattle.wac_component.specs.Collection.{Collection}
+use Rattle.std.proofs.lemmas.List.{append-nil}
 use Rattle.wac_component.specs.Content.{named, types_of}
 use Rattle.wac_component.specs.Height.{largest}
-use Rattle.wac_component.specs.Items.{type_of}
-use Rattle.wac_component.specs.Key.{Key, Each, item_keys, named_keys}
-use Rattle.wac_component.specs.Tree.{item_tree, type_tree, items_of}
+use Rattle.wac_component.specs.Key.{Key, Each, item_keys, named_keys, optional_keys, value_keys}
 use Rattle.wac_component.specs.declared.items.ItemKind.{ItemKind}
-use Rattle.wac_component.specs.declared.items.ItemKind.TheVariants.{«Type» as OfType, Func, Instance, Component, Module, Value}
+use Rattle.wac_component.specs.declared.items.ValueType.{ValueType}
 use Rattle.wac_component.proofs.Keys.{Each-left, Each-right, largest-append}
-use Rattle.wac_model.specs.ItemTree.{ItemTree}
-use Rattle.wac_item_text.specs.TreeText.{item_text, type_text, entry_texts}
-use Rattle.wac_item_text.specs.ValueText.{named_text}
 
-pub entries_said : (f : ItemKind → ItemTree) (es : List (String Global × ItemKind)) → entry_texts (items_of f (named (λ k. k) es)) ≡ map (λ e. (string_bytes e.0, named_text (string_bytes e.0) (item_text (f e.1)))) es
-entries_said f [] = refl
-entries_said f (e ∷ es) = ap (λ ts. (string_bytes e.0, named_text (string_bytes e.0) (item_text (f e.1))) ∷ ts) (entries_said f es)
+pub param_keys : (es : List (String Global × ValueType)) → named_keys value_keys (named (λ v. v) es) ≡ flat_map value_keys (types_of es)
+param_keys [] = refl
+param_keys (e ∷ es) = ap (λ ks. value_keys e.1 ++ ks) (param_keys es)
 
--- an item has the text of its type
-pub type_said : (c : Collection) (i : ItemKind) → type_text (type_tree c (type_of i)) ≡ type_text (item_tree c i)
-type_said c (OfType t) = refl
-type_said c (Func p) = refl
-type_said c (Instance p) = refl
-type_said c (Component p) = refl
-type_said c (Module p) = refl
-type_said c (Value v) = refl
+pub result_keys : (o : Option ValueType) → flat_map value_keys (option_to_list o) ≡ optional_keys value_keys o
+result_keys None = refl
+result_keys (Some v) = append-nil (value_keys v)
 
 -- the ids in one of named items
 pub item_stands : (P : Key → Type 0) (es : List (String Global × ItemKind)) (i : ℕ) (v : ItemKind) → slice_get (types_of es) i ≡ Some v → Each P (named_keys item_keys (named (λ k. k) es)) → Each P (item_keys v)

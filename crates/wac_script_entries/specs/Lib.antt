@@ -1,5 +1,0 @@
-pub mod Names
-pub mod Maps
-pub mod Contents
-pub mod Replacing
-pub mod Words

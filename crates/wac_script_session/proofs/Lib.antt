@@ -1,5 +1,0 @@
-mod AnswerLemmas
-mod ErrorLemmas
-mod StateLemmas
-mod TruthLemmas
-mod VisitLemmas

@@ -1,2 +1,0 @@
-mod NameWords
-mod DistinctImports
