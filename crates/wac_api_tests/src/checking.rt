@@ -1,6 +1,6 @@
 //! What stays over several calls of a checker: the pairs in its cache, its direction and its depth.
 
-use super::building::{BYTE, ELSEWHERE, add_functions, add_world};
+use super::building::{BYTE, ELSEWHERE, built, world};
 use super::showing::assert_shows;
 use std::alloc::Global;
 use std::collections::HashSet;
@@ -22,12 +22,19 @@ struct Side {
     item: ItemKind,
 }
 
-// A component that imports an instance of these functions.
-fn component(alloc: Global, number: u64, names: &[&str]) -> Result<Side, Fail> {
-    let mut types = Types::new(alloc, number);
-    let instance = ItemKind::Instance(add_functions(alloc, &mut types, names)?);
-    let world = add_world(alloc, &mut types, &[("x", instance)], &[])?;
-    let item = ItemKind::Component(world);
+// A component that imports an instance of f.
+const LESS: [&str; 3] = ["func sync -", "iface - e:f=F:fn0", "world - m:x=I:i0"];
+
+// A component that imports an instance of f and g.
+const MORE: [&str; 3] = [
+    "func sync -",
+    "iface - e:f=F:fn0 e:g=F:fn0",
+    "world - m:x=I:i0",
+];
+
+fn component(alloc: Global, number: u64, lines: &[&str]) -> Result<Side, Fail> {
+    let types = built(alloc, number, lines)?;
+    let item = ItemKind::Component(world(&types, 0)?);
     Ok(Side { types, item })
 }
 
@@ -75,8 +82,8 @@ fn ask_over<R: Abort>(
 #[test]
 fn the_pair_that_was_asked_is_remembered_after_a_yes_alone(rt: HostRuntime) -> Result<(), Fail> {
     let alloc = rt.alloc();
-    let less = component(alloc, 1, &["f"])?;
-    let more = component(alloc, 2, &["f", "g"])?;
+    let less = component(alloc, 1, &LESS)?;
+    let more = component(alloc, 2, &MORE)?;
     let mut cache = HashSet::new(alloc);
     ask_over(&rt, alloc, &mut cache, &more, &less, COVARIANT)?;
     assert!(&rt; cache.is_empty());
@@ -95,8 +102,8 @@ fn forget(cache: &mut Cache, number: u64) {
 #[test]
 fn pairs_with_an_id_of_a_collection_are_forgotten(rt: HostRuntime) -> Result<(), Fail> {
     let alloc = rt.alloc();
-    let one = component(alloc, 1, &["f"])?;
-    let two = component(alloc, 2, &["f"])?;
+    let one = component(alloc, 1, &LESS)?;
+    let two = component(alloc, 2, &LESS)?;
     let byte = ItemKind::Value(BYTE);
     let mut cache = HashSet::new(alloc);
     cache.insert((byte, byte))?;
@@ -148,8 +155,8 @@ fn revert(checker: &mut SubtypeChecker) -> Result<(), Fail> {
 #[test]
 fn the_direction_is_turned_and_outlasts_a_refused_import(rt: HostRuntime) -> Result<(), Fail> {
     let alloc = rt.alloc();
-    let less = component(alloc, 1, &["f"])?;
-    let more = component(alloc, 2, &["f", "g"])?;
+    let less = component(alloc, 1, &LESS)?;
+    let more = component(alloc, 2, &MORE)?;
     let sides = (&less, &more);
     let mut cache = HashSet::new(alloc);
     let mut checker = SubtypeChecker::new(&mut cache);

@@ -1,54 +1,38 @@
 //! What collections hold, in order, and what the entries and their clones show.
 
-use super::building::{
-    BYTE, ELSEWHERE, Ids, add_defined, add_each, add_func, add_resource, externs, put_interface,
-    put_world, resource, used_from,
-};
+use super::building::built;
 use super::showing::assert_lists;
-use indexmap::{IndexMap, IndexSet};
-use std::alloc::Global;
 use std::test::Fail;
-use wac_types::{
-    CoreExtern, CoreFuncType, CoreRefType, CoreType, DefinedType, Enum, Flags, HeapType, Interface,
-    ItemKind, ModuleType, Record, ResourceAlias, Type, Types, ValueType, Variant, World,
-};
+use wac_types::{Type, Types};
 
-// The defined types that hold no names, of a list that is there.
-fn add_plain_types(alloc: Global, types: &mut Types, list: ValueType) -> Result<(), Fail> {
-    let (ok, err) = (Some(BYTE), None);
-    for content in [
-        DefinedType::Tuple(vec![in alloc; list, BYTE]?),
-        DefinedType::FixedSizeList(BYTE, 4),
-        DefinedType::Option(list),
-        DefinedType::Result { ok, err },
-        DefinedType::Alias(list),
-        DefinedType::Stream(Some(BYTE)),
-        DefinedType::Future(None),
-    ] {
-        add_defined(types, content)?;
-    }
-    Ok(())
-}
+// An entry of each sort, others that name those, and defined types of each kind.
+static LINES: [&str; 22] = [
+    "def list u8",
+    "res file",
+    "func sync -",
+    "iface -",
+    "world -",
+    "module",
+    "res other r0 i0",
+    "func async u8 x=u8",
+    "iface p:i/n u:t=i0=u e:x=I:i0",
+    "world p:w/n u:t=i0=u m:i=I:i0 e:c=C:w0",
+    "module m:e,t=table:null.3:1:4:1:0 e:x=tag:i32:",
+    "def tuple d0 u8",
+    "def fixed u8 4",
+    "def option d0",
+    "def result u8 -",
+    "def alias d0",
+    "def stream u8",
+    "def future -",
+    "def variant a=- b=u8",
+    "def record a=u8",
+    "def flags a b",
+    "def enum a b",
+];
 
-fn names(alloc: Global) -> Result<IndexSet<String>, Fail> {
-    let mut names = IndexSet::new(alloc);
-    names.insert(String::from_str(alloc, "a")?)?;
-    names.insert(String::from_str(alloc, "b")?)?;
-    Ok(names)
-}
-
-// The defined types that hold names.
-fn add_named_types(alloc: Global, types: &mut Types) -> Result<(), Fail> {
-    let mut cases = IndexMap::new(alloc);
-    cases.insert(String::from_str(alloc, "a")?, None)?;
-    cases.insert(String::from_str(alloc, "b")?, Some(BYTE))?;
-    add_defined(types, DefinedType::Variant(Variant { cases }))?;
-    let mut fields = IndexMap::new(alloc);
-    fields.insert(String::from_str(alloc, "a")?, BYTE)?;
-    add_defined(types, DefinedType::Record(Record { fields }))?;
-    add_defined(types, DefinedType::Flags(Flags(names(alloc)?)))?;
-    add_defined(types, DefinedType::Enum(Enum(names(alloc)?)))?;
-    Ok(())
+fn lines() -> &'static [&'static str] {
+    &LINES
 }
 
 static DEFINED: [&str; 12] = [
@@ -90,69 +74,16 @@ const EMPTY_WORLD: &str = "World { id: None, uses: {}, imports: {}, exports: {} 
 const WORLD: &str =
     "World { id: Some(\"p:w/n\"), uses: {\"t\": UsedType { interface: InterfaceId { number: 7, index: 0 }, name: Some(\"u\") }}, imports: {\"i\": Instance(InterfaceId { number: 7, index: 0 })}, exports: {\"c\": Component(WorldId { number: 7, index: 0 })} }";
 
-// A core module that imports a table and exports a tag.
-fn module(alloc: Global) -> Result<ModuleType, Fail> {
-    let (nullable, heap_type) = (true, HeapType::Concrete(3));
-    let table = CoreExtern::Table {
-        element_type: CoreRefType {
-            nullable,
-            heap_type,
-        },
-        initial: 1,
-        maximum: Some(4),
-        table64: true,
-        shared: false,
-    };
-    let mut func = CoreFuncType::new(alloc);
-    func.params.push(CoreType::I32)?;
-    let mut module = ModuleType::new(alloc);
-    let import = (String::from_str(alloc, "e")?, String::from_str(alloc, "t")?);
-    module.imports.insert(import, table)?;
-    let export = String::from_str(alloc, "x")?;
-    module.exports.insert(export, CoreExtern::Tag(func))?;
-    Ok(module)
-}
-
 const EMPTY_MODULE: &str = "ModuleType { imports: {}, exports: {} }";
 
 const MODULE: &str =
     "ModuleType { imports: {(\"e\", \"t\"): Table { element_type: CoreRefType { nullable: true, heap_type: Concrete(3) }, initial: 1, maximum: Some(4), table64: true, shared: false }}, exports: {\"x\": Tag(CoreFuncType { params: [I32], results: [] })} }";
 
-// Adds a resource that is another name of one of those, a function and a core module.
-fn add_more(alloc: Global, types: &mut Types, ids: &Ids) -> Result<(), Fail> {
-    let (owner, source) = (Some(ids.interface), ids.resource);
-    let other = resource(alloc, "other", Some(ResourceAlias { owner, source }))?;
-    add_resource(types, other)?;
-    add_func(alloc, types, true)?;
-    types.add_module_type(module(alloc)?)?;
-    Ok(())
-}
-
-// Adds an interface and a world that name those.
-fn add_composites(alloc: Global, types: &mut Types, ids: &Ids) -> Result<(), Fail> {
-    let interface = Interface {
-        id: Some(String::from_str(alloc, "p:i/n")?),
-        uses: used_from(alloc, ids.interface)?,
-        exports: externs(alloc, &[("x", ItemKind::Instance(ids.interface))])?,
-    };
-    put_interface(types, interface)?;
-    let world = World {
-        id: Some(String::from_str(alloc, "p:w/n")?),
-        uses: used_from(alloc, ids.interface)?,
-        imports: externs(alloc, &[("i", ItemKind::Instance(ids.interface))])?,
-        exports: externs(alloc, &[("c", ItemKind::Component(ids.world))])?,
-    };
-    put_world(types, world)?;
-    Ok(())
-}
-
 #[test]
 fn entries_are_listed_in_order_and_cloned(rt: HostRuntime) -> Result<(), Fail> {
     let alloc = rt.alloc();
-    let mut types = Types::new(alloc, 7);
-    let ids = add_each(alloc, &mut types)?;
-    add_more(alloc, &mut types, &ids)?;
-    add_composites(alloc, &mut types, &ids)?;
+    let types = built(alloc, 7, lines())?;
+    assert_lists(&rt, alloc, types.defined_types(), defined_texts())?;
     assert_lists(&rt, alloc, types.resources(), &[FILE, OTHER_FILE])?;
     assert_lists(&rt, alloc, types.func_types(), &[PLAIN, ON_BYTES])?;
     assert_lists(
@@ -162,25 +93,22 @@ fn entries_are_listed_in_order_and_cloned(rt: HostRuntime) -> Result<(), Fail> {
         &[EMPTY_INTERFACE, INTERFACE],
     )?;
     assert_lists(&rt, alloc, types.worlds(), &[EMPTY_WORLD, WORLD])?;
-    assert_lists(&rt, alloc, types.modules(), &[EMPTY_MODULE, MODULE])?;
-    add_plain_types(alloc, &mut types, ValueType::Defined(ids.defined))?;
-    add_named_types(alloc, &mut types)?;
-    assert_lists(&rt, alloc, types.defined_types(), defined_texts())
+    assert_lists(&rt, alloc, types.modules(), &[EMPTY_MODULE, MODULE])
 }
 
 #[test]
 fn entries_are_found_by_id(rt: HostRuntime) -> Result<(), Fail> {
-    let alloc = rt.alloc();
-    let mut types = Types::new(alloc, 7);
-    let ids = add_each(alloc, &mut types)?;
-    if !types.contains(Type::Resource(ids.resource)) || !types.contains(Type::Func(ids.func)) {
-        return Err(Fail::new(ELSEWHERE));
-    }
-    assert_eq!(&rt; types[ids.resource].name.as_str(), "file");
-    assert!(&rt; !types[ids.func].is_async);
+    let types = built(rt.alloc(), 7, lines())?;
+    let (Some(file), Some(func)) = (types.resource_at(0), types.func_type_at(1)) else {
+        return Err(Fail::new("an entry isn't there"));
+    };
+    assert_eq!(&rt; types[file].name.as_str(), "file");
+    assert!(&rt; types[func].is_async);
     // the number alone isn't enough
-    assert!(&rt; !Types::new(alloc, 7).contains(Type::Func(ids.func)));
-    let module = types.add_module_type(module(alloc)?)?;
+    assert!(&rt; !Types::new(rt.alloc(), 7).contains(Type::Func(func)));
+    let Some(module) = types.module_type_at(1) else {
+        return Err(Fail::new("the core module isn't there"));
+    };
     assert!(&rt; types[module].exports.contains_key("x"));
     Ok(())
 }

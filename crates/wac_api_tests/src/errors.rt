@@ -1,30 +1,31 @@
 //! Refusals as values: their frames, their fault, and their texts.
 
-use super::building::{BYTE, ELSEWHERE, add_defined};
+ghost use Rattle.wac_component.specs.Key.{Stands, defined_key};
+
+use super::building::{built, defined};
 use super::showing::{assert_debug, assert_shows};
 use std::alloc::Global;
 use std::collections::HashSet;
 use std::test::Fail;
 use wac_types::{
-    DefinedType, DefinedTypeId, Fault, Frame, ItemKind, PrimitiveType, SubtypeChecker,
-    SubtypeError, Types, ValueType,
+    DefinedTypeId, Fault, Frame, ItemKind, SubtypeChecker, SubtypeError, Types, ValueType,
 };
 
-const SIGNED: ValueType = ValueType::Primitive(PrimitiveType::S8);
-
-// A list of options of a type.
-fn add_options(types: &mut Types, of: &ValueType) -> Result<DefinedTypeId, Fail> {
-    let option = add_defined(types, DefinedType::Option(*of))?;
-    add_defined(types, DefinedType::List(ValueType::Defined(option)))
-}
-
-fn refusal(alloc: Global, types: &Types, a: &ItemKind, b: &ItemKind) -> Result<SubtypeError, Fail> {
-    if !types.contains_item(*a) || !types.contains_item(*b) {
-        return Err(Fail::new(ELSEWHERE));
-    }
+// Why a value of one defined type doesn't fit where one of another is asked for.
+fn refusal(
+    alloc: Global,
+    types: &Types,
+    a: DefinedTypeId,
+    b: DefinedTypeId,
+) -> Result<SubtypeError, Fail>
+    requires left { Stands types.now (defined_key a) }
+    requires right { Stands types.now (defined_key b) }
+{
+    let a = ItemKind::Value(ValueType::Defined(a));
+    let b = ItemKind::Value(ValueType::Defined(b));
     let mut cache = HashSet::new(alloc);
     let mut checker = SubtypeChecker::new(&mut cache);
-    match checker.is_subtype(alloc, *a, types, *b, types) {
+    match checker.is_subtype(alloc, a, types, b, types) {
         Ok(()) => Err(Fail::new("the item fits")),
         Err(error) => Ok(error),
     }
@@ -33,10 +34,14 @@ fn refusal(alloc: Global, types: &Types, a: &ItemKind, b: &ItemKind) -> Result<S
 #[test]
 fn frames_lead_from_the_outermost_place_to_the_fault(rt: HostRuntime) -> Result<(), Fail> {
     let alloc = rt.alloc();
-    let mut types = Types::new(alloc, 1);
-    let a = ItemKind::Value(ValueType::Defined(add_options(&mut types, &BYTE)?));
-    let b = ItemKind::Value(ValueType::Defined(add_options(&mut types, &SIGNED)?));
-    let error = refusal(alloc, &types, &a, &b)?;
+    let lines = [
+        "def option u8",
+        "def list d0",
+        "def option s8",
+        "def list d2",
+    ];
+    let types = built(alloc, 1, &lines)?;
+    let error = refusal(alloc, &types, defined(&types, 1)?, defined(&types, 3)?)?;
     let (expected, found) = ("s8", "u8");
     assert!(&rt; error.frames() == [Frame::ListElement, Frame::Option].as_slice());
     assert!(&rt; error.fault() == Some(&Fault::Kind { expected, found }));

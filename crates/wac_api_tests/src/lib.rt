@@ -13,6 +13,8 @@ mod collections;
 #[cfg(test)]
 mod errors;
 #[cfg(test)]
+mod first_use;
+#[cfg(test)]
 mod ids;
 #[cfg(test)]
 mod name_maps;

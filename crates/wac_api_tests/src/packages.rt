@@ -1,6 +1,6 @@
 //! What a package holds, and what is added for it.
 
-use super::building::{ELSEWHERE, add_functions, add_world};
+use super::building::{ELSEWHERE, built, world};
 use super::package_keys::version;
 use super::showing::assert_debug;
 use semver::Version;
@@ -13,17 +13,12 @@ use wac_types::{
 
 // A world that imports an instance as `in` and exports it as `out`, and exports the type of a world that
 // exports it under the name of an interface as `d`.
-fn add_plug(alloc: Global, types: &mut Types) -> Result<WorldId, Fail> {
-    let instance = ItemKind::Instance(add_functions(alloc, types, &["f"])?);
-    let inner = add_world(alloc, types, &[], &[("wasi:http/types", instance)])?;
-    let d = ItemKind::Type(Type::World(inner));
-    add_world(
-        alloc,
-        types,
-        &[("in", instance)],
-        &[("out", instance), ("d", d)],
-    )
-}
+const PLUG: [&str; 4] = [
+    "func sync -",
+    "iface - e:f=F:fn0",
+    "world - e:wasi:http/types=I:i0",
+    "world - m:in=I:i0 e:out=I:i0 e:d=T:w0",
+];
 
 // A package of three bytes, and what it was made of.
 #[derive(Drop)]
@@ -34,11 +29,8 @@ struct Made {
 }
 
 fn make_package(alloc: Global, version: Option<&Version>) -> Result<Made, Fail> {
-    let mut types = Types::new(alloc, 1);
-    let world = add_plug(alloc, &mut types)?;
-    if !types.contains(Type::World(world)) {
-        return Err(Fail::new(ELSEWHERE));
-    }
+    let mut types = built(alloc, 1, &PLUG)?;
+    let world = world(&types, 1)?;
     let bytes = vec![in alloc; 0, 97, 115]?;
     let package = Package::from_world(alloc, "a:b", version, bytes, &mut types, world)?;
     Ok(Made {

@@ -1,8 +1,6 @@
 //! What replacing an entry answers where that would close a cycle: the content is handed back, and nothing changes.
 
-use super::building::{
-    BYTE, ELSEWHERE, add_each, add_interface, externs, put_interface, used_from,
-};
+use super::building::{BYTE, ELSEWHERE, built, defined, interface, world};
 use super::showing::assert_debug;
 use std::alloc::Global;
 use std::fmt::Debug;
@@ -10,7 +8,7 @@ use std::process::Abort;
 use std::test::Fail;
 use wac_types::{
     DefinedType, DefinedTypeId, Interface, InterfaceId, ItemKind, ReplaceError, Type, Types,
-    ValueType, World, WorldId,
+    UsedType, ValueType, World, WorldId,
 };
 
 type Replaced<T> = Result<(), ReplaceError<T>>;
@@ -48,8 +46,17 @@ fn replace_world(types: &mut Types, id: WorldId, world: World) -> Result<Replace
 // A world that imports this.
 fn importing(alloc: Global, item: ItemKind) -> Result<World, Fail> {
     let mut world = World::new(alloc);
-    world.imports = externs(alloc, &[("x", item)])?;
+    world.imports.insert(String::from_str(alloc, "x")?, item)?;
     Ok(world)
+}
+
+// An interface that uses the type u of another as t.
+fn using(alloc: Global, interface: InterfaceId) -> Result<Interface, Fail> {
+    let name = Some(String::from_str(alloc, "u")?);
+    let mut user = Interface::new(alloc);
+    let used = UsedType { interface, name };
+    user.uses.insert(String::from_str(alloc, "t")?, used)?;
+    Ok(user)
 }
 
 // Asserts that a content is handed back, and that the collection shows what it did.
@@ -74,15 +81,16 @@ fn a_type_and_a_world_that_would_hold_themselves_are_handed_back(
     rt: HostRuntime,
 ) -> Result<(), Fail> {
     let alloc = rt.alloc();
-    let mut types = Types::new(alloc, 1);
-    let ids = add_each(alloc, &mut types)?;
+    let mut types = built(alloc, 1, &["def list u8", "world -"])?;
     let before = format!(in alloc; "{types:?}")?;
-    let content = DefinedType::Option(ValueType::Defined(ids.defined));
-    let answer = replace_defined(&mut types, ids.defined, content)?;
+    let list = defined(&types, 0)?;
+    let content = DefinedType::Option(ValueType::Defined(list));
+    let answer = replace_defined(&mut types, list, content)?;
     let wanted = "Option(Defined(DefinedTypeId { number: 1, index: 0 }))";
     assert_back(&rt, alloc, &types, &before, answer, wanted)?;
-    let content = importing(alloc, ItemKind::Component(ids.world))?;
-    let answer = replace_world(&mut types, ids.world, content)?;
+    let id = world(&types, 0)?;
+    let content = importing(alloc, ItemKind::Component(id))?;
+    let answer = replace_world(&mut types, id, content)?;
     let wanted =
         "World { id: None, uses: {}, imports: {\"x\": Component(WorldId { number: 1, index: 0 })}, exports: {} }";
     assert_back(&rt, alloc, &types, &before, answer, wanted)
@@ -91,14 +99,10 @@ fn a_type_and_a_world_that_would_hold_themselves_are_handed_back(
 #[test]
 fn an_interface_that_would_use_its_user_is_handed_back(rt: HostRuntime) -> Result<(), Fail> {
     let alloc = rt.alloc();
-    let mut types = Types::new(alloc, 1);
-    let used = add_interface(alloc, &mut types, &[])?;
-    let mut user = Interface::new(alloc);
-    user.uses = used_from(alloc, used)?;
-    let user = put_interface(&mut types, user)?;
+    let mut types = built(alloc, 1, &["iface -", "iface - u:t=i0=u"])?;
     let before = format!(in alloc; "{types:?}")?;
-    let mut content = Interface::new(alloc);
-    content.uses = used_from(alloc, user)?;
+    let used = interface(&types, 0)?;
+    let content = using(alloc, interface(&types, 1)?)?;
     let answer = replace_interface(&mut types, used, content)?;
     let wanted =
         "Interface { id: None, uses: {\"t\": UsedType { interface: InterfaceId { number: 1, index: 1 }, name: Some(\"u\") }}, exports: {} }";

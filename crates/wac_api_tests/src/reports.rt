@@ -1,38 +1,28 @@
 //! Reports of components that don't fit a target world: their parts as values, and their text.
 
-use super::building::{ELSEWHERE, add_func, add_functions, add_world, put_world, used_from};
+use super::building::{built, interface, world};
 use super::showing::assert_shows;
 use std::alloc::Global;
 use std::process::Abort;
 use std::test::Fail;
 use wac_types::{
     ExternKind, Fault, InterfaceId, ItemKind, TargetError, TargetValidationReport,
-    TargetValidationResult, Type, Types, World, WorldId, validate_target,
+    TargetValidationResult, validate_target,
 };
 
-fn answer(
-    alloc: Global,
-    types: &Types,
-    target: &WorldId,
-    component: &WorldId,
-) -> Result<Result<TargetValidationResult, TargetError>, Fail> {
-    if !types.contains(Type::World(*target)) || !types.contains(Type::World(*component)) {
-        return Err(Fail::new(ELSEWHERE));
-    }
-    Ok(validate_target(alloc, types, *target, *component))
-}
+// A target world, and a component of which a report has all three parts, the names in them not in the order
+// of the worlds.
+const UNFIT: [&str; 5] = [
+    "func sync -",
+    "func async u8 x=u8",
+    "iface - e:f=F:fn0",
+    "world - m:m=F:fn0 e:w=I:i0 e:v=F:fn0 e:B=F:fn0",
+    "world - m:y=F:fn0 m:m=F:fn1 m:x=F:fn0 e:v=F:fn1",
+];
 
-// A report of all three parts, the names in them not in the order of the worlds.
 fn full_report(alloc: Global) -> Result<TargetValidationReport, Fail> {
-    let mut types = Types::new(alloc, 1);
-    let plain = ItemKind::Func(add_func(alloc, &mut types, false)?);
-    let on_bytes = ItemKind::Func(add_func(alloc, &mut types, true)?);
-    let instance = ItemKind::Instance(add_functions(alloc, &mut types, &["f"])?);
-    let exports = [("w", instance), ("v", plain), ("B", plain)];
-    let target = add_world(alloc, &mut types, &[("m", plain)], &exports)?;
-    let imports = [("y", plain), ("m", on_bytes), ("x", plain)];
-    let component = add_world(alloc, &mut types, &imports, &[("v", on_bytes)])?;
-    match answer(alloc, &types, &target, &component)? {
+    let types = built(alloc, 1, &UNFIT)?;
+    match validate_target(alloc, &types, world(&types, 0)?, world(&types, 1)?) {
         Ok(Err(report)) => Ok(report),
         _ => Err(Fail::new("nothing is reported")),
     }
@@ -115,22 +105,23 @@ fn assert_names<R: Abort>(
     Ok(())
 }
 
+// A world that uses an interface without identifier, and an empty one.
+const UNNAMED: [&str; 5] = [
+    "func sync -",
+    "iface -",
+    "iface - e:f=F:fn0",
+    "world - u:t=i1=u",
+    "world -",
+];
+
 #[test]
 fn a_used_interface_without_identifier_is_named(rt: HostRuntime) -> Result<(), Fail> {
     let alloc = rt.alloc();
-    let mut types = Types::new(alloc, 1);
-    add_functions(alloc, &mut types, &[])?;
-    let used = add_functions(alloc, &mut types, &["f"])?;
-    let mut world = World::new(alloc);
-    world.uses = used_from(alloc, used)?;
-    let user = put_world(&mut types, world)?;
-    let plain = add_world(alloc, &mut types, &[], &[])?;
-    match answer(alloc, &types, &user, &plain)? {
+    let types = built(alloc, 1, &UNNAMED)?;
+    let (user, used) = (world(&types, 0)?, interface(&types, 1)?);
+    match validate_target(alloc, &types, user, world(&types, 1)?) {
         Err(error) => assert_names(&rt, alloc, &error, &used)?,
         Ok(_) => return Err(Fail::new("the target is checked")),
-    }
-    if !types.contains(Type::World(user)) {
-        return Err(Fail::new(ELSEWHERE));
     }
     match types[user].implicit_imported_interfaces(alloc, &types) {
         Err(error) => assert_names(&rt, alloc, &error, &used)?,

@@ -59,6 +59,7 @@ def record a%20b=u8 a%20b=u8 => the name `a%20b` stands twice
 module m:a,b=func:: m:a,b=tag:: => the name `a,b` stands twice
 call a 1 F:fn0 => expected a command, found `call`
 coll  1 => expected single spaces between words, found `coll  1`
+coll 1  => expected single spaces between words, found `coll 1 `
   => expected single spaces between words, found ` `
 coll 1 2 => expected `coll N`
 cache => expected `cache keep|drop`

@@ -1,10 +1,12 @@
 //! Visits, whose visitors may end them by an error of their own.
 
-use super::building::{BYTE, ELSEWHERE, add_defined};
+ghost use Rattle.wac_component.specs.Key.{Stands, defined_key};
+
+use super::building::{built, defined};
 use std::alloc::Global;
 use std::process::Abort;
 use std::test::Fail;
-use wac_types::{DefinedType, DefinedTypeId, Type, Types, ValueType};
+use wac_types::{DefinedTypeId, Type, Types, ValueType};
 
 // The index at which a visit was ended.
 #[derive(Debug, Drop)]
@@ -15,14 +17,13 @@ fn check_visit<R: Abort>(
     rt: &R,
     alloc: Global,
     types: &Types,
-    ty: ValueType,
+    ty: DefinedTypeId,
     last: usize,
     wanted: (&[usize], Option<usize>),
-) -> Result<(), Fail> {
-    let ty = Type::Value(ty);
-    if !types.contains(ty) {
-        return Err(Fail::new(ELSEWHERE));
-    }
+)
+    requires { Stands types.now (defined_key ty) }
+{
+    let ty = Type::Value(ValueType::Defined(ty));
     let mut seen = Vec::new(alloc);
     let mut visitor = |_: &Types, id: DefinedTypeId| -> Result<(), Ended> {
         let index = id.index();
@@ -38,18 +39,16 @@ fn check_visit<R: Abort>(
     };
     assert_eq!(rt; seen.as_slice(), wanted.0);
     assert_eq!(rt; ended, wanted.1);
-    Ok(())
 }
 
 #[test]
 fn the_error_of_a_visitor_ends_the_visit_and_is_its_answer(rt: HostRuntime) -> Result<(), Fail> {
     let alloc = rt.alloc();
-    let mut types = Types::new(alloc, 1);
-    let first = ValueType::Defined(add_defined(&mut types, DefinedType::List(BYTE))?);
-    let second = ValueType::Defined(add_defined(&mut types, DefinedType::List(BYTE))?);
-    let items = vec![in alloc; first, BYTE, second, first]?;
-    let tuple = ValueType::Defined(add_defined(&mut types, DefinedType::Tuple(items))?);
-    check_visit(&rt, alloc, &types, tuple, 9, (&[2, 0, 1, 0], None))?;
-    check_visit(&rt, alloc, &types, tuple, 1, (&[2, 0, 1], Some(1)))?;
-    check_visit(&rt, alloc, &types, tuple, 2, (&[2], Some(2)))
+    let lines = ["def list u8", "def list u8", "def tuple d0 u8 d1 d0"];
+    let types = built(alloc, 1, &lines)?;
+    let tuple = defined(&types, 2)?;
+    check_visit(&rt, alloc, &types, tuple, 9, (&[2, 0, 1, 0], None));
+    check_visit(&rt, alloc, &types, tuple, 1, (&[2, 0, 1], Some(1)));
+    check_visit(&rt, alloc, &types, tuple, 2, (&[2], Some(2)));
+    Ok(())
 }

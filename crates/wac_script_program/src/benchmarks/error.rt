@@ -2,13 +2,15 @@
 
 use std::alloc::{AllocError, AllocFailed};
 use std::{error, fmt, io};
+use wac_script_entries::EntryError;
+use wac_script_syntax::ReadError;
 
 /// Why nothing was measured.
 #[derive(Debug, Drop)]
 pub enum BenchError {
     /// The work gave an answer that is not its answer.
     Answer,
-    /// The input names an entry of another collection.
+    /// The input could not be built.
     Input,
     /// The clock could not be read.
     Clock,
@@ -28,6 +30,24 @@ impl<T: Drop> From<AllocFailed<T>> for BenchError {
     }
 }
 
+impl From<ReadError> for BenchError {
+    fn from(error: ReadError) -> BenchError {
+        match error {
+            ReadError::Malformed(_) => BenchError::Input,
+            ReadError::Memory => BenchError::Memory,
+        }
+    }
+}
+
+impl From<EntryError> for BenchError {
+    fn from(error: EntryError) -> BenchError {
+        match error {
+            EntryError::NoEntry(_) => BenchError::Input,
+            EntryError::Memory => BenchError::Memory,
+        }
+    }
+}
+
 impl From<io::Error> for BenchError {
     fn from(_error: io::Error) -> BenchError {
         BenchError::Clock
@@ -40,7 +60,7 @@ impl fmt::Display for BenchError {
     fn fmt<W: fmt::Write>(&self, f: &mut fmt::Formatter<W>) -> fmt::Result {
         match self {
             BenchError::Answer => write!(f, "the work gave a wrong answer"),
-            BenchError::Input => write!(f, "the input names an entry of another collection"),
+            BenchError::Input => write!(f, "the input could not be built"),
             BenchError::Clock => write!(f, "the clock could not be read"),
             BenchError::Memory => write!(f, "out of memory"),
         }

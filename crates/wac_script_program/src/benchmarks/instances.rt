@@ -3,10 +3,9 @@
 ghost use Rattle.std.specs.Prelude.{IsTrue};
 ghost use Rattle.wac_script_program.specs.Asking.{CanBeAsked};
 
-use super::building::{add_byte_list, add_func_over, add_instance};
+use super::building::{FUNC_LINE, add_line};
 use super::error::BenchError;
 use super::measuring::Work;
-use indexmap::IndexMap;
 use std::alloc::Global;
 use std::collections::HashSet;
 use wac_types::{ItemKind, SubtypeChecker, Types};
@@ -23,14 +22,20 @@ pub(crate) struct Side {
 // An instance in a collection of this number.
 fn instance_side(alloc: Global, number: u64, n: u32) -> Result<Side, BenchError> {
     let mut types = Types::new(alloc, number);
-    let list = add_byte_list(&mut types)?;
-    let mut exports = IndexMap::new(alloc);
+    add_line(alloc, &mut types, "def list u8")?;
+    let mut interface = String::from_str(alloc, "iface -")?;
     for i in 0..n {
-        let func = add_func_over(alloc, &mut types, &list)?;
-        exports.insert(format!(in alloc; "f{i}")?, func)?;
+        add_line(alloc, &mut types, FUNC_LINE)?;
+        interface.push_str(&format!(in alloc; " e:f{i}=F:fn{i}")?)?;
     }
-    let item = add_instance(alloc, &mut types, exports)?;
-    Ok(Side { types, item })
+    add_line(alloc, &mut types, &interface)?;
+    match types.interface_at(0) {
+        Some(id) => Ok(Side {
+            types,
+            item: ItemKind::Instance(id),
+        }),
+        None => Err(BenchError::Input),
+    }
 }
 
 // Whether the left item fits where the right one is asked for.

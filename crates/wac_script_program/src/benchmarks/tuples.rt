@@ -1,22 +1,28 @@
 //! Chains of tuples.
 
-use super::building::add_pair;
+use super::building::add_line;
 use super::error::BenchError;
 use super::instances::{AskAfresh, Side};
 use std::alloc::Global;
-use wac_types::{ItemKind, PrimitiveType, Types, ValueType};
+use wac_types::{ItemKind, Types, ValueType};
 
-// A value of the nth tuple, in a collection of this number.
+// A value of the nth tuple, in a collection of this number; n is at least 1.
 fn tuple_side(alloc: Global, number: u64, n: u32) -> Result<Side, BenchError> {
     let mut types = Types::new(alloc, number);
-    let mut value = ValueType::Primitive(PrimitiveType::U8);
-    for _ in 0..n {
-        value = add_pair(alloc, &mut types, &value)?;
+    add_line(alloc, &mut types, "def tuple u8 u8")?;
+    for i in 1..n {
+        let last = i.saturating_sub(1);
+        let line = format!(in alloc; "def tuple d{last} d{last}")?;
+        add_line(alloc, &mut types, &line)?;
     }
-    Ok(Side {
-        types,
-        item: ItemKind::Value(value),
-    })
+    let last = types.defined_types().len().saturating_sub(1);
+    match types.defined_type_at(last) {
+        Some(id) => Ok(Side {
+            types,
+            item: ItemKind::Value(ValueType::Defined(id)),
+        }),
+        None => Err(BenchError::Input),
+    }
 }
 
 /// Two values of the nth tuple, about which a checker is asked with an empty cache each time.

@@ -1,11 +1,10 @@
 //! A component that fits a target world.
 
-use super::building::{add_byte_list, add_func_over, add_small_instance, add_world};
+use super::building::{FUNC_LINE, add_line};
 use super::error::BenchError;
 use super::measuring::Work;
-use indexmap::IndexMap;
 use std::alloc::Global;
-use wac_types::{ItemKind, Type, Types, ValueType, WorldId, validate_target};
+use wac_types::{Type, Types, WorldId, validate_target};
 
 /// A target world and the world of a component, in one collection.
 #[derive(Drop)]
@@ -15,84 +14,90 @@ pub(crate) struct Worlds {
     component: WorldId,
 }
 
-// Functions under `n0`, `n1` and so on.
-fn functions(
+// Adds n functions, and puts the words of imports, `m`, or exports, `e`, under `n0`, `n1` and so on last.
+fn push_functions(
     alloc: Global,
     types: &mut Types,
-    list: &ValueType,
+    world: &mut String,
+    part: &str,
     n: u32,
-) -> Result<IndexMap<String, ItemKind>, BenchError> {
-    let mut externs = IndexMap::new(alloc);
+) -> Result<(), BenchError> {
     for i in 0..n {
-        let func = add_func_over(alloc, types, list)?;
-        externs.insert(format!(in alloc; "n{i}")?, func)?;
+        let func = types.func_types().len();
+        add_line(alloc, types, FUNC_LINE)?;
+        world.push_str(&format!(in alloc; " {part}:n{i}=F:fn{func}")?)?;
     }
-    Ok(externs)
+    Ok(())
 }
 
-// Instances under names of this version.
-fn instances(
+// The same with n instances that export a function, under names of this version.
+fn push_instances(
     alloc: Global,
     types: &mut Types,
+    world: &mut String,
+    part: &str,
     version: &str,
     n: u32,
-) -> Result<IndexMap<String, ItemKind>, BenchError> {
-    let mut externs = IndexMap::new(alloc);
+) -> Result<(), BenchError> {
     for i in 0..n {
-        let instance = add_small_instance(alloc, types)?;
-        externs.insert(format!(in alloc; "a:b/n{i}@{version}")?, instance)?;
+        let func = types.func_types().len();
+        let instance = types.interfaces().len();
+        add_line(alloc, types, "func sync -")?;
+        add_line(alloc, types, &format!(in alloc; "iface - e:f=F:fn{func}")?)?;
+        world.push_str(&format!(in alloc; " {part}:a:b/n{i}@{version}=I:i{instance}")?)?;
     }
-    Ok(externs)
+    Ok(())
 }
 
-// A world of n imports and n exports, all functions.
-fn add_plain(
-    alloc: Global,
-    types: &mut Types,
-    list: &ValueType,
-    n: u32,
-) -> Result<WorldId, BenchError> {
-    let imports = functions(alloc, types, list, n)?;
-    let exports = functions(alloc, types, list, n)?;
-    add_world(alloc, types, imports, exports)
+// Adds a world of n imports and n exports, all functions.
+fn add_plain(alloc: Global, types: &mut Types, n: u32) -> Result<(), BenchError> {
+    let mut world = String::from_str(alloc, "world -")?;
+    push_functions(alloc, types, &mut world, "m", n)?;
+    push_functions(alloc, types, &mut world, "e", n)?;
+    add_line(alloc, types, &world)
 }
 
-// A world of n imports and n exports, all instances, whose names have this version.
+// Adds a world of n imports and n exports, all instances, whose names have this version.
 fn add_versioned(
     alloc: Global,
     types: &mut Types,
     version: &str,
     n: u32,
-) -> Result<WorldId, BenchError> {
-    let imports = instances(alloc, types, version, n)?;
-    let exports = instances(alloc, types, version, n)?;
-    add_world(alloc, types, imports, exports)
+) -> Result<(), BenchError> {
+    let mut world = String::from_str(alloc, "world -")?;
+    push_instances(alloc, types, &mut world, "m", version, n)?;
+    push_instances(alloc, types, &mut world, "e", version, n)?;
+    add_line(alloc, types, &world)
 }
 
 impl Worlds {
     /// Functions.
     pub(crate) fn plain(alloc: Global, n: u32) -> Result<Worlds, BenchError> {
         let mut types = Types::new(alloc, 1);
-        let list = add_byte_list(&mut types)?;
-        let target = add_plain(alloc, &mut types, &list, n)?;
-        let component = add_plain(alloc, &mut types, &list, n)?;
-        Ok(Worlds {
-            types,
-            target,
-            component,
-        })
+        add_line(alloc, &mut types, "def list u8")?;
+        add_plain(alloc, &mut types, n)?;
+        add_plain(alloc, &mut types, n)?;
+        Worlds::of(types)
     }
 
     /// Instances, with greater versions in the target world.
     pub(crate) fn versioned(alloc: Global, n: u32) -> Result<Worlds, BenchError> {
         let mut types = Types::new(alloc, 1);
-        let target = add_versioned(alloc, &mut types, "1.1.0", n)?;
-        let component = add_versioned(alloc, &mut types, "1.0.0", n)?;
-        Ok(Worlds {
-            types,
-            target,
-            component,
-        })
+        add_versioned(alloc, &mut types, "1.1.0", n)?;
+        add_versioned(alloc, &mut types, "1.0.0", n)?;
+        Worlds::of(types)
+    }
+
+    // The first two worlds of a collection.
+    fn of(types: Types) -> Result<Worlds, BenchError> {
+        match (types.world_at(0), types.world_at(1)) {
+            (Some(target), Some(component)) => Ok(Worlds {
+                types,
+                target,
+                component,
+            }),
+            _ => Err(BenchError::Input),
+        }
     }
 }
 
