@@ -35,18 +35,41 @@ abbrev pub payload_text : Bool → Text
 payload_text true = codes "expected a type payload, found none"
 payload_text false = codes "expected no type payload, found one"
 
+-- what is counted, as it is said of the expected number
+abbrev pub parts_text : CountOf → Text
+parts_text count_of.Enum = codes "an enum type case count of"
+parts_text count_of.Flags = codes "a flags type flag count of"
+parts_text count_of.Record = codes "a record field count of"
+parts_text count_of.Variant = codes "a variant case count of"
+parts_text count_of.Tuple = codes "a tuple of size"
+
+-- and of the number found
+abbrev pub found_parts_text : CountOf → Text
+found_parts_text count_of.Enum = codes "a count of"
+found_parts_text count_of.Flags = codes "a count of"
+found_parts_text count_of.Record = codes "a count of"
+found_parts_text count_of.Variant = codes "a count of"
+found_parts_text count_of.Tuple = codes "a tuple of size"
+
 abbrev pub count_text : CountOf → ℕ → ℕ → Text
-count_text count_of.Enum m n = joined (codes "expected an enum type case count of " ∷ decimal m ∷ codes ", found a count of " ∷ decimal n ∷ [])
-count_text count_of.Flags m n = joined (codes "expected a flags type flag count of " ∷ decimal m ∷ codes ", found a count of " ∷ decimal n ∷ [])
-count_text count_of.Record m n = joined (codes "expected a record field count of " ∷ decimal m ∷ codes ", found a count of " ∷ decimal n ∷ [])
-count_text count_of.Variant m n = joined (codes "expected a variant case count of " ∷ decimal m ∷ codes ", found a count of " ∷ decimal n ∷ [])
-count_text count_of.Tuple m n = joined (codes "expected a tuple of size " ∷ decimal m ∷ codes ", found a tuple of size " ∷ decimal n ∷ [])
+count_text of m n = joined (codes "expected " ∷ parts_text of ∷ codes " " ∷ decimal m ∷ codes ", found " ∷ found_parts_text of ∷ codes " " ∷ decimal n ∷ [])
+
+-- what is named, as it is said of the expected name
+abbrev pub part_text : NameOf → Text
+part_text name_of.Enum = codes "enum case"
+part_text name_of.Flags = codes "flag"
+part_text name_of.Record = codes "record field"
+part_text name_of.Variant = codes "variant case"
+
+-- and of the name found
+abbrev pub found_part_text : NameOf → Text
+found_part_text name_of.Enum = codes "an enum case"
+found_part_text name_of.Flags = codes "a flag"
+found_part_text name_of.Record = codes "a field"
+found_part_text name_of.Variant = codes "a case"
 
 abbrev pub name_text : NameOf → ℕ → Text → Text → Text
-name_text name_of.Enum i x y = joined (codes "expected enum case " ∷ decimal i ∷ codes " to be named `" ∷ x ∷ codes "`, found an enum case named `" ∷ y ∷ codes "`" ∷ [])
-name_text name_of.Flags i x y = joined (codes "expected flag " ∷ decimal i ∷ codes " to be named `" ∷ x ∷ codes "`, found a flag named `" ∷ y ∷ codes "`" ∷ [])
-name_text name_of.Record i x y = joined (codes "expected record field " ∷ decimal i ∷ codes " to be named `" ∷ x ∷ codes "`, found a field named `" ∷ y ∷ codes "`" ∷ [])
-name_text name_of.Variant i x y = joined (codes "expected variant case " ∷ decimal i ∷ codes " to be named `" ∷ x ∷ codes "`, found a case named `" ∷ y ∷ codes "`" ∷ [])
+name_text of i x y = joined (codes "expected " ∷ part_text of ∷ codes " " ∷ decimal i ∷ codes " to be named `" ∷ x ∷ codes "`, found " ∷ found_part_text of ∷ codes " named `" ∷ y ∷ codes "`" ∷ [])
 
 abbrev pub case_type_text : Text → Bool → Text
 case_type_text n true = joined (codes "expected variant case `" ∷ n ∷ codes "` to be typed, found an untyped case" ∷ [])

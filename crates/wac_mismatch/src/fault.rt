@@ -1,8 +1,8 @@
 //! What is wrong at the end of a path.
 
-ghost use Rattle.std.specs.Prelude.{Some, string_bytes};
+ghost use Rattle.std.specs.Prelude.{◌≡◌, Some, string_bytes};
 ghost use Rattle.std.specs.Fmt.{WritesOnOk};
-ghost use Rattle.wac_mismatch.specs.FaultText.{async_text, func_result_text, result_part_text, payload_text, count_text, name_text, case_type_text, missing_export_text, missing_import_text, missing_core_import_text, core_field_text};
+ghost use Rattle.wac_mismatch.specs.FaultText.{async_text, func_result_text, result_part_text, payload_text, parts_text, found_parts_text, count_text, part_text, found_part_text, name_text, case_type_text, missing_export_text, missing_import_text, missing_core_import_text, core_field_text};
 
 use super::check::SubtypeCheck;
 use std::fmt;
@@ -23,6 +23,31 @@ pub enum CountOf {
     Tuple,
 }
 
+impl CountOf {
+    // Says what is counted, before the expected number.
+    fn parts(self) -> &'static str
+        ensures { result.now ≡ parts_text self }
+    {
+        match self {
+            CountOf::Enum => "an enum type case count of",
+            CountOf::Flags => "a flags type flag count of",
+            CountOf::Record => "a record field count of",
+            CountOf::Variant => "a variant case count of",
+            CountOf::Tuple => "a tuple of size",
+        }
+    }
+
+    // Says it again, before the number found.
+    fn found_parts(self) -> &'static str
+        ensures { result.now ≡ found_parts_text self }
+    {
+        match self {
+            CountOf::Enum | CountOf::Flags | CountOf::Record | CountOf::Variant => "a count of",
+            CountOf::Tuple => "a tuple of size",
+        }
+    }
+}
+
 /// What a `Fault::Name` names a part of.
 #[derive(Clone, Copy, PartialEq, Eq, Debug)]
 pub enum NameOf {
@@ -34,6 +59,32 @@ pub enum NameOf {
     Record,
     /// A case of a variant.
     Variant,
+}
+
+impl NameOf {
+    // Says what is named, before its index.
+    fn part(self) -> &'static str
+        ensures { result.now ≡ part_text self }
+    {
+        match self {
+            NameOf::Enum => "enum case",
+            NameOf::Flags => "flag",
+            NameOf::Record => "record field",
+            NameOf::Variant => "variant case",
+        }
+    }
+
+    // Says it again, before the name found.
+    fn found_part(self) -> &'static str
+        ensures { result.now ≡ found_part_text self }
+    {
+        match self {
+            NameOf::Enum => "an enum case",
+            NameOf::Flags => "a flag",
+            NameOf::Record => "a field",
+            NameOf::Variant => "a case",
+        }
+    }
 }
 
 /// A part of a result type.
@@ -338,28 +389,12 @@ fn write_count<W: fmt::Write>(
 ) -> fmt::Result
     ensures { WritesOnOk W.write_str_gives f.old result (count_text of expected found) f.new }
 {
-    match of {
-        CountOf::Enum => write!(
-            f,
-            "expected an enum type case count of {expected}, found a count of {found}"
-        ),
-        CountOf::Flags => write!(
-            f,
-            "expected a flags type flag count of {expected}, found a count of {found}"
-        ),
-        CountOf::Record => write!(
-            f,
-            "expected a record field count of {expected}, found a count of {found}"
-        ),
-        CountOf::Variant => write!(
-            f,
-            "expected a variant case count of {expected}, found a count of {found}"
-        ),
-        CountOf::Tuple => write!(
-            f,
-            "expected a tuple of size {expected}, found a tuple of size {found}"
-        ),
-    }
+    let parts = of.parts();
+    let found_parts = of.found_parts();
+    write!(
+        f,
+        "expected {parts} {expected}, found {found_parts} {found}"
+    )
 }
 
 fn write_name<W: fmt::Write>(
@@ -371,24 +406,12 @@ fn write_name<W: fmt::Write>(
 ) -> fmt::Result
     ensures { WritesOnOk W.write_str_gives f.old result (name_text of index expected.now found.now) f.new }
 {
-    match of {
-        NameOf::Enum => write!(
-            f,
-            "expected enum case {index} to be named `{expected}`, found an enum case named `{found}`"
-        ),
-        NameOf::Flags => write!(
-            f,
-            "expected flag {index} to be named `{expected}`, found a flag named `{found}`"
-        ),
-        NameOf::Record => write!(
-            f,
-            "expected record field {index} to be named `{expected}`, found a field named `{found}`"
-        ),
-        NameOf::Variant => write!(
-            f,
-            "expected variant case {index} to be named `{expected}`, found a case named `{found}`"
-        ),
-    }
+    let part = of.part();
+    let found_part = of.found_part();
+    write!(
+        f,
+        "expected {part} {index} to be named `{expected}`, found {found_part} named `{found}`"
+    )
 }
 
 fn write_case_type<W: fmt::Write>(
