@@ -1,10 +1,15 @@
 -- What `==` of core types says of their trees.
-use Rattle.std.proofs.Common.{◌≡◌, [], ◌∷◌, List, map, Bool, true, false, not, ◌&&◌, refl, sym, ap, ◌∙◌, rules}
+use denote.Struct.Field.{Field}
+use denote.Struct.Values.{Values}
+use denote.Enum.Declared.{Choice, values_one}
+use denote.Enum.Compared.{Each, by}
+use Rattle.std.proofs.Common.{◌≡◌, [], ◌∷◌, List, map, Bool, true, false, not, ◌&&◌, refl, sym, ap, ◌∙◌, inl, inr, rules}
 use Rattle.std.specs.Cmp.Lexicographic.{pointwise}
 use Rattle.std.specs.Bool.{Decides, beq}
 use Rattle.std.proofs.lemmas.Slice.Eq.{slice_eq-Decides}
 use Rattle.wac_model.specs.CoreTree.{HeapTree, concrete, func_heap, extern, any, none, noextern, nofunc, eq, struct, array, i31, exn, noexn, cont, nocont, RefTree, CoreTypeTree, i32, i64, f32, f64, v128, ref}
 use Rattle.wac_core.specs.Content.{heap_tree, ref_tree, core_type_tree, func_content}
+use Rattle.wac_core.specs.contracts.values.HeapType.{enum, the_parts, as_values}
 use Rattle.wac_core.specs.declared.values.HeapType.{HeapType}
 use Rattle.wac_core.specs.declared.values.HeapType.TheVariants as heap
 use Rattle.wac_core.specs.declared.values.CoreRefType.{CoreRefType}
@@ -16,8 +21,20 @@ use Rattle.wac_core.specs.contracts.values.CoreRefTypePartialEq.TheImpl.{ghosts 
 use Rattle.wac_core.specs.contracts.values.CoreTypePartialEq.TheImpl.{ghosts as of_types}
 use Rattle.wac_core.specs.contracts.values.CoreFuncTypePartialEq.TheImpl.{ghosts as of_funcs}
 
+-- `==` of an enum tells its values apart, if it tells the fields of each variant apart
+abbrev Exact : (Fss : List (List Field)) → Each Bool Fss → Type 0
+Exact [] each = Unit {0}
+Exact (Fs ∷ Fss) each = ((xs ys : Values Fs) → each.0 xs ys ≡ true → xs ≡ ys) × Exact Fss each.1
+
+choice_exact : (Fss : List (List Field)) (each : Each Bool Fss) → Exact Fss each → (c d : Choice Fss) → by false false Fss each c d ≡ true → c ≡ d
+choice_exact [] each exact c d h = absurd c
+choice_exact (Fs ∷ Fss) each exact (inl xs) (inl ys) h = ap inl (exact.0 xs ys h)
+choice_exact (Fs ∷ Fss) each exact (inl xs) (inr d) h = absurd (cc)
+choice_exact (Fs ∷ Fss) each exact (inr c) (inl ys) h = absurd (cc)
+choice_exact (Fs ∷ Fss) each exact (inr c) (inr d) h = ap inr (choice_exact Fss each.1 exact.1 c d h)
+
 heap_exact : (x y : HeapType) → of_heaps.eq x y ≡ true → x ≡ y
-heap_exact x y h = search rules
+heap_exact x y h = values_one enum x y (choice_exact the_parts _ (search rules) (as_values x) (as_values y) h)
 
 -- both of two tests
 pub and_left : (a b : Bool) → (a && b) ≡ true → a ≡ true
