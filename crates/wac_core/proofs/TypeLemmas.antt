@@ -9,7 +9,8 @@ use Rattle.std.specs.Bool.{Decides, beq}
 use Rattle.std.proofs.lemmas.Slice.Eq.{slice_eq-Decides}
 use Rattle.wac_model.specs.CoreTree.{HeapTree, concrete, func_heap, extern, any, none, noextern, nofunc, eq, struct, array, i31, exn, noexn, cont, nocont, RefTree, CoreTypeTree, i32, i64, f32, f64, v128, ref}
 use Rattle.wac_core.specs.Content.{heap_tree, ref_tree, core_type_tree, func_content}
-use Rattle.wac_core.specs.contracts.values.HeapType.{enum, the_parts, as_values}
+use Rattle.wac_core.specs.contracts.values.HeapType as heaps
+use Rattle.wac_core.specs.contracts.values.CoreType as types
 use Rattle.wac_core.specs.declared.values.HeapType.{HeapType}
 use Rattle.wac_core.specs.declared.values.HeapType.TheVariants as heap
 use Rattle.wac_core.specs.declared.values.CoreRefType.{CoreRefType}
@@ -34,7 +35,7 @@ choice_exact (Fs ∷ Fss) each exact (inr c) (inl ys) h = absurd (cc)
 choice_exact (Fs ∷ Fss) each exact (inr c) (inr d) h = ap inr (choice_exact Fss each.1 exact.1 c d h)
 
 heap_exact : (x y : HeapType) → of_heaps.eq x y ≡ true → x ≡ y
-heap_exact x y h = values_one enum x y (choice_exact the_parts _ (search rules) (as_values x) (as_values y) h)
+heap_exact x y h = values_one heaps.enum x y (choice_exact heaps.the_parts _ (search rules) (heaps.as_values x) (heaps.as_values y) h)
 
 -- both of two tests
 pub and_left : (a b : Bool) → (a && b) ≡ true → a ≡ true
@@ -57,14 +58,12 @@ ref_exact x y h =
     (bool_exact x.nullable y.nullable (and_left (beq x.nullable y.nullable) (of_heaps.eq x.heap_type y.heap_type) h))
     (heap_exact x.heap_type y.heap_type (and_right (beq x.nullable y.nullable) (of_heaps.eq x.heap_type y.heap_type) h))
 
+-- the fields of a reference's variant
+field_exact : (xs ys : CoreRefType × Unit {0}) → of_refs.eq xs.0 ys.0 ≡ true → xs ≡ ys
+field_exact xs ys h = λ i. (ref_exact xs.0 ys.0 h i, tt)
+
 pub type_exact : (x y : CoreType) → of_types.eq x y ≡ true → x ≡ y
-type_exact core.I32 core.I32 h = refl
-type_exact core.I64 core.I64 h = refl
-type_exact core.F32 core.F32 h = refl
-type_exact core.F64 core.F64 h = refl
-type_exact core.V128 core.V128 h = refl
-type_exact (core.Ref t) (core.Ref u) h = ap core.Ref (ref_exact t u h)
-type_exact x y h = absurd (cc)
+type_exact x y h = values_one types.enum x y (choice_exact types.the_parts _ (search (rules, field_exact)) (types.as_values x) (types.as_values y) h)
 
 type_equal : (x : CoreType) → of_types.eq x x ≡ true
 type_equal x = search rules

@@ -119,45 +119,47 @@ impl fmt::Display for CoreRefType {
 fn write_nullable<W: fmt::Write>(f: &mut fmt::Formatter<W>, heap_type: HeapType) -> fmt::Result
     ensures { WritesOnOk W.write_str_gives f.old result (nullable_text (heap_tree heap_type)) f.new }
 {
-    match heap_type {
-        HeapType::Concrete(index) => write!(f, "(ref null {index})"),
-        HeapType::Func => write!(f, "funcref"),
-        HeapType::Extern => write!(f, "externref"),
-        HeapType::Any => write!(f, "anyref"),
-        HeapType::None => write!(f, "nullref"),
-        HeapType::NoExtern => write!(f, "nullexternref"),
-        HeapType::NoFunc => write!(f, "nullfuncref"),
-        HeapType::Eq => write!(f, "eqref"),
-        HeapType::Struct => write!(f, "structref"),
-        HeapType::Array => write!(f, "arrayref"),
-        HeapType::I31 => write!(f, "i31ref"),
-        HeapType::Exn => write!(f, "exnref"),
-        HeapType::NoExn => write!(f, "nullexnref"),
-        HeapType::Cont => write!(f, "contref"),
-        HeapType::NoCont => write!(f, "nullcontref"),
-    }
+    let name = match heap_type {
+        HeapType::Concrete(index) => return write!(f, "(ref null {index})"),
+        HeapType::Func => "funcref",
+        HeapType::Extern => "externref",
+        HeapType::Any => "anyref",
+        HeapType::None => "nullref",
+        HeapType::NoExtern => "nullexternref",
+        HeapType::NoFunc => "nullfuncref",
+        HeapType::Eq => "eqref",
+        HeapType::Struct => "structref",
+        HeapType::Array => "arrayref",
+        HeapType::I31 => "i31ref",
+        HeapType::Exn => "exnref",
+        HeapType::NoExn => "nullexnref",
+        HeapType::Cont => "contref",
+        HeapType::NoCont => "nullcontref",
+    };
+    write!(f, "{name}")
 }
 
 fn write_not_null<W: fmt::Write>(f: &mut fmt::Formatter<W>, heap_type: HeapType) -> fmt::Result
     ensures { WritesOnOk W.write_str_gives f.old result (heap_text (heap_tree heap_type)) f.new }
 {
-    match heap_type {
-        HeapType::Concrete(index) => write!(f, "(ref {index})"),
-        HeapType::Func => write!(f, "(ref func)"),
-        HeapType::Extern => write!(f, "(ref extern)"),
-        HeapType::Any => write!(f, "(ref any)"),
-        HeapType::None => write!(f, "(ref none)"),
-        HeapType::NoExtern => write!(f, "(ref noextern)"),
-        HeapType::NoFunc => write!(f, "(ref nofunc)"),
-        HeapType::Eq => write!(f, "(ref eq)"),
-        HeapType::Struct => write!(f, "(ref struct)"),
-        HeapType::Array => write!(f, "(ref array)"),
-        HeapType::I31 => write!(f, "(ref i31)"),
-        HeapType::Exn => write!(f, "(ref exn)"),
-        HeapType::NoExn => write!(f, "(ref noexn)"),
-        HeapType::Cont => write!(f, "(ref cont)"),
-        HeapType::NoCont => write!(f, "(ref nocont)"),
-    }
+    let word = match heap_type {
+        HeapType::Concrete(index) => return write!(f, "(ref {index})"),
+        HeapType::Func => "func",
+        HeapType::Extern => "extern",
+        HeapType::Any => "any",
+        HeapType::None => "none",
+        HeapType::NoExtern => "noextern",
+        HeapType::NoFunc => "nofunc",
+        HeapType::Eq => "eq",
+        HeapType::Struct => "struct",
+        HeapType::Array => "array",
+        HeapType::I31 => "i31",
+        HeapType::Exn => "exn",
+        HeapType::NoExn => "noexn",
+        HeapType::Cont => "cont",
+        HeapType::NoCont => "nocont",
+    };
+    write!(f, "(ref {word})")
 }
 
 impl fmt::Display for CoreType {
