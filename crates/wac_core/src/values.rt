@@ -136,7 +136,7 @@ fn write_nullable<W: fmt::Write>(f: &mut fmt::Formatter<W>, heap_type: HeapType)
         HeapType::Cont => "contref",
         HeapType::NoCont => "nullcontref",
     };
-    write!(f, "{name}")
+    f.write_str(name)
 }
 
 fn write_not_null<W: fmt::Write>(f: &mut fmt::Formatter<W>, heap_type: HeapType) -> fmt::Result
