@@ -88,7 +88,7 @@ module _ (c d e : Collection) (x y p : Id) (sx : Stands c (interface_key x)) (sy
     (es ts ms : Externs) (hx : HasExports c x es) (hy : HasExports c y ts) where
   pub interface_of_both : IsInterfaceOfBoth d e x y ms p → HasAllNames bytes_eq es ts ms ⊎ HasSomeNames bytes_eq es ms
       → IsBound c e (λ k. entry_item k (interface_key x)) (λ k. entry_item k (interface_key y)) (λ k. entry_item k (interface_key p))
-      → Runs (extern_keys es ++ extern_keys ts) c d (λ b o. AreBuilt b d o es ts ms)
+      → Runs (interface_key x ∷ interface_key y ∷ []) c d (λ b o. AreBuilt b d o es ts ms)
       → Runs (interface_key x ∷ interface_key y ∷ []) c e (λ b o. IsMadeOf b e o (interface_key x) (interface_key y) (interface_key p))
   interface_of_both made names bound run =
       let first_at : entry_at c (interface_key x) ≡ Some (interface_entry made.first) = sym (grown.same_entry (interface_key x) sx) ∙ made.first_at in
@@ -102,7 +102,7 @@ module _ (c d e : Collection) (x y p : Id) (sx : Stands c (interface_key x)) (sy
       (leaves_of_interface d e (record { id = None; uses = uses_of_both made.first.uses made.second.uses; exports = ms }) made.added)
       (interface_last d e x y p ms made) first_at second_at
       (λ b o h. of_interfaces record { no_identifier = refl; uses = refl; exports = rw (es_are, ts_are) h; names = rw (es_are, ts_are) names })
-      bound (Runs-exports c x y sx sy es ts hx hy d (λ b o. AreBuilt b d o es ts ms) run)
+      bound run
     where
       same_interface : {i j : InterfaceContent} → Some (interface_entry i) ≡ Some (interface_entry j) → i ≡ j
       same_interface h = cc
@@ -160,12 +160,12 @@ module _ (c d f e : Collection) (x y p : Id) (sx : Stands c (world_key x)) (sy :
 
 -- the join of two interfaces, which is put last or refused
 pub joined_interface_built : (r : Result Id AllocError) (c d e : Collection) (x y : Id) → Stands c (interface_key x) → Stands c (interface_key y) → Extends c d → Extends d e → (es ts js : Externs) → HasExports c x es → HasExports c y ts
-    → IfOk r (λ p. IsInterfaceOfBoth d e x y js p) → AreJoined c d es ts js → HasSomeNames bytes_eq es js → Runs (extern_keys es ++ extern_keys ts) c d (λ b o. AreBuilt b d o es ts js) → OnErr r (e ≡ d)
+    → IfOk r (λ p. IsInterfaceOfBoth d e x y js p) → AreJoined c d es ts js → HasSomeNames bytes_eq es js → Runs (interface_key x ∷ interface_key y ∷ []) c d (λ b o. AreBuilt b d o es ts js) → OnErr r (e ≡ d)
     → Runs (interface_key x ∷ interface_key y ∷ []) c e (λ b o. IfOk r (λ p. IsMadeOf b e o (interface_key x) (interface_key y) (interface_key p)))
 joined_interface_built (Err u) c d e x y sx sy grown more es ts js hx hy made joined names run same =
     Runs-map (interface_key x ∷ interface_key y ∷ []) c e (λ b o. Unit {0}) (λ b o. Unit {0}) (λ b o h. tt)
     (subst (λ z. Runs (interface_key x ∷ interface_key y ∷ []) c z (λ b o. Unit {0})) (sym same)
-    (Runs-map (interface_key x ∷ interface_key y ∷ []) c d (λ b o. AreBuilt b d o es ts js) (λ b o. Unit {0}) (λ b o h. tt) (Runs-exports c x y sx sy es ts hx hy d (λ b o. AreBuilt b d o es ts js) run)))
+    (Runs-map (interface_key x ∷ interface_key y ∷ []) c d (λ b o. AreBuilt b d o es ts js) (λ b o. Unit {0}) (λ b o h. tt) run))
 joined_interface_built (Ok p) c d e x y sx sy grown more es ts js hx hy made joined names run same =
     interface_of_both c d e x y p sx sy grown more es ts js hx hy made (inr names)
     (inr (λ k. interfaces_joined c d e grown x y k es ts hx hy js p joined made.tree)) run

@@ -19,7 +19,8 @@ use Rattle.wac_component.specs.Tree.{externs, interface_externs, world_externs, 
 use Rattle.wac_component.proofs.Keys.{Each-append}
 use Rattle.wac_component.proofs.Lists.{slice_get-map}
 use Rattle.wac_component.proofs.Members.{uses_stand, world_uses_stand, exports_stand, exports_lower, world_imports_stand, world_imports_lower, world_exports_stand, world_exports_lower}
-use Rattle.wac_component.proofs.Trees.{world-externs}
+use Rattle.wac_component.proofs.Reading.{interface_standing, interface_lower}
+use Rattle.wac_component.proofs.Trees.{interface-externs, world-externs}
 use Rattle.wac_merge.specs.Built.{uses_of_both}
 use Rattle.wac_merge.specs.Items.{Externs, extern_keys}
 use Rattle.wac_merge.specs.Reads.{entry_imports, entry_exports, imports_at, exports_at, HasExports, AreRead, IsInterfaceOfBoth, IsWorldOfBoth}
@@ -45,6 +46,15 @@ reads_interface c x e es at tree stand lower same = record {
   standing = rw same (exports_stand c e stand);
   lower = rw same (omega (arith, lower, exports_lower c e));
 }
+
+-- what an interface exports, by its entry
+
+pub interface_exports_are : (c : Collection) (x : Id) (e : InterfaceContent) → entry_at c (interface_key x) ≡ Some (interface_entry e) → exports_at c (interface_key x) ≡ e.exports
+unfolding exports_at
+interface_exports_are c x e h = ap (λ o. option_map_or entry_exports o []) h
+
+pub exports_read : (c : Collection) (x : Id) (es : Externs) → HasExports c x es → es ≡ exports_at c (interface_key x)
+exports_read c x es h = sym h.exports ∙ sym (interface_exports_are c x h.entry h.at)
 
 -- what a world imports and exports, by its entry
 
@@ -109,6 +119,18 @@ exports_at_stand c k sound stands = go (entry_at c k) (sound.standing k stands)
     go (Some (interface_entry e)) h = exports_stand c e h
     go (Some (world_entry e)) h = world_exports_stand c e h
     go (Some (module_entry e)) h = tt
+
+-- an interface has the exports of its entry
+pub has_exports_at : (c : Collection) (x : Id) → IsSound c → Stands c (interface_key x) → HasExports c x (exports_at c (interface_key x))
+has_exports_at c x sound stands = elim (slice_get_cases c.interfaces x.index).1 [
+  | inl there ↦ of_entry there.0 there.2
+  | inr past ↦ absurd (omega (arith, past.0, stands.1, length-map c.interfaces interface_entry))
+]
+  where
+    of_entry : (e : InterfaceContent) → slice_get c.interfaces x.index ≡ Some e → HasExports c x (exports_at c (interface_key x))
+    of_entry e at =
+        reads_interface c x e (exports_at c (interface_key x)) at (interface-externs c x e sound stands at)
+        (interface_standing c x e sound stands at) (interface_lower c x e sound stands at) (interface_exports_are c x e (interface_at c x e at))
 
 -- the tree of a world is that of what it imports and exports
 pub world_tree : (c : Collection) (x : Id) → IsSound c → Stands c (world_key x)

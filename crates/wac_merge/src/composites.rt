@@ -36,9 +36,8 @@ pub(crate) fn meet_interfaces(
     ensures standing { IfOk result (λ m. IfSome m (λ p. Stands types.new (interface_key p))) }
     ensures built { Runs (interface_key x ∷ interface_key y ∷ []) types.old types.new (λ c o. IfOk result (λ m. IfSome m (λ p. IsMadeOf c types.new o (interface_key x) (interface_key y) (interface_key p)))) }
 {
-    let first = exports_of(types, x)?;
-    let second = exports_of(types, y)?;
-    match meet_externs(alloc, types, &first, &second)? {
+    types.sound();
+    match meet_exports(alloc, types, x, y)? {
         Some(exports) => Ok(Some(add_interface_of(types, x, y, exports)?)),
         None => Ok(None),
     }
@@ -59,10 +58,51 @@ pub(crate) fn join_interfaces(
     ensures standing { IfOk result (λ p. Stands types.new (interface_key p)) }
     ensures built { Runs (interface_key x ∷ interface_key y ∷ []) types.old types.new (λ c o. IfOk result (λ p. IsMadeOf c types.new o (interface_key x) (interface_key y) (interface_key p))) }
 {
+    types.sound();
+    let exports = join_exports(alloc, types, x, y)?;
+    add_interface_of(types, x, y, exports)
+}
+
+// The exports of both interfaces, met, or none where a name of both has no meet.
+#[cycle(bounds)]
+fn meet_exports(
+    alloc: Global,
+    types: &mut Types,
+    x: InterfaceId,
+    y: InterfaceId,
+) -> Result<Option<IndexMap<String, ItemKind>>, AllocError>
+    requires left { Stands types.old (interface_key x) }
+    requires right { Stands types.old (interface_key y) }
+    ensures grows { Extends types.old types.new }
+    ensures met { IfOk result (λ r. AreMet types.old types.new (exports_at types.old (interface_key x)) (exports_at types.old (interface_key y)) (option_map listed r)) }
+    ensures names { IfOk result (λ r. IfSome r (λ m. HasAllNames bytes_eq (exports_at types.old (interface_key x)) (exports_at types.old (interface_key y)) (listed m))) }
+    ensures standing { IfOk result (λ r. IfSome r (λ m. AllStand types.new (extern_keys (listed m)))) }
+    ensures built { Runs (interface_key x ∷ interface_key y ∷ []) types.old types.new (λ c o. IfOk result (λ r. IfSome r (λ m. AreBuilt c types.new o (exports_at types.old (interface_key x)) (exports_at types.old (interface_key y)) (listed m)))) }
+{
     let first = exports_of(types, x)?;
     let second = exports_of(types, y)?;
-    let exports = join_externs(alloc, types, &first, &second)?;
-    add_interface_of(types, x, y, exports)
+    meet_externs(alloc, types, &first, &second)
+}
+
+// The exports that both interfaces have under one name, joined.
+#[cycle(bounds)]
+fn join_exports(
+    alloc: Global,
+    types: &mut Types,
+    x: InterfaceId,
+    y: InterfaceId,
+) -> Result<IndexMap<String, ItemKind>, AllocError>
+    requires left { Stands types.old (interface_key x) }
+    requires right { Stands types.old (interface_key y) }
+    ensures grows { Extends types.old types.new }
+    ensures joined { IfOk result (λ j. AreJoined types.old types.new (exports_at types.old (interface_key x)) (exports_at types.old (interface_key y)) (listed j)) }
+    ensures names { IfOk result (λ j. HasSomeNames bytes_eq (exports_at types.old (interface_key x)) (listed j)) }
+    ensures standing { IfOk result (λ j. AllStand types.new (extern_keys (listed j))) }
+    ensures built { Runs (interface_key x ∷ interface_key y ∷ []) types.old types.new (λ c o. IfOk result (λ j. AreBuilt c types.new o (exports_at types.old (interface_key x)) (exports_at types.old (interface_key y)) (listed j))) }
+{
+    let first = exports_of(types, x)?;
+    let second = exports_of(types, y)?;
+    join_externs(alloc, types, &first, &second)
 }
 
 // A world that exports what both do and imports what both have under one name, joined; none where

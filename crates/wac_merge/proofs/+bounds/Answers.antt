@@ -19,6 +19,7 @@ use Rattle.wac_merge.proofs.ItemLemmas.{met_of, joined_of, Runs-of, built_of, ma
 use Rattle.wac_merge.proofs.LoopLemmas.{name_not_done, name_has, done_more, item_lower, first_met_turn, joined_turn, dropped_turn, standing_turn, built_turn, dropped_built, ended_built, not_met_yet, not_joined_yet}
 use Rattle.wac_merge.proofs.MadeLemmas.{Runs-exports, interface_of_both, joined_interface_built, Runs-exports_at, Runs-imports_at, met_world_of_both, joined_world_of_both}
 use Rattle.wac_merge.proofs.OrderLemmas.{all_names_put, some_names_put, some_names_dropped, all_names_with}
+use Rattle.wac_merge.proofs.ReadLemmas.{exports_read, has_exports_at}
 use Rattle.wac_merge.proofs.+bounds.Goals as goal
 
 pub items::meet_items-returns-then-branch-clause-met : goal.items::meet_items-returns-then-branch-clause-met
@@ -383,7 +384,7 @@ externs::meet_externs-returns-in_ok-add_others-in-Some-clause-built t c =
 
 pub composites::meet_interfaces-returns-in_err-exports-clause-built : goal.composites::meet_interfaces-returns-in_err-exports-clause-built
 composites::meet_interfaces-returns-in_err-exports-clause-built t c =
-    Runs-map (interface_key c.args.x ∷ interface_key c.args.y ∷ []) c.args.types.now c.meet_externs.new.types _ _ (λ x o h. IfOk-refused c.from_residual-in_err-exports.result _ c.from_residual-in_err-exports.ensures.0) (Runs-exports c.args.types.now c.args.x c.args.y c.requires.left c.requires.right (listed c.in_ok-first.first) (listed c.in_ok-second.second) c.in_ok-first.ensures c.in_ok-second.ensures _ _ c.in_err-exports.ensures.built)
+    Runs-map (interface_key c.args.x ∷ interface_key c.args.y ∷ []) c.args.types.now c.meet_exports.new.types _ _ (λ x o h. IfOk-refused c.from_residual.result _ c.from_residual.ensures.0) c.in_err-exports.ensures.built
 
 pub composites::meet_interfaces-add_interface_of-requires-clause-first : goal.composites::meet_interfaces-add_interface_of-requires-clause-first
 composites::meet_interfaces-add_interface_of-requires-clause-first t c =
@@ -395,32 +396,32 @@ composites::meet_interfaces-add_interface_of-requires-clause-second t c =
 
 pub composites::meet_interfaces-returns-in_err-add_interface_of-in-Some-clause-built : goal.composites::meet_interfaces-returns-in_err-add_interface_of-in-Some-clause-built
 composites::meet_interfaces-returns-in_err-add_interface_of-in-Some-clause-built t c =
-    Runs-same (interface_key c.args.x ∷ interface_key c.args.y ∷ []) c.args.types.now c.meet_externs.new.types c.add_interface_of.new.types _ _ c.in_err-add_interface_of-in-Some.ensures.err (λ x o h. IfOk-refused c.from_residual-in_err-add_interface_of-in-Some.result _ c.from_residual-in_err-add_interface_of-in-Some.ensures.0) (Runs-exports c.args.types.now c.args.x c.args.y c.requires.left c.requires.right (listed c.in_ok-first.first) (listed c.in_ok-second.second) c.in_ok-first.ensures c.in_ok-second.ensures _ _ c.in_ok-exports.ensures.built)
+    Runs-same (interface_key c.args.x ∷ interface_key c.args.y ∷ []) c.args.types.now c.meet_exports.new.types c.add_interface_of.new.types _ _ c.in_err-add_interface_of-in-Some.ensures.err (λ x o h. IfOk-refused c.from_residual-in_err-add_interface_of-in-Some.result _ c.from_residual-in_err-add_interface_of-in-Some.ensures.0) c.in_ok-exports.ensures.built
 
-pub composites::meet_interfaces-returns-in-Some-clause-grows : goal.composites::meet_interfaces-returns-in-Some-clause-grows
-composites::meet_interfaces-returns-in-Some-clause-grows t c =
-    Extends-trans c.args.types.now c.meet_externs.new.types c.add_interface_of.new.types c.in_ok-exports.ensures.grows c.in_ok-add_interface_of-in-Some.ensures.grows
+pub composites::meet_interfaces-returns-in_ok-add_interface_of-in-Some-clause-grows : goal.composites::meet_interfaces-returns-in_ok-add_interface_of-in-Some-clause-grows
+composites::meet_interfaces-returns-in_ok-add_interface_of-in-Some-clause-grows t c =
+    Extends-trans c.args.types.now c.meet_exports.new.types c.add_interface_of.new.types c.in_ok-exports.ensures.grows c.in_ok-add_interface_of-in-Some.ensures.grows
 
-pub composites::meet_interfaces-returns-in-Some-clause-met : goal.composites::meet_interfaces-returns-in-Some-clause-met
-composites::meet_interfaces-returns-in-Some-clause-met t c =
-    λ k. interfaces_met c.args.types.now c.meet_externs.new.types c.add_interface_of.new.types c.in_ok-exports.ensures.grows c.args.x c.args.y k (listed c.in_ok-first.first) (listed c.in_ok-second.second) c.in_ok-first.ensures c.in_ok-second.ensures (listed c.in-Some.exports) c.in_ok-add_interface_of-in-Some.field-0 (rw c.in-Some.is at c.in_ok-exports.ensures.met) c.in_ok-add_interface_of-in-Some.ensures.made.tree
+pub composites::meet_interfaces-returns-in_ok-add_interface_of-in-Some-clause-met : goal.composites::meet_interfaces-returns-in_ok-add_interface_of-in-Some-clause-met
+composites::meet_interfaces-returns-in_ok-add_interface_of-in-Some-clause-met t c =
+    λ k. interfaces_met c.args.types.now c.meet_exports.new.types c.add_interface_of.new.types c.in_ok-exports.ensures.grows c.args.x c.args.y k _ _ (has_exports_at c.args.types.now c.args.x c.sound.ensures c.requires.left) (has_exports_at c.args.types.now c.args.y c.sound.ensures c.requires.right) (listed c.in-Some.exports) c.in_ok-add_interface_of-in-Some.field-0 (rw c.in-Some.is at c.in_ok-exports.ensures.met) c.in_ok-add_interface_of-in-Some.ensures.made.tree
 
-pub composites::meet_interfaces-returns-in-Some-clause-built : goal.composites::meet_interfaces-returns-in-Some-clause-built
-composites::meet_interfaces-returns-in-Some-clause-built t c =
-    interface_of_both c.args.types.now c.meet_externs.new.types c.add_interface_of.new.types c.args.x c.args.y c.in_ok-add_interface_of-in-Some.field-0 c.requires.left c.requires.right c.in_ok-exports.ensures.grows c.in_ok-add_interface_of-in-Some.ensures.grows (listed c.in_ok-first.first) (listed c.in_ok-second.second) (listed c.in-Some.exports) c.in_ok-first.ensures c.in_ok-second.ensures c.in_ok-add_interface_of-in-Some.ensures.made
-    (inl (rw c.in-Some.is at c.in_ok-exports.ensures.names)) (inl (composites::meet_interfaces-returns-in-Some-clause-met t c)) (rw c.in-Some.is at c.in_ok-exports.ensures.built)
+pub composites::meet_interfaces-returns-in_ok-add_interface_of-in-Some-clause-built : goal.composites::meet_interfaces-returns-in_ok-add_interface_of-in-Some-clause-built
+composites::meet_interfaces-returns-in_ok-add_interface_of-in-Some-clause-built t c =
+    interface_of_both c.args.types.now c.meet_exports.new.types c.add_interface_of.new.types c.args.x c.args.y c.in_ok-add_interface_of-in-Some.field-0 c.requires.left c.requires.right c.in_ok-exports.ensures.grows c.in_ok-add_interface_of-in-Some.ensures.grows _ _ (listed c.in-Some.exports) (has_exports_at c.args.types.now c.args.x c.sound.ensures c.requires.left) (has_exports_at c.args.types.now c.args.y c.sound.ensures c.requires.right) c.in_ok-add_interface_of-in-Some.ensures.made
+    (inl (rw c.in-Some.is at c.in_ok-exports.ensures.names)) (inl (composites::meet_interfaces-returns-in_ok-add_interface_of-in-Some-clause-met t c)) (rw c.in-Some.is at c.in_ok-exports.ensures.built)
 
-pub composites::meet_interfaces-returns-clause-met : goal.composites::meet_interfaces-returns-clause-met
-composites::meet_interfaces-returns-clause-met t c =
-    λ k. interfaces_clash c.args.types.now c.meet_externs.new.types c.meet_externs.new.types c.in_ok-exports.ensures.grows c.args.x c.args.y k (listed c.in_ok-first.first) (listed c.in_ok-second.second) c.in_ok-first.ensures c.in_ok-second.ensures (rw c.in-None.is at c.in_ok-exports.ensures.met)
+pub composites::meet_interfaces-returns-in-None-clause-met : goal.composites::meet_interfaces-returns-in-None-clause-met
+composites::meet_interfaces-returns-in-None-clause-met t c =
+    λ k. interfaces_clash c.args.types.now c.meet_exports.new.types c.meet_exports.new.types c.in_ok-exports.ensures.grows c.args.x c.args.y k _ _ (has_exports_at c.args.types.now c.args.x c.sound.ensures c.requires.left) (has_exports_at c.args.types.now c.args.y c.sound.ensures c.requires.right) (rw c.in-None.is at c.in_ok-exports.ensures.met)
 
-pub composites::meet_interfaces-returns-clause-built : goal.composites::meet_interfaces-returns-clause-built
-composites::meet_interfaces-returns-clause-built t c =
-    Runs-map (interface_key c.args.x ∷ interface_key c.args.y ∷ []) c.args.types.now c.meet_externs.new.types _ _ (λ x o h. tt) (Runs-exports c.args.types.now c.args.x c.args.y c.requires.left c.requires.right (listed c.in_ok-first.first) (listed c.in_ok-second.second) c.in_ok-first.ensures c.in_ok-second.ensures _ _ c.in_ok-exports.ensures.built)
+pub composites::meet_interfaces-returns-in-None-clause-built : goal.composites::meet_interfaces-returns-in-None-clause-built
+composites::meet_interfaces-returns-in-None-clause-built t c =
+    Runs-map (interface_key c.args.x ∷ interface_key c.args.y ∷ []) c.args.types.now c.meet_exports.new.types _ _ (λ x o h. tt) c.in_ok-exports.ensures.built
 
 pub composites::join_interfaces-returns-in_err-exports-clause-built : goal.composites::join_interfaces-returns-in_err-exports-clause-built
 composites::join_interfaces-returns-in_err-exports-clause-built t c =
-    Runs-map (interface_key c.args.x ∷ interface_key c.args.y ∷ []) c.args.types.now c.join_externs.new.types _ _ (λ x o h. IfOk-refused c.from_residual-in_err-exports.result _ c.from_residual-in_err-exports.ensures.0) (Runs-exports c.args.types.now c.args.x c.args.y c.requires.left c.requires.right (listed c.in_ok-first.first) (listed c.in_ok-second.second) c.in_ok-first.ensures c.in_ok-second.ensures _ _ c.in_err-exports.ensures.built)
+    Runs-map (interface_key c.args.x ∷ interface_key c.args.y ∷ []) c.args.types.now c.join_exports.new.types _ _ (λ x o h. IfOk-refused c.from_residual.result _ c.from_residual.ensures.0) c.in_err-exports.ensures.built
 
 pub composites::join_interfaces-add_interface_of-requires-clause-first : goal.composites::join_interfaces-add_interface_of-requires-clause-first
 composites::join_interfaces-add_interface_of-requires-clause-first t c =
@@ -432,17 +433,41 @@ composites::join_interfaces-add_interface_of-requires-clause-second t c =
 
 pub composites::join_interfaces-returns-clause-grows : goal.composites::join_interfaces-returns-clause-grows
 composites::join_interfaces-returns-clause-grows t c =
-    Extends-trans c.args.types.now c.join_externs.new.types c.add_interface_of.new.types c.in_ok-exports.ensures.grows c.add_interface_of.ensures.grows
+    Extends-trans c.args.types.now c.join_exports.new.types c.add_interface_of.new.types c.in_ok-exports.ensures.grows c.add_interface_of.ensures.grows
 
 pub composites::join_interfaces-returns-clause-joined : goal.composites::join_interfaces-returns-clause-joined
 composites::join_interfaces-returns-clause-joined t c =
     IfOk-weaker c.add_interface_of.result _ _ (λ p made k.
-    interfaces_joined c.args.types.now c.join_externs.new.types c.add_interface_of.new.types c.in_ok-exports.ensures.grows c.args.x c.args.y k (listed c.in_ok-first.first) (listed c.in_ok-second.second) c.in_ok-first.ensures c.in_ok-second.ensures (listed c.in_ok-exports.exports) p c.in_ok-exports.ensures.joined made.tree) c.add_interface_of.ensures.made
+    interfaces_joined c.args.types.now c.join_exports.new.types c.add_interface_of.new.types c.in_ok-exports.ensures.grows c.args.x c.args.y k _ _ (has_exports_at c.args.types.now c.args.x c.sound.ensures c.requires.left) (has_exports_at c.args.types.now c.args.y c.sound.ensures c.requires.right) (listed c.in_ok-exports.exports) p c.in_ok-exports.ensures.joined made.tree) c.add_interface_of.ensures.made
 
 pub composites::join_interfaces-returns-clause-built : goal.composites::join_interfaces-returns-clause-built
 composites::join_interfaces-returns-clause-built t c =
-    joined_interface_built c.add_interface_of.result c.args.types.now c.join_externs.new.types c.add_interface_of.new.types c.args.x c.args.y c.requires.left c.requires.right c.in_ok-exports.ensures.grows c.add_interface_of.ensures.grows (listed c.in_ok-first.first) (listed c.in_ok-second.second) (listed c.in_ok-exports.exports) c.in_ok-first.ensures c.in_ok-second.ensures
+    joined_interface_built c.add_interface_of.result c.args.types.now c.join_exports.new.types c.add_interface_of.new.types c.args.x c.args.y c.requires.left c.requires.right c.in_ok-exports.ensures.grows c.add_interface_of.ensures.grows _ _ (listed c.in_ok-exports.exports) (has_exports_at c.args.types.now c.args.x c.sound.ensures c.requires.left) (has_exports_at c.args.types.now c.args.y c.sound.ensures c.requires.right)
     c.add_interface_of.ensures.made c.in_ok-exports.ensures.joined c.in_ok-exports.ensures.names c.in_ok-exports.ensures.built c.add_interface_of.ensures.err
+
+pub composites::meet_exports-returns-clause-met : goal.composites::meet_exports-returns-clause-met
+composites::meet_exports-returns-clause-met t c =
+    rw (exports_read c.args.types.now c.args.x (listed c.in_ok-first.first) c.in_ok-first.ensures, exports_read c.args.types.now c.args.y (listed c.in_ok-second.second) c.in_ok-second.ensures) at c.meet_externs.ensures.met
+
+pub composites::meet_exports-returns-clause-names : goal.composites::meet_exports-returns-clause-names
+composites::meet_exports-returns-clause-names t c =
+    rw (exports_read c.args.types.now c.args.x (listed c.in_ok-first.first) c.in_ok-first.ensures, exports_read c.args.types.now c.args.y (listed c.in_ok-second.second) c.in_ok-second.ensures) at c.meet_externs.ensures.names
+
+pub composites::meet_exports-returns-clause-built : goal.composites::meet_exports-returns-clause-built
+composites::meet_exports-returns-clause-built t c =
+    rw (exports_read c.args.types.now c.args.x (listed c.in_ok-first.first) c.in_ok-first.ensures, exports_read c.args.types.now c.args.y (listed c.in_ok-second.second) c.in_ok-second.ensures) at (Runs-exports c.args.types.now c.args.x c.args.y c.requires.left c.requires.right (listed c.in_ok-first.first) (listed c.in_ok-second.second) c.in_ok-first.ensures c.in_ok-second.ensures c.meet_externs.new.types _ c.meet_externs.ensures.built)
+
+pub composites::join_exports-returns-clause-joined : goal.composites::join_exports-returns-clause-joined
+composites::join_exports-returns-clause-joined t c =
+    rw (exports_read c.args.types.now c.args.x (listed c.in_ok-first.first) c.in_ok-first.ensures, exports_read c.args.types.now c.args.y (listed c.in_ok-second.second) c.in_ok-second.ensures) at c.join_externs.ensures.joined
+
+pub composites::join_exports-returns-clause-names : goal.composites::join_exports-returns-clause-names
+composites::join_exports-returns-clause-names t c =
+    rw (exports_read c.args.types.now c.args.x (listed c.in_ok-first.first) c.in_ok-first.ensures) at c.join_externs.ensures.names
+
+pub composites::join_exports-returns-clause-built : goal.composites::join_exports-returns-clause-built
+composites::join_exports-returns-clause-built t c =
+    rw (exports_read c.args.types.now c.args.x (listed c.in_ok-first.first) c.in_ok-first.ensures, exports_read c.args.types.now c.args.y (listed c.in_ok-second.second) c.in_ok-second.ensures) at (Runs-exports c.args.types.now c.args.x c.args.y c.requires.left c.requires.right (listed c.in_ok-first.first) (listed c.in_ok-second.second) c.in_ok-first.ensures c.in_ok-second.ensures c.join_externs.new.types _ c.join_externs.ensures.built)
 
 pub composites::meet_world_exports-returns-clause-met : goal.composites::meet_world_exports-returns-clause-met
 composites::meet_world_exports-returns-clause-met t c =

@@ -26,10 +26,16 @@ abbrev pub decreases-items::join_types : goal.decreases-items::join_types
 decreases-items::join_types l = 7 * keys_height l.types.now (type_keys l.a) + 2
 
 abbrev pub decreases-composites::meet_interfaces : goal.decreases-composites::meet_interfaces
-decreases-composites::meet_interfaces l = 7 * height l.types.now (interface_key l.x)
+decreases-composites::meet_interfaces l = 7 * height l.types.now (interface_key l.x) + 1
 
 abbrev pub decreases-composites::join_interfaces : goal.decreases-composites::join_interfaces
-decreases-composites::join_interfaces l = 7 * height l.types.now (interface_key l.x)
+decreases-composites::join_interfaces l = 7 * height l.types.now (interface_key l.x) + 1
+
+abbrev pub decreases-composites::meet_exports : goal.decreases-composites::meet_exports
+decreases-composites::meet_exports l = 7 * height l.types.now (interface_key l.x)
+
+abbrev pub decreases-composites::join_exports : goal.decreases-composites::join_exports
+decreases-composites::join_exports l = 7 * height l.types.now (interface_key l.x)
 
 abbrev pub decreases-composites::meet_worlds : goal.decreases-composites::meet_worlds
 decreases-composites::meet_worlds l = 7 * height l.types.now (world_key l.x) + 1
