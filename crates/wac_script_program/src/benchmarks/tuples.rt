@@ -6,7 +6,7 @@ use super::instances::{AskAfresh, Side};
 use std::alloc::Global;
 use wac_types::{ItemKind, Types, ValueType};
 
-// A value of the nth tuple, in a collection of this number; n is at least 1.
+// A value of the nth tuple, in a collection of this number; where n is 0, of the first.
 fn tuple_side(alloc: Global, number: u64, n: u32) -> Result<Side, BenchError> {
     let mut types = Types::new(alloc, number);
     add_line(alloc, &mut types, "def tuple u8 u8")?;
