@@ -22,6 +22,10 @@ IsSound-with_entry c e s named = IsSound-Adds c (with_entry c e) (sort_of e) e (
 pub Extends-with_entry : (c : Collection) (e : Entry) → IsSound c → Extends c (with_entry c e)
 Extends-with_entry c e s = Extends-Adds c (with_entry c e) (sort_of e) e (Adds-with_entry c e) s
 
+-- the index at which a content was put is one of the longer list
+pub is_below : {A B C : Type 0} (g : B → C) (f : A → B) (xs ys : List A) (x : A) (i : ℕ) → i ≡ length (map f xs) → ys ≡ xs ++ x ∷ [] → i < length (map g (map f ys))
+is_below g f xs ys x i last pushed = let same : i ≡ length xs = simp length-map at last in rw pushed (simp (length-map, length-append) (omega arith))
+
 last_below : {A : Type 0} (f : A → Entry) (xs : List A) (x : A) → length xs < length (map f (xs ++ x ∷ []))
 last_below f xs x = simp (length-map, length-append) (omega arith)
 

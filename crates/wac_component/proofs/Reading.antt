@@ -1,5 +1,7 @@
 -- What an entry of a sound collection names stands there, and is lower.
-use Rattle.std.proofs.Common.{◌≡◌, ◌<◌, Some, slice_get, ap, ◌∙◌}
+use Rattle.std.proofs.Common.{◌≡◌, ◌<◌, ◌≤◌, ◌⊎◌, inl, inr, ℕ, List, length, get_or, Some, None, slice_get, arith, ap, ◌∙◌}
+use Rattle.std.proofs.lemmas.List.{length-map}
+use Rattle.std.proofs.lemmas.Option.{slice_get_cases}
 use Rattle.std.specs.Option.{option_map}
 use Rattle.wac_component.specs.Id.{Id}
 use Rattle.wac_component.specs.Collection.{Collection, DefinedContent, ResourceContent, FuncContent, InterfaceContent, WorldContent}
@@ -56,3 +58,17 @@ world_standing c p e s st is = entry_standing c (world_key p) (world_entry e) s 
 
 pub world_lower : (c : Collection) (p : Id) (e : WorldContent) → IsSound c → Stands c (world_key p) → slice_get c.worlds p.index ≡ Some e → keys_height c (world_keys e) < height c (world_key p)
 world_lower c p e s st is = entry_below c (world_key p) (world_entry e) s st (world_at c p e is)
+
+-- an interface and a world that stand say something
+found : {A : Type 0} (xs : List A) (i : ℕ) → i < length xs → (x : A) × (slice_get xs i ≡ Some x)
+found {A = A} xs i low = of (slice_get_cases xs i).1
+  where
+    of : ((x : A) × (i < length xs) × (slice_get xs i ≡ Some x) × (get_or xs i x ≡ x)) ⊎ ((length xs ≤ i) × (slice_get xs i ≡ None)) → (x : A) × (slice_get xs i ≡ Some x)
+    of (inl x) = (x.0, x.2)
+    of (inr x) = absurd (omega (arith, low, x.0))
+
+pub interface_found : (c : Collection) (p : Id) → Stands c (interface_key p) → (e : InterfaceContent) × (slice_get c.interfaces p.index ≡ Some e)
+interface_found c p st = found c.interfaces p.index (let low = st.1 in omega (arith, low, length-map c.interfaces interface_entry))
+
+pub world_found : (c : Collection) (p : Id) → Stands c (world_key p) → (e : WorldContent) × (slice_get c.worlds p.index ≡ Some e)
+world_found c p st = found c.worlds p.index (let low = st.1 in omega (arith, low, length-map c.worlds world_entry))

@@ -1,10 +1,11 @@
 -- A collection with another entry at an id, from which no walk led to the id, is sound, and what didn't reach the id is as it was.
-use Rattle.std.proofs.Common.{◌≡◌, ◌≢◌, List, [], ◌∷◌, Some, length, ◌⊎◌, inl, inr, refl, ap, sym, ◌∙◌, subst}
+use Rattle.std.proofs.Common.{◌≡◌, ◌≢◌, List, Some, length, ◌⊎◌, inl, inr, refl, ap, sym, ◌∙◌, subst}
 use Rattle.wac_component.specs.Collection.{Collection}
 use Rattle.wac_component.specs.Key.{Key, Sort, Entry, entries, entry_at, entry_keys, next, optional_keys, Each, Stands, AllStand, item_keys}
 use Rattle.wac_component.specs.Sound.{entry_count, IsSound}
-use Rattle.wac_component.specs.Reach.{IsAmong, here, there, Reaches, stay, step}
+use Rattle.wac_component.specs.Reach.{IsAmong, Reaches, stay, step}
 use Rattle.wac_component.specs.Replacing.{NamesReach, Replaces}
+use Rattle.wac_component.proofs.Among.{among_each, each_among}
 use Rattle.wac_component.proofs.Keys.{Each-map, Key-discrete}
 use Rattle.wac_component.proofs.Walks.{next_stands, no_walk_returns}
 use Rattle.wac_component.proofs.Returns.{Reaches-trans, NoReturn, IsSound-NoReturn}
@@ -19,26 +20,17 @@ pub record Puts (c d : Collection) (k : Key) (e : Entry) : Type 0 where
   pub entry : entry_at d k ≡ Some e
   pub others : (j : Key) → Stands c j → j ≢ k → entry_at d j ≡ entry_at c j
 
-each_from_among : (P : Key → Type 0) (ks : List Key) → ((k : Key) → IsAmong k ks → P k) → Each P ks
-each_from_among P [] h = tt
-each_from_among P (k ∷ ks) h = (h k here, each_from_among P ks (λ j m. h j (there m)))
-
-among_each : (P : Key → Type 0) (k : Key) (ks : List Key) → IsAmong k ks → Each P ks → P k
-among_each P k [] m h = elim m [ ]
-among_each P k (_ ∷ ks) here h = h.0
-among_each P k (j ∷ ks) (there m) h = among_each P k ks m h.1
-
 module _ (c d : Collection) (k : Key) (e : Entry) (puts : Puts c d k e) where
   pub stands_on : (j : Key) → Stands c j → Stands d j
   stands_on j h = (h.0 ∙ sym puts.number, rw (puts.lengths j.sort) h.1)
 
-  stood : (j : Key) → Stands d j → Stands c j
+  pub stood : (j : Key) → Stands d j → Stands c j
   stood j h = (h.0 ∙ puts.number, let i = h.1 in rw (puts.lengths j.sort) at i)
 
-  all_stand_on : (ks : List Key) → AllStand c ks → AllStand d ks
+  pub all_stand_on : (ks : List Key) → AllStand c ks → AllStand d ks
   all_stand_on = Each-map (Stands c) (Stands d) stands_on
 
-  next_same : (j : Key) → Stands c j → j ≢ k → next d j ≡ next c j
+  pub next_same : (j : Key) → Stands c j → j ≢ k → next d j ≡ next c j
   next_same j h ne = ap (optional_keys entry_keys) (puts.others j h ne)
 
   -- the id stands, and no walk leads from it to k
@@ -49,7 +41,7 @@ module _ (c d : Collection) (k : Key) (e : Entry) (puts : Puts c d k e) where
   apart_ne j p same = p.1 (subst (λ x. Reaches c j x) same stay)
 
   pub all_apart : (ks : List Key) → AllStand c ks → (NamesReach c ks k → ⊥) → Each IsApart ks
-  all_apart ks h none = each_from_among IsApart ks (λ j m. (among_each (Stands c) j ks m h, λ w. none (j, m, w)))
+  all_apart ks h none = each_among IsApart ks (λ j m. (among_each (Stands c) j ks m h, λ w. none (j, m, w)))
 
   module _ (sound : IsSound c) where
     next_apart : (j : Key) → IsApart j → Each IsApart (next c j)
@@ -73,7 +65,7 @@ module _ (c d : Collection) (k : Key) (e : Entry) (puts : Puts c d k e) where
     reached_apart j t p (step {j = i} m w) = reached_apart i t (among_each IsApart i (next c j) (subst (λ ks. IsAmong i ks) (next_same j p.0 (apart_ne j p)) m) (next_apart j p)) w
 
     -- a walk in d is one in c, or passes through k
-    same_or_through : (j t : Key) → Stands c j → Reaches d j t → Reaches c j t ⊎ (Reaches d j k × Reaches d k t)
+    pub same_or_through : (j t : Key) → Stands c j → Reaches d j t → Reaches c j t ⊎ (Reaches d j k × Reaches d k t)
     same_or_through j t st stay = inl stay
     same_or_through j t st (step {j = i} m w) = by_key (Key-discrete j k) (λ si. same_or_through i t si w)
       where

@@ -1,6 +1,7 @@
 -- What the search for a cycle finds.
-use Rattle.std.proofs.Common.{◌≡◌, ◌≢◌, Bool, false, IsTrue, Contains, ◌<◌, ℕ, ◌+◌, ◌⊎◌, inl, inr, suc, zero, List, [], ◌∷◌, Option, None, Some, map, length, slice_get, refl, ap, sym, ◌∙◌, subst, arith}
+use Rattle.std.proofs.Common.{◌≡◌, ◌≢◌, Bool, false, IsTrue, Contains, ◌<◌, ℕ, ◌+◌, ◌⊎◌, inl, inr, suc, zero, List, [], ◌∷◌, Option, None, Some, map, length, slice_get, Result, Ok, Err, refl, ap, sym, ◌∙◌, subst, arith}
 use Rattle.std.specs.Option.{option_map}
+use Rattle.std.specs.Result.{IfOk}
 use Rattle.wac_model.specs.CoreTree.{ModuleTree}
 use Rattle.wac_component.specs.Id.{Id}
 use Rattle.wac_component.specs.Collection.{Collection}
@@ -70,3 +71,8 @@ none_from c k t ks same found is one other many none w =
 
 pub still_none : (c : Collection) (before after : List EntryId) (from target : EntryId) → ((e : EntryId) → Contains after e → Contains before e ⊎ (e ≡ from)) → NoneReaches c before target → (Reaches c (key_of from) (key_of target) → ⊥) → NoneReaches c after target
 still_none c before after from target only none h e m w = elim (only e m) [ inl old ↦ none e old w | inr same ↦ h (subst (λ x. Reaches c (key_of x) (key_of target)) same w) ]
+
+-- what follows from a fact of a value, if there is one
+pub if_ok : {T E : Type 0} (P Q : T → Type 0) → ((t : T) → P t → Q t) → (r : Result T E) → IfOk r P → IfOk r Q
+if_ok P Q f (Ok t) h = f t h
+if_ok P Q f (Err e) h = h

@@ -1,5 +1,8 @@
 -- Visits of one list after another.
 use Rattle.std.proofs.Common.{◌≡◌, inl, inr, ℕ, suc, zero, ◌+◌, add-one, List, [], ◌∷◌, ◌++◌, drop, slice_get, length, arith, ◌≤◌, Option, Some, None, Result, Ok, Err, refl, ap, sym, ◌∙◌, subst}
+use denote.Param.Always.{always_mut, mut_next}
+use Rattle.std.specs.Fn.{Mut}
+use Rattle.std.specs.Borrow.{Bor}
 use Rattle.std.specs.List.{flat_map}
 use Rattle.std.specs.Option.{option_to_list, option_map}
 use Rattle.std.specs.declared.string.String.{String}
@@ -11,7 +14,7 @@ use Rattle.wac_component.specs.Key.{Key, func_entry, interface_entry, world_entr
 use Rattle.wac_component.specs.Sound.{IsSound}
 use Rattle.wac_component.specs.Height.{height, keys_height}
 use Rattle.wac_component.specs.Content.{named, types_of, case_types}
-use Rattle.wac_component.specs.Visits.{own_id, optional_ids, func_ids, extern_ids, externs_ids, entry_ids, referred, VisitsEach}
+use Rattle.wac_component.specs.Visits.{own_id, optional_ids, func_ids, extern_ids, externs_ids, entry_ids, referred, CallsOn, VisitsEach, MayVisit}
 use Rattle.wac_component.specs.declared.items.ValueType.{ValueType}
 use Rattle.wac_component.specs.declared.items.ItemKind.{ItemKind}
 use Rattle.wac_component.specs.declared.items.ItemKind.TheVariants.{«Type» as OfType, Func, Instance, Component, Module, Value}
@@ -59,6 +62,30 @@ module _ {F E : Type 0} (step : F → Id → Result (Unit {0}) E → F → Type 
   pub Remains-done : {X : Type 0} (ids : X → List Id) (xs : List X) (i : ℕ) (f h : F) → length xs ≤ i → Remains f (flat_map ids xs) h (flat_map ids (drop i xs)) → VisitsEach step f (flat_map ids xs) (Ok tt) h
   Remains-done ids xs i f h l p = p (Ok tt) h (subst (λ ys. VisitsEach step h (flat_map ids ys) (Ok tt) h) (sym (drop-past xs i l)) (refl, refl))
 
+module _ {F E : Type 0} (calls : Mut F (Bor Collection × (Id × Unit {0})) (Result (Unit {0}) E)) (c : Collection) where
+  -- of one list after another, the visitor may be called on the first, and after it on the second
+  pub MayVisit-front : (xs ys : List Id) (f : F) → MayVisit calls c f (xs ++ ys) → MayVisit calls c f xs
+  MayVisit-front [] ys f m = tt
+  MayVisit-front (x ∷ xs) ys f m = (m.0, λ g s. MayVisit-front xs ys g (m.1 g s))
+
+  pub MayVisit-rest : (xs ys : List Id) (f g : F) → MayVisit calls c f (xs ++ ys) → VisitsEach (CallsOn calls c) f xs (Ok tt) g → MayVisit calls c g ys
+  MayVisit-rest [] ys f g m v = subst (λ h. MayVisit calls c h ys) (sym v.1) m
+  MayVisit-rest (x ∷ xs) ys f g m (inl v) = MayVisit-rest xs ys v.0 g (m.1 v.0 v.1) v.2
+  MayVisit-rest (x ∷ xs) ys f g m (inr v) = absurd (cc (v.2))
+
+  -- a visitor that may always be called may be called on these
+  pub MayVisit-always : (xs : List Id) (f : F) → always_mut calls f → MayVisit calls c f xs
+  MayVisit-always [] f h = tt
+  MayVisit-always (x ∷ xs) f h = (λ shown shows. (h.at ((shown, (x, tt)) ∷ [])).0, λ g s. MayVisit-always xs g (mut_next calls f (s.shown, (x, tt)) (Ok tt) g g s.called refl h))
+
+  -- at a place of a list: on what is there, and after it on what is left
+  module _ {X : Type 0} (ids : X → List Id) (xs : List X) (i : ℕ) (x : X) (at : slice_get xs i ≡ Some x) where
+    pub MayVisit-here : (f : F) → MayVisit calls c f (flat_map ids (drop i xs)) → MayVisit calls c f (ids x)
+    MayVisit-here f m = MayVisit-front (ids x) (flat_map ids (drop (suc i) xs)) f (subst (λ ys. MayVisit calls c f ys) (flat_map-drop ids xs i x at) m)
+
+    pub MayVisit-after : (f g : F) → MayVisit calls c f (flat_map ids (drop i xs)) → VisitsEach (CallsOn calls c) f (ids x) (Ok tt) g → MayVisit calls c g (flat_map ids (drop (i + 1) xs))
+    MayVisit-after f g m v = rw add-one (MayVisit-rest (ids x) (flat_map ids (drop (suc i) xs)) f g (subst (λ ys. MayVisit calls c f ys) (flat_map-drop ids xs i x at) m) v)
+
 -- by the values of a map
 pub flat_map-named : {V A : Type 0} (f : V → List A) (es : List (String Global × V)) → flat_map (λ (e : Text × V). f e.1) (named (λ v. v) es) ≡ flat_map f (types_of es)
 flat_map-named f [] = refl
@@ -100,7 +127,7 @@ externs_ids-agree P f g same [] h = refl
 externs_ids-agree P f g same (e ∷ es) h =
     rw (extern_ids-agree P f g same e.1 (Each-left P (item_keys e.1) (named_keys item_keys es) h), externs_ids-agree P f g same es (Each-right P (item_keys e.1) (named_keys item_keys es) h)) refl
 
-entry_ids-local : (P : Key → Type 0) → Agrees entry_ids entry_ids P
+pub entry_ids-local : (P : Key → Type 0) → Agrees entry_ids entry_ids P
 entry_ids-local P f g same (defined_entry e) h = refl
 entry_ids-local P f g same (resource_entry e) h = refl
 entry_ids-local P f g same (func_entry e) h = refl

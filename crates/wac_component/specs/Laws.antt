@@ -1,10 +1,12 @@
 -- The laws of collections.
-use Rattle.std.specs.Prelude.{◌≡◌, ◌↔◌, ◌⊎◌, Some, slice_get}
+use Rattle.std.specs.Prelude.{◌≡◌, ◌↔◌, ◌⊎◌, Some, map, slice_get}
 use Rattle.wac_model.specs.CoreTree.{ModuleTree}
 use Rattle.wac_model.specs.ItemTree.{item, composite, core_module, leaf, func, interface, world, no_items}
 use Rattle.wac_component.specs.Id.{Id}
 use Rattle.wac_component.specs.Collection.{Collection, DefinedContent, ResourceContent, FuncContent, InterfaceContent, WorldContent}
-use Rattle.wac_component.specs.Key.{Key, Entry, next, entry_keys, import_keys, other_keys, Stands, AllStand, value_keys, defined_key, resource_key, func_key, interface_key, world_key}
+use Rattle.wac_component.specs.Key.{Key, Entry, next, entry_keys, import_keys, other_keys, Stands, AllStand, value_keys, defined_key, resource_key, func_key, interface_key, world_key, type_keys}
+use Rattle.wac_component.specs.Visits.{visits}
+use Rattle.wac_component.specs.declared.items.Type.{«Type» as TypeOf}
 use Rattle.wac_component.specs.Sound.{IsSound}
 use Rattle.wac_component.specs.Reach.{IsAmong, Reaches}
 use Rattle.wac_component.specs.Tree.{root_name, content_name, value_tree, content_tree, func_tree, func_content_tree, item_tree, items_of}
@@ -38,6 +40,10 @@ WalksStand = (c : Collection) → IsSound c → (k t : Key) → Stands c k → R
 -- no walk of a step or more leads back to its start
 abbrev pub NoWalkReturns : Type 0
 NoWalkReturns = (c : Collection) → IsSound c → (k j : Key) → Stands c k → IsAmong j (next c k) → Reaches c j k → ⊥
+
+-- each defined type that a visit sees stands
+abbrev pub VisitsStand : Type 0
+VisitsStand = (c : Collection) → IsSound c → (t : TypeOf) → AllStand c (type_keys t) → AllStand c (map defined_key (visits c t))
 
 -- the ids in an entry are those in what it imports and those in the rest of it
 abbrev pub ImportsAreApart : Type 0

@@ -1,11 +1,8 @@
 -- The ids of any sort, as code lists them.
-use Rattle.std.specs.Prelude.{List, Option, Contains}
+use Rattle.std.specs.Prelude.{List, Contains}
 use Rattle.wac_component.specs.Collection.{Collection}
 use Rattle.wac_component.specs.Reach.{Reaches}
-use Rattle.wac_component.specs.Content.{use_content}
-use Rattle.wac_component.specs.Key.{Key, defined_key, resource_key, func_key, interface_key, world_key, module_key, value_keys, use_keys, optional_keys}
-use Rattle.wac_component.specs.declared.items.ValueType.{ValueType}
-use Rattle.wac_component.specs.declared.interfaces.UsedType.{UsedType}
+use Rattle.wac_component.specs.Key.{Key, defined_key, resource_key, func_key, interface_key, world_key, module_key}
 use Rattle.wac_component.specs.declared.collection.naming.EntryId.{EntryId}
 use Rattle.wac_component.specs.declared.collection.naming.EntryId.TheVariants.{Defined, Resource, Func, Interface, World, Module}
 
@@ -17,14 +14,6 @@ key_of (Func p) = func_key p
 key_of (Interface p) = interface_key p
 key_of (World p) = world_key p
 key_of (Module p) = module_key p
-
--- the id in a value type, if there is a type and it has one
-abbrev pub optional_value_keys : Option ValueType → List Key
-optional_value_keys t = optional_keys value_keys t
-
--- the id of the interface that a type is used from
-abbrev pub used_keys : UsedType → List Key
-used_keys u = use_keys (use_content u)
 
 -- no walk leads from one of these ids to the target
 abbrev pub NoneReaches : Collection → List EntryId → EntryId → Type 0

@@ -2,7 +2,7 @@
 use Rattle.std.specs.Prelude.{◌≡◌, ◌⊎◌, List, [], ◌∷◌, ◌++◌, Option, slice_get, Result, Ok, Err}
 use Rattle.std.specs.List.{flat_map}
 use Rattle.std.specs.Option.{option_map_or}
-use Rattle.std.specs.Fn.{Mut, Called}
+use Rattle.std.specs.Fn.{Mut, Called, Takes}
 use Rattle.std.specs.Borrow.{Bor}
 use Rattle.wac_model.specs.Text.{Text}
 use Rattle.wac_component.specs.Id.{Id}
@@ -79,3 +79,8 @@ pub record CallsOn {F E : Type 0} (calls : Mut F (Bor Collection × (Id × Unit 
 abbrev pub VisitsEach : {F E : Type 0} → (F → Id → Result (Unit {0}) E → F → Type 0) → F → List Id → Result (Unit {0}) E → F → Type 0
 VisitsEach step f [] r g = (r ≡ Ok tt) × (g ≡ f)
 VisitsEach {F} {E} step f (x ∷ xs) r g = ((h : F) × step f x (Ok tt) h × VisitsEach step h xs r g) ⊎ ((e : E) × step f x (Err e) g × (r ≡ Err e))
+
+-- the visitor may be called on the collection and each id in order, for as long as it answers Ok
+abbrev pub MayVisit : {F E : Type 0} → Mut F (Bor Collection × (Id × Unit {0})) (Result (Unit {0}) E) → Collection → F → List Id → Type 0
+MayVisit calls c f [] = Unit {0}
+MayVisit {F} {E} calls c f (x ∷ xs) = ((shown : Bor Collection) → shown.now ≡ c → Takes calls f (shown, (x, tt))) × ((g : F) → CallsOn calls c f x (Ok tt) g → MayVisit calls c g xs)

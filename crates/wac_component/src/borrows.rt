@@ -1,6 +1,6 @@
 //! Whether a borrowed handle stands in a type.
 
-ghost use Rattle.std.specs.Prelude.{◌≡◌, ◌<◌, Some, length, slice_get, map};
+ghost use Rattle.std.specs.Prelude.{◌≡◌, map};
 ghost use Rattle.std.specs.List.{flat_map};
 ghost use Rattle.std.specs.Option.{option_to_list};
 ghost use Rattle.wac_model.specs.ValueTree.{parts_of};
@@ -12,6 +12,7 @@ ghost use Rattle.wac_component.specs.Tree.{value_tree, content_tree};
 use super::collection::Types;
 use super::defined::DefinedType;
 use super::items::ValueType;
+use super::parts::{item_at, value_at};
 use indexmap::IndexMap;
 
 impl ValueType {
@@ -80,13 +81,6 @@ fn items_borrow(items: &[ValueType], types: &Types) -> bool
     false
 }
 
-fn item_at(items: &[ValueType], index: usize) -> ValueType
-    requires { index < length items.now }
-    ensures { slice_get items.now index ≡ Some result }
-{
-    items[index]
-}
-
 // Whether a borrowed handle stands in a field of a record.
 #[cycle(borrows)]
 fn fields_borrow(fields: &IndexMap<String, ValueType>, types: &Types) -> bool
@@ -94,19 +88,11 @@ fn fields_borrow(fields: &IndexMap<String, ValueType>, types: &Types) -> bool
     ensures { result ≡ have_borrow (parts_of (map (value_tree types.now) (types_of fields.now.entries))) }
 {
     for i in 0..fields.len() {
-        if field_at(fields, i).contains_borrow(types) {
+        if value_at(fields, i).contains_borrow(types) {
             return true;
         }
     }
     false
-}
-
-fn field_at(fields: &IndexMap<String, ValueType>, index: usize) -> ValueType
-    requires { index < length fields.now.entries }
-    ensures { slice_get (types_of fields.now.entries) index ≡ Some result }
-{
-    let (_, ty) = fields.get_index(index).unwrap();
-    *ty
 }
 
 // Whether a borrowed handle stands in a case of a variant.
@@ -116,17 +102,9 @@ fn cases_borrow(cases: &IndexMap<String, Option<ValueType>>, types: &Types) -> b
     ensures { result ≡ have_borrow (parts_of (map (value_tree types.now) (case_types cases.now.entries))) }
 {
     for i in 0..cases.len() {
-        if optional_borrows(case_at(cases, i), types) {
+        if optional_borrows(value_at(cases, i), types) {
             return true;
         }
     }
     false
-}
-
-fn case_at(cases: &IndexMap<String, Option<ValueType>>, index: usize) -> &Option<ValueType>
-    requires { index < length cases.now.entries }
-    ensures { slice_get (types_of cases.now.entries) index ≡ Some result.now }
-{
-    let (_, ty) = cases.get_index(index).unwrap();
-    ty
 }

@@ -59,6 +59,7 @@ impl Types {
     ghost use Rattle.wac_component.specs.Sound.{IsSound};
     ghost use Rattle.wac_component.specs.Height.{keys_height};
     ghost use Rattle.wac_component.specs.Tree.{value_tree, content_tree, root_name, content_name, func_tree, func_content_tree, module_tree, item_tree, externs, interface_externs, world_externs, IsResolved, IsRoot};
+    ghost use Rattle.wac_component.specs.Aliases.{IsMeantBy, IsSourceOf};
     ghost use Rattle.wac_component.specs.Growth.{Extends};
     ghost use Rattle.wac_component.specs.declared.items.ValueType.TheVariants.{Defined};
 
@@ -247,13 +248,14 @@ impl Types {
         id.number() == self.number && id.index() < self.resources.len()
     }
 
-    /// The value type with aliases peeled.
+    /// The value type with aliases peeled: itself where it is no alias.
     pub fn resolve_value_type(&self, ty: ValueType) -> ValueType
         requires { AllStand self.now (value_keys ty) }
         ensures tree { value_tree self.now result ≡ value_tree self.now ty }
         ensures standing { AllStand self.now (value_keys result) }
         ensures lower { keys_height self.now (value_keys result) ≤ keys_height self.now (value_keys ty) }
         ensures resolved { IsResolved self.now result }
+        ensures reached { IsMeantBy self.now ty result }
     {
         match ty {
             ValueType::Defined(id) => match &self[id] {
@@ -264,12 +266,13 @@ impl Types {
         }
     }
 
-    /// The resource at the root of a chain of aliases.
+    /// The resource at the root of a chain of aliases: itself where it is no alias.
     pub fn resolve_resource(&self, id: ResourceId) -> ResourceId
         requires { Stands self.now (resource_key id) }
         ensures name { root_name self.now result ≡ root_name self.now id }
         ensures standing { Stands self.now (resource_key result) }
         ensures root { IsRoot self.now result }
+        ensures reached { IsSourceOf self.now id result }
     {
         match self[id].alias {
             Some(alias) => self.resolve_resource(alias.source),

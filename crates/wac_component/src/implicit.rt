@@ -11,7 +11,7 @@ use super::collection::Types;
 use super::ids::InterfaceId;
 use super::interfaces::UsedType;
 use super::items::ItemKind;
-use super::visits::value_at;
+use super::parts::value_at;
 use super::worlds::World;
 use indexmap::IndexMap;
 use std::alloc::{AllocError, Global};

@@ -1,6 +1,6 @@
 //! Laws of collections and of their entries. Each is the contract of a function that changes nothing.
 
-ghost use Rattle.wac_component.specs.Laws.{IsReflexive, IsTransitive, TreesFollowEntries, ImportsAreApart, LeavesDependOnLeaves, WalksStand, NoWalkReturns};
+ghost use Rattle.wac_component.specs.Laws.{IsReflexive, IsTransitive, TreesFollowEntries, ImportsAreApart, LeavesDependOnLeaves, WalksStand, NoWalkReturns, VisitsStand};
 ghost use Rattle.wac_core.specs.Content.{module_content};
 ghost use Rattle.wac_component.specs.Content.{defined_content, func_content, interface_content, world_content};
 ghost use Rattle.wac_component.specs.Distinct.{HasDistinctNames};
@@ -32,6 +32,11 @@ pub fn walks_stand()
 /// In a sound collection no walk along ids leads back to its start.
 pub fn no_walk_returns()
     ensures { NoWalkReturns }
+{}
+
+/// In a sound collection each defined type that a visit of a type sees stands, if the type does.
+pub fn visited_types_stand()
+    ensures { VisitsStand }
 {}
 
 /// The ids in an entry are those in what it imports and those in the rest of it.

@@ -12,6 +12,7 @@ pub mod implicit;
 pub mod interfaces;
 pub mod items;
 pub mod laws;
+mod parts;
 pub mod resources;
 pub mod visits;
 pub mod worlds;

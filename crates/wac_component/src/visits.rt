@@ -1,15 +1,16 @@
 //! Visits of the defined types that a type refers to.
 
-ghost use Rattle.std.specs.Prelude.{◌≡◌, ◌<◌, Some, length, slice_get};
+ghost use Rattle.std.specs.Prelude.{◌≡◌};
 ghost use Rattle.std.specs.List.{flat_map};
 ghost use Rattle.wac_component.specs.Content.{defined_content, types_of, named};
 ghost use Rattle.wac_component.specs.Key.{Stands, AllStand, type_keys, item_keys, named_keys, func_key, interface_key, world_key};
-ghost use Rattle.wac_component.specs.Visits.{own_id, optional_ids, extern_ids, externs_ids, referred, member_ids, visits, CallsOn, VisitsEach};
+ghost use Rattle.wac_component.specs.Visits.{own_id, optional_ids, extern_ids, externs_ids, referred, member_ids, visits, CallsOn, VisitsEach, MayVisit};
 
 use super::collection::Types;
 use super::defined::DefinedType;
 use super::ids::{DefinedTypeId, FuncTypeId, InterfaceId, WorldId};
 use super::items::{ItemKind, Type, ValueType};
+use super::parts::{item_at, value_at};
 use indexmap::IndexMap;
 
 impl Type {
@@ -26,8 +27,7 @@ impl Type {
         visitor: &mut F,
     ) -> Result<(), E>
         requires standing { AllStand types.now (type_keys self.now) }
-        requires callable { F.IsAlwaysCallable visitor.old }
-        ensures callable { F.IsAlwaysCallable visitor.new }
+        requires callable { MayVisit F.FnMut types.now visitor.old (visits types.now self.now) }
         ensures visited { VisitsEach (CallsOn F.FnMut types.now) visitor.old (visits types.now self.now) result visitor.new }
     {
         match self {
@@ -47,8 +47,7 @@ fn visit_value_and_members<E: Drop, F: FnMut(&Types, DefinedTypeId) -> Result<()
     visitor: &mut F,
 ) -> Result<(), E>
     requires standing { AllStand types.now (type_keys (Type.Value ty)) }
-    requires callable { F.IsAlwaysCallable visitor.old }
-    ensures callable { F.IsAlwaysCallable visitor.new }
+    requires callable { MayVisit F.FnMut types.now visitor.old (visits types.now (Type.Value ty)) }
     ensures visited { VisitsEach (CallsOn F.FnMut types.now) visitor.old (visits types.now (Type.Value ty)) result visitor.new }
 {
     let ValueType::Defined(id) = ty else {
@@ -64,8 +63,7 @@ fn visit_members<E: Drop, F: FnMut(&Types, DefinedTypeId) -> Result<(), E>>(
     types: &Types,
     visitor: &mut F,
 ) -> Result<(), E>
-    requires { F.IsAlwaysCallable visitor.old }
-    ensures callable { F.IsAlwaysCallable visitor.new }
+    requires { MayVisit F.FnMut types.now visitor.old (member_ids (defined_content ty.now)) }
     ensures visited { VisitsEach (CallsOn F.FnMut types.now) visitor.old (member_ids (defined_content ty.now)) result visitor.new }
 {
     match ty {
@@ -91,8 +89,7 @@ fn visit_value<E: Drop, F: FnMut(&Types, DefinedTypeId) -> Result<(), E>>(
     types: &Types,
     visitor: &mut F,
 ) -> Result<(), E>
-    requires { F.IsAlwaysCallable visitor.old }
-    ensures callable { F.IsAlwaysCallable visitor.new }
+    requires { MayVisit F.FnMut types.now visitor.old (own_id ty) }
     ensures visited { VisitsEach (CallsOn F.FnMut types.now) visitor.old (own_id ty) result visitor.new }
 {
     match ty {
@@ -107,8 +104,7 @@ fn visit_optional<E: Drop, F: FnMut(&Types, DefinedTypeId) -> Result<(), E>>(
     types: &Types,
     visitor: &mut F,
 ) -> Result<(), E>
-    requires { F.IsAlwaysCallable visitor.old }
-    ensures callable { F.IsAlwaysCallable visitor.new }
+    requires { MayVisit F.FnMut types.now visitor.old (optional_ids ty.now) }
     ensures visited { VisitsEach (CallsOn F.FnMut types.now) visitor.old (optional_ids ty.now) result visitor.new }
 {
     match ty {
@@ -123,8 +119,7 @@ fn visit_items<E: Drop, F: FnMut(&Types, DefinedTypeId) -> Result<(), E>>(
     types: &Types,
     visitor: &mut F,
 ) -> Result<(), E>
-    requires { F.IsAlwaysCallable visitor.old }
-    ensures callable { F.IsAlwaysCallable visitor.new }
+    requires { MayVisit F.FnMut types.now visitor.old (flat_map own_id items.now) }
     ensures visited { VisitsEach (CallsOn F.FnMut types.now) visitor.old (flat_map own_id items.now) result visitor.new }
 {
     for i in 0..items.len() {
@@ -133,21 +128,13 @@ fn visit_items<E: Drop, F: FnMut(&Types, DefinedTypeId) -> Result<(), E>>(
     Ok(())
 }
 
-fn item_at(items: &[ValueType], index: usize) -> ValueType
-    requires { index < length items.now }
-    ensures { slice_get items.now index ≡ Some result }
-{
-    items[index]
-}
-
 // The same of the fields of a record, or the parameters of a function.
 fn visit_fields<E: Drop, F: FnMut(&Types, DefinedTypeId) -> Result<(), E>>(
     fields: &IndexMap<String, ValueType>,
     types: &Types,
     visitor: &mut F,
 ) -> Result<(), E>
-    requires { F.IsAlwaysCallable visitor.old }
-    ensures callable { F.IsAlwaysCallable visitor.new }
+    requires { MayVisit F.FnMut types.now visitor.old (flat_map own_id (types_of fields.now.entries)) }
     ensures visited { VisitsEach (CallsOn F.FnMut types.now) visitor.old (flat_map own_id (types_of fields.now.entries)) result visitor.new }
 {
     for i in 0..fields.len() {
@@ -162,22 +149,13 @@ fn visit_cases<E: Drop, F: FnMut(&Types, DefinedTypeId) -> Result<(), E>>(
     types: &Types,
     visitor: &mut F,
 ) -> Result<(), E>
-    requires { F.IsAlwaysCallable visitor.old }
-    ensures callable { F.IsAlwaysCallable visitor.new }
+    requires { MayVisit F.FnMut types.now visitor.old (flat_map optional_ids (types_of cases.now.entries)) }
     ensures visited { VisitsEach (CallsOn F.FnMut types.now) visitor.old (flat_map optional_ids (types_of cases.now.entries)) result visitor.new }
 {
     for i in 0..cases.len() {
         visit_optional(value_at(cases, i), types, visitor)?;
     }
     Ok(())
-}
-
-pub(crate) fn value_at<V>(map: &IndexMap<String, V>, index: usize) -> &V
-    requires { index < length map.now.entries }
-    ensures { slice_get (types_of map.now.entries) index ≡ Some result.now }
-{
-    let (_, value) = map.get_index(index).unwrap();
-    value
 }
 
 // Visits what a function refers to.
@@ -187,8 +165,7 @@ fn visit_func<E: Drop, F: FnMut(&Types, DefinedTypeId) -> Result<(), E>>(
     visitor: &mut F,
 ) -> Result<(), E>
     requires standing { Stands types.now (func_key id) }
-    requires callable { F.IsAlwaysCallable visitor.old }
-    ensures callable { F.IsAlwaysCallable visitor.new }
+    requires callable { MayVisit F.FnMut types.now visitor.old (referred types.now (func_key id)) }
     ensures visited { VisitsEach (CallsOn F.FnMut types.now) visitor.old (referred types.now (func_key id)) result visitor.new }
 {
     types.sound();
@@ -205,8 +182,7 @@ fn visit_interface<E: Drop, F: FnMut(&Types, DefinedTypeId) -> Result<(), E>>(
     visitor: &mut F,
 ) -> Result<(), E>
     requires standing { Stands types.now (interface_key id) }
-    requires callable { F.IsAlwaysCallable visitor.old }
-    ensures callable { F.IsAlwaysCallable visitor.new }
+    requires callable { MayVisit F.FnMut types.now visitor.old (referred types.now (interface_key id)) }
     ensures visited { VisitsEach (CallsOn F.FnMut types.now) visitor.old (referred types.now (interface_key id)) result visitor.new }
 {
     types.sound();
@@ -221,8 +197,7 @@ fn visit_world<E: Drop, F: FnMut(&Types, DefinedTypeId) -> Result<(), E>>(
     visitor: &mut F,
 ) -> Result<(), E>
     requires standing { Stands types.now (world_key id) }
-    requires callable { F.IsAlwaysCallable visitor.old }
-    ensures callable { F.IsAlwaysCallable visitor.new }
+    requires callable { MayVisit F.FnMut types.now visitor.old (referred types.now (world_key id)) }
     ensures visited { VisitsEach (CallsOn F.FnMut types.now) visitor.old (referred types.now (world_key id)) result visitor.new }
 {
     types.sound();
@@ -239,8 +214,7 @@ fn visit_externs<E: Drop, F: FnMut(&Types, DefinedTypeId) -> Result<(), E>>(
     visitor: &mut F,
 ) -> Result<(), E>
     requires standing { AllStand types.now (named_keys item_keys (named (λ k. k) externs.now.entries)) }
-    requires callable { F.IsAlwaysCallable visitor.old }
-    ensures callable { F.IsAlwaysCallable visitor.new }
+    requires callable { MayVisit F.FnMut types.now visitor.old (externs_ids (referred types.now) (named (λ k. k) externs.now.entries)) }
     ensures visited { VisitsEach (CallsOn F.FnMut types.now) visitor.old (externs_ids (referred types.now) (named (λ k. k) externs.now.entries)) result visitor.new }
 {
     for i in 0..externs.len() {
@@ -257,8 +231,7 @@ fn visit_extern<E: Drop, F: FnMut(&Types, DefinedTypeId) -> Result<(), E>>(
     visitor: &mut F,
 ) -> Result<(), E>
     requires standing { AllStand types.now (item_keys kind) }
-    requires callable { F.IsAlwaysCallable visitor.old }
-    ensures callable { F.IsAlwaysCallable visitor.new }
+    requires callable { MayVisit F.FnMut types.now visitor.old (extern_ids (referred types.now) kind) }
     ensures visited { VisitsEach (CallsOn F.FnMut types.now) visitor.old (extern_ids (referred types.now) kind) result visitor.new }
 {
     match kind.ty() {

@@ -23,22 +23,22 @@ borrows::items_borrow-returns t c = sym (any_borrows-none (value_tree c.args.typ
 
 pub borrows::fields_borrow-contains_borrow-requires : goal.borrows::fields_borrow-contains_borrow-requires
 borrows::fields_borrow-contains_borrow-requires t c =
-    let lower : keys_height c.args.types.now (value_keys c.field_at.result) ≤ keys_height c.args.types.now (flat_map value_keys (types_of c.args.fields.now.entries)) = keys_height-member c.args.types.now (types_of c.args.fields.now.entries) c.loop-i.i c.field_at.result c.field_at.ensures in
-    (omega arith, AllStand-member c.args.types.now (types_of c.args.fields.now.entries) c.loop-i.i c.field_at.result c.field_at.ensures c.requires)
+    let lower : keys_height c.args.types.now (value_keys c.value_at.result.now) ≤ keys_height c.args.types.now (flat_map value_keys (types_of c.args.fields.now.entries)) = keys_height-member c.args.types.now (types_of c.args.fields.now.entries) c.loop-i.i c.value_at.result.now c.value_at.ensures in
+    (omega arith, AllStand-member c.args.types.now (types_of c.args.fields.now.entries) c.loop-i.i c.value_at.result.now c.value_at.ensures c.requires)
 
 pub borrows::fields_borrow-returns-then-contains_borrow : goal.borrows::fields_borrow-returns-then-contains_borrow
-borrows::fields_borrow-returns-then-contains_borrow t c = sym (any_borrows-found (value_tree c.args.types.now) (types_of c.args.fields.now.entries) c.loop-i.i c.field_at.result c.field_at.ensures (sym c.contains_borrow.ensures ∙ c.if-contains_borrow.true))
+borrows::fields_borrow-returns-then-contains_borrow t c = sym (any_borrows-found (value_tree c.args.types.now) (types_of c.args.fields.now.entries) c.loop-i.i c.value_at.result.now c.value_at.ensures (sym c.contains_borrow.ensures ∙ c.if-contains_borrow.true))
 
 pub borrows::fields_borrow-returns : goal.borrows::fields_borrow-returns
 borrows::fields_borrow-returns t c = sym (any_borrows-none (value_tree c.args.types.now) (types_of c.args.fields.now.entries) c.loop-i.i (simp length-map (omega arith)) c.loop-i.invariant)
 
 pub borrows::cases_borrow-optional_borrows-requires : goal.borrows::cases_borrow-optional_borrows-requires
 borrows::cases_borrow-optional_borrows-requires t c =
-    let lower : keys_height c.args.types.now (flat_map value_keys (option_to_list c.case_at.result.now)) ≤ keys_height c.args.types.now (flat_map value_keys (case_types c.args.cases.now.entries)) = largest-case (height c.args.types.now) c.args.cases.now.entries c.loop-i.i c.case_at.result.now c.case_at.ensures in
-    (omega arith, Each-case (Stands c.args.types.now) c.args.cases.now.entries c.loop-i.i c.case_at.result.now c.case_at.ensures c.requires)
+    let lower : keys_height c.args.types.now (flat_map value_keys (option_to_list c.value_at.result.now)) ≤ keys_height c.args.types.now (flat_map value_keys (case_types c.args.cases.now.entries)) = largest-case (height c.args.types.now) c.args.cases.now.entries c.loop-i.i c.value_at.result.now c.value_at.ensures in
+    (omega arith, Each-case (Stands c.args.types.now) c.args.cases.now.entries c.loop-i.i c.value_at.result.now c.value_at.ensures c.requires)
 
 pub borrows::cases_borrow-returns-then-optional_borrows : goal.borrows::cases_borrow-returns-then-optional_borrows
-borrows::cases_borrow-returns-then-optional_borrows t c = sym (any_borrows-case_found (value_tree c.args.types.now) c.args.cases.now.entries c.loop-i.i c.case_at.result.now c.case_at.ensures (sym c.optional_borrows.ensures ∙ c.if-optional_borrows.true))
+borrows::cases_borrow-returns-then-optional_borrows t c = sym (any_borrows-case_found (value_tree c.args.types.now) c.args.cases.now.entries c.loop-i.i c.value_at.result.now c.value_at.ensures (sym c.optional_borrows.ensures ∙ c.if-optional_borrows.true))
 
 pub borrows::cases_borrow-returns : goal.borrows::cases_borrow-returns
 borrows::cases_borrow-returns t c = sym (any_borrows-no_case (value_tree c.args.types.now) c.args.cases.now.entries c.loop-i.i (omega arith) c.loop-i.invariant)

@@ -1,17 +1,16 @@
 //! The ids that entries name.
 
 ghost use Rattle.std.specs.Prelude.{◌≡◌, List, ◌++◌, map, OnOk, IfOk};
-ghost use Rattle.std.specs.List.{flat_map};
 ghost use Rattle.std.specs.Option.{option_to_list};
-ghost use Rattle.wac_component.specs.Content.{named, types_of, case_types, use_content, defined_content, resource_content, func_content, interface_content, world_content};
-ghost use Rattle.wac_component.specs.Key.{value_keys, type_keys, item_keys, named_keys, use_keys, defined_keys, resource_keys, func_keys, interface_keys, world_keys};
-ghost use Rattle.wac_component.specs.Naming.{key_of, optional_value_keys, used_keys};
+ghost use Rattle.wac_component.specs.Key.{value_keys, type_keys};
+ghost use Rattle.wac_component.specs.Naming.{key_of};
+ghost use Rattle.wac_component.specs.Parts.{places, all_places, place_keys, places_keys};
 
+use crate::parts::{AllParts, Parts};
 use crate::{
-    DefinedType, DefinedTypeId, FuncType, FuncTypeId, Interface, InterfaceId, ItemKind,
-    ModuleTypeId, Resource, ResourceId, Type, UsedType, ValueType, World, WorldId,
+    DefinedTypeId, FuncTypeId, InterfaceId, ItemKind, ModuleTypeId, ResourceId, Type, ValueType,
+    WorldId,
 };
-use indexmap::IndexMap;
 use std::alloc::{AllocError, Global};
 
 // The id of an entry of any sort.
@@ -50,17 +49,13 @@ fn type_id(ty: Type) -> Option<EntryId>
     }
 }
 
-// The id in an item; one of a primitive type has none.
-fn item_id(item: ItemKind) -> Option<EntryId>
-    ensures { map key_of (option_to_list result) ≡ item_keys item }
+// The id in an item, if there is an item and it has one.
+fn place_id(place: Option<ItemKind>) -> Option<EntryId>
+    ensures { map key_of (option_to_list result) ≡ place_keys place }
 {
-    match item {
-        ItemKind::Type(ty) => type_id(ty),
-        ItemKind::Func(id) => Some(EntryId::Func(id)),
-        ItemKind::Instance(id) => Some(EntryId::Interface(id)),
-        ItemKind::Component(id) => Some(EntryId::World(id)),
-        ItemKind::Module(id) => Some(EntryId::Module(id)),
-        ItemKind::Value(ty) => value_id(ty),
+    match place {
+        Some(item) => type_id(item.ty()),
+        None => None,
     }
 }
 
@@ -74,129 +69,23 @@ fn push_id(ids: &mut Vec<EntryId>, id: Option<EntryId>) -> Result<(), AllocError
     Ok(())
 }
 
-// Puts the id in a value type last, if there is a type and it has one.
-fn push_optional(ids: &mut Vec<EntryId>, ty: Option<ValueType>) -> Result<(), AllocError>
-    ensures { OnOk result (map key_of ids.new.items ≡ map key_of ids.old.items ++ optional_value_keys ty) }
+// Puts the ids in a list of items last.
+fn push_parts(ids: &mut Vec<EntryId>, parts: &Parts<'_>) -> Result<(), AllocError>
+    ensures { OnOk result (map key_of ids.new.items ≡ map key_of ids.old.items ++ places_keys (places parts.now)) }
 {
-    if let Some(ty) = ty {
-        push_id(ids, value_id(ty))?;
+    for i in 0..parts.len() {
+        push_id(ids, place_id(parts.get(i)))?;
     }
     Ok(())
 }
 
-// Puts the ids in value types last.
-fn push_values(ids: &mut Vec<EntryId>, types: &[ValueType]) -> Result<(), AllocError>
-    ensures { OnOk result (map key_of ids.new.items ≡ map key_of ids.old.items ++ flat_map value_keys types.now) }
+// The ids in what is listed.
+pub(crate) fn named_ids(alloc: Global, all: &AllParts<'_>) -> Result<Vec<EntryId>, AllocError>
+    ensures { IfOk result (λ ids. map key_of ids.items ≡ places_keys (all_places all.now)) }
 {
-    for ty in types {
-        push_id(ids, value_id(*ty))?;
-    }
-    Ok(())
-}
-
-// Puts the ids in the types of fields or parameters last.
-fn push_fields(
-    ids: &mut Vec<EntryId>,
-    fields: &IndexMap<String, ValueType>,
-) -> Result<(), AllocError>
-    ensures { OnOk result (map key_of ids.new.items ≡ map key_of ids.old.items ++ flat_map value_keys (types_of fields.now.entries)) }
-{
-    for (_, ty) in fields {
-        push_id(ids, value_id(*ty))?;
-    }
-    Ok(())
-}
-
-// Puts the ids in the types of cases last.
-fn push_cases(
-    ids: &mut Vec<EntryId>,
-    cases: &IndexMap<String, Option<ValueType>>,
-) -> Result<(), AllocError>
-    ensures { OnOk result (map key_of ids.new.items ≡ map key_of ids.old.items ++ flat_map optional_value_keys (types_of cases.now.entries)) }
-{
-    for (_, ty) in cases {
-        push_optional(ids, *ty)?;
-    }
-    Ok(())
-}
-
-// Puts the ids of interfaces that types are used from last.
-fn push_uses(ids: &mut Vec<EntryId>, uses: &IndexMap<String, UsedType>) -> Result<(), AllocError>
-    ensures { OnOk result (map key_of ids.new.items ≡ map key_of ids.old.items ++ flat_map used_keys (types_of uses.now.entries)) }
-{
-    for (_, used) in uses {
-        ids.push(EntryId::Interface(used.interface))?;
-    }
-    Ok(())
-}
-
-// Puts the ids in imports or exports last.
-fn push_items(ids: &mut Vec<EntryId>, items: &IndexMap<String, ItemKind>) -> Result<(), AllocError>
-    ensures { OnOk result (map key_of ids.new.items ≡ map key_of ids.old.items ++ flat_map item_keys (types_of items.now.entries)) }
-{
-    for (_, item) in items {
-        push_id(ids, item_id(*item))?;
-    }
-    Ok(())
-}
-
-// Puts the ids in a defined type last.
-pub(crate) fn push_defined(ids: &mut Vec<EntryId>, ty: &DefinedType) -> Result<(), AllocError>
-    ensures { OnOk result (map key_of ids.new.items ≡ map key_of ids.old.items ++ defined_keys (defined_content ty.now)) }
-{
-    match ty {
-        DefinedType::Tuple(items) => push_values(ids, items),
-        DefinedType::Variant(variant) => push_cases(ids, &variant.cases),
-        DefinedType::Record(record) => push_fields(ids, &record.fields),
-        DefinedType::Flags(_) | DefinedType::Enum(_) => Ok(()),
-        DefinedType::Result { ok, err } => {
-            push_optional(ids, *ok)?;
-            push_optional(ids, *err)
-        }
-        DefinedType::Stream(payload) | DefinedType::Future(payload) => push_optional(ids, *payload),
-        DefinedType::List(ty) | DefinedType::FixedSizeList(ty, _) => push_id(ids, value_id(*ty)),
-        DefinedType::Option(ty) | DefinedType::Alias(ty) => push_id(ids, value_id(*ty)),
-    }
-}
-
-// Puts the ids in a resource last.
-pub(crate) fn push_resource(ids: &mut Vec<EntryId>, resource: &Resource) -> Result<(), AllocError>
-    ensures { OnOk result (map key_of ids.new.items ≡ map key_of ids.old.items ++ resource_keys (resource_content resource.now)) }
-{
-    let Some(alias) = resource.alias else {
-        return Ok(());
-    };
-    if let Some(owner) = alias.owner {
-        ids.push(EntryId::Interface(owner))?;
-    }
-    ids.push(EntryId::Resource(alias.source))?;
-    Ok(())
-}
-
-// Puts the ids in a function type last.
-pub(crate) fn push_func(ids: &mut Vec<EntryId>, func: &FuncType) -> Result<(), AllocError>
-    ensures { OnOk result (map key_of ids.new.items ≡ map key_of ids.old.items ++ func_keys (func_content func.now)) }
-{
-    push_fields(ids, &func.params)?;
-    push_optional(ids, func.result)
-}
-
-// Puts the ids in an interface last.
-pub(crate) fn push_interface(
-    ids: &mut Vec<EntryId>,
-    interface: &Interface,
-) -> Result<(), AllocError>
-    ensures { OnOk result (map key_of ids.new.items ≡ map key_of ids.old.items ++ interface_keys (interface_content interface.now)) }
-{
-    push_uses(ids, &interface.uses)?;
-    push_items(ids, &interface.exports)
-}
-
-// Puts the ids in a world last.
-pub(crate) fn push_world(ids: &mut Vec<EntryId>, world: &World) -> Result<(), AllocError>
-    ensures { OnOk result (map key_of ids.new.items ≡ map key_of ids.old.items ++ world_keys (world_content world.now)) }
-{
-    push_uses(ids, &world.uses)?;
-    push_items(ids, &world.imports)?;
-    push_items(ids, &world.exports)
+    let mut ids = Vec::new(alloc);
+    push_parts(&mut ids, &all.0)?;
+    push_parts(&mut ids, &all.1)?;
+    push_parts(&mut ids, &all.2)?;
+    Ok(ids)
 }

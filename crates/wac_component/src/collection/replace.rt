@@ -10,7 +10,8 @@ ghost use Rattle.wac_component.specs.Replacing.{NamesReach, Replaces, AnswersRep
 ghost use Rattle.wac_component.specs.declared.items.ValueType.TheVariants.{Defined};
 
 use super::Types;
-use super::naming::{EntryId, push_defined, push_func, push_interface, push_resource, push_world};
+use super::naming::{EntryId, named_ids};
+use crate::parts::NONE;
 use crate::{
     DefinedType, DefinedTypeId, FuncType, FuncTypeId, Interface, InterfaceId, ModuleTypeId,
     Resource, ResourceId, World, WorldId,
@@ -170,8 +171,7 @@ impl Types {
         requires { AllStand self.now (defined_keys (defined_content ty.now)) }
         ensures { IfOk result (λ leads. IsTrue leads ↔ NamesReach self.now (defined_keys (defined_content ty.now)) (defined_key id)) }
     {
-        let mut ids = Vec::new(*self.defined.allocator());
-        push_defined(&mut ids, ty)?;
+        let ids = named_ids(*self.defined.allocator(), &(ty.parts(), NONE, NONE))?;
         self.names_lead_to(&ids, EntryId::Defined(id))
     }
 
@@ -180,8 +180,7 @@ impl Types {
         requires { AllStand self.now (resource_keys (resource_content resource.now)) }
         ensures { IfOk result (λ leads. IsTrue leads ↔ NamesReach self.now (resource_keys (resource_content resource.now)) (resource_key id)) }
     {
-        let mut ids = Vec::new(*self.defined.allocator());
-        push_resource(&mut ids, resource)?;
+        let ids = named_ids(*self.defined.allocator(), &(resource.parts(), NONE, NONE))?;
         self.names_lead_to(&ids, EntryId::Resource(id))
     }
 
@@ -190,8 +189,7 @@ impl Types {
         requires { AllStand self.now (func_keys (func_content func.now)) }
         ensures { IfOk result (λ leads. IsTrue leads ↔ NamesReach self.now (func_keys (func_content func.now)) (func_key id)) }
     {
-        let mut ids = Vec::new(*self.defined.allocator());
-        push_func(&mut ids, func)?;
+        let ids = named_ids(*self.defined.allocator(), &func.parts())?;
         self.names_lead_to(&ids, EntryId::Func(id))
     }
 
@@ -200,8 +198,7 @@ impl Types {
         requires { AllStand self.now (interface_keys (interface_content interface.now)) }
         ensures { IfOk result (λ leads. IsTrue leads ↔ NamesReach self.now (interface_keys (interface_content interface.now)) (interface_key id)) }
     {
-        let mut ids = Vec::new(*self.defined.allocator());
-        push_interface(&mut ids, interface)?;
+        let ids = named_ids(*self.defined.allocator(), &interface.parts())?;
         self.names_lead_to(&ids, EntryId::Interface(id))
     }
 
@@ -210,8 +207,7 @@ impl Types {
         requires { AllStand self.now (world_keys (world_content world.now)) }
         ensures { IfOk result (λ leads. IsTrue leads ↔ NamesReach self.now (world_keys (world_content world.now)) (world_key id)) }
     {
-        let mut ids = Vec::new(*self.defined.allocator());
-        push_world(&mut ids, world)?;
+        let ids = named_ids(*self.defined.allocator(), &world.parts())?;
         self.names_lead_to(&ids, EntryId::World(id))
     }
 }

@@ -4,12 +4,14 @@ ghost use Rattle.std.specs.Prelude.{◌≡◌, ◌<◌, ◌++◌, ◌↔◌, ◌
 ghost use Rattle.wac_component.specs.Height.{height, keys_height};
 ghost use Rattle.wac_component.specs.Key.{Stands, AllStand, next};
 ghost use Rattle.wac_component.specs.Naming.{key_of, NoneReaches};
+ghost use Rattle.wac_component.specs.Parts.{all_places, places_keys};
 ghost use Rattle.wac_component.specs.Reach.{Reaches};
 ghost use Rattle.wac_component.specs.Replacing.{NamesReach};
 ghost use Rattle.wac_component.specs.declared.collection.naming.EntryId.{EntryId};
 
 use super::Types;
-use super::naming::{EntryId, push_defined, push_func, push_interface, push_resource, push_world};
+use super::naming::{EntryId, named_ids};
+use crate::parts::{AllParts, NONE};
 use std::alloc::AllocError;
 use std::collections::HashSet;
 
@@ -36,18 +38,18 @@ fn add_seen(seen: &mut HashSet<EntryId>, id: EntryId) -> Result<(), AllocError>
 }
 
 impl Types {
-    // Puts the ids in an entry last.
-    fn push_named(&self, ids: &mut Vec<EntryId>, id: EntryId) -> Result<(), AllocError>
+    // What an entry names.
+    fn parts_at(&self, id: EntryId) -> AllParts<'_>
         requires { Stands self.now (key_of id) }
-        ensures { OnOk result (map key_of ids.new.items ≡ map key_of ids.old.items ++ next self.now (key_of id)) }
+        ensures { places_keys (all_places result) ≡ next self.now (key_of id) }
     {
         match id {
-            EntryId::Defined(id) => push_defined(ids, &self[id]),
-            EntryId::Resource(id) => push_resource(ids, &self[id]),
-            EntryId::Func(id) => push_func(ids, &self[id]),
-            EntryId::Interface(id) => push_interface(ids, &self[id]),
-            EntryId::World(id) => push_world(ids, &self[id]),
-            EntryId::Module(_) => Ok(()),
+            EntryId::Defined(id) => (self[id].parts(), NONE, NONE),
+            EntryId::Resource(id) => (self[id].parts(), NONE, NONE),
+            EntryId::Func(id) => self[id].parts(),
+            EntryId::Interface(id) => self[id].parts(),
+            EntryId::World(id) => self[id].parts(),
+            EntryId::Module(_) => (NONE, NONE, NONE),
         }
     }
 
@@ -58,9 +60,7 @@ impl Types {
         ensures standing { IfOk result (λ ids. AllStand self.now (map key_of ids.items)) }
         ensures lower { IfOk result (λ ids. keys_height self.now (map key_of ids.items) < height self.now (key_of id)) }
     {
-        let mut ids = Vec::new(*self.defined.allocator());
-        self.push_named(&mut ids, id)?;
-        Ok(ids)
+        named_ids(*self.defined.allocator(), &self.parts_at(id))
     }
 
     // Whether a walk along ids leads from one id to another. No id that was seen leads there.

@@ -3,7 +3,7 @@ use Rattle.std.specs.List.{flat_map}
 use Rattle.wac_component.specs.Content.{types_of, named}
 use Rattle.wac_component.specs.Height.{height, keys_height}
 use Rattle.wac_component.specs.Key.{interface_key, world_key, item_keys, named_keys}
-use Rattle.wac_component.specs.Visits.{extern_ids, referred, CallsOn}
+use Rattle.wac_component.specs.Visits.{extern_ids, referred, CallsOn, MayVisit}
 use Rattle.wac_component.proofs.VisitLemmas.{Remains}
 use Rattle.wac_component.proofs.visits.+visits.Given as goal
 
@@ -21,6 +21,6 @@ decreases-visit_extern g l = 3 * keys_height l.types.now (item_keys l.kind) + 1
 
 abbrev pub invariant-visit_externs-loop-i : goal.invariant-visit_externs-loop-i
 invariant-visit_externs-loop-i g l = record {
-  callable : goal.F-IsAlwaysCallable g l.visitor;
+  callable : MayVisit g.F.FnMut l.types l.visitor (flat_map (extern_ids (referred l.types)) (drop l.i (types_of l.externs.entries)));
   rest : Remains (CallsOn g.F.FnMut l.types) l.fn.visitor (flat_map (extern_ids (referred l.types)) (types_of l.externs.entries)) l.visitor (flat_map (extern_ids (referred l.types)) (drop l.i (types_of l.externs.entries)));
 }

@@ -1,17 +1,29 @@
-use Rattle.std.proofs.Common.{arith}
+use Rattle.std.proofs.Common.{◌≡◌, length, map, refl, arith}
 use Rattle.std.proofs.lemmas.Grind.{common_steps}
 use Rattle.std.proofs.lemmas.List.{map-append, length-map}
 use Rattle.wac_core.specs.Content.{module_content}
 use Rattle.wac_component.specs.Key.{module_entry}
 use Rattle.wac_component.specs.View.{collection_of}
-use Rattle.wac_component.proofs.Adding.{IsSound-with_entry, Extends-with_entry, module_tree-with_module}
+use Rattle.wac_component.proofs.Adding.{IsSound-with_entry, Extends-with_entry, module_tree-with_module, is_below}
 use Rattle.wac_component.proofs.collection.Types.add_module_type.Goals as goal
+
+at_end : (c : goal.After-at) → c.len-index.result ≡ length (map module_content c.self.inside.modules.items)
+at_end c = simp length-map (grind (arith, common_steps))
 
 pub invariant_of-self-2 : goal.invariant_of-self-2
 invariant_of-self-2 c = rw (c.in_ok-push.ensures.items, map-append module_content) (IsSound-with_entry _ (module_entry _) c.self.invariant tt)
 
+pub returns-clause-added : goal.returns-clause-added
+returns-clause-added c = rw (c.in_ok-push.ensures.items, map-append module_content, ← c.self.view_is) refl
+
+pub returns-clause-id : goal.returns-clause-id
+returns-clause-id c = rw (c.at.ensures, ← c.self.view_is, at_end c) refl
+
+pub returns-clause-stands : goal.returns-clause-stands
+returns-clause-stands c = rw c.at.ensures (refl, is_below module_entry module_content c.self.inside.modules.items c.push.new.self.items c.args.ty c.len-index.result (at_end c) c.in_ok-push.ensures.items)
+
 pub returns-clause-tree : goal.returns-clause-tree
-returns-clause-tree c = rw (c.in_ok-push.ensures.items, map-append module_content) (module_tree-with_module (collection_of c.self.inside) _ _ _ (simp length-map (grind (arith, common_steps))) c.at.ensures)
+returns-clause-tree c = rw (c.in_ok-push.ensures.items, map-append module_content) (module_tree-with_module (collection_of c.self.inside) _ _ _ (at_end c) c.at.ensures)
 
 pub returns-clause-grows : goal.returns-clause-grows
 returns-clause-grows c = rw (c.in_ok-push.ensures.items, map-append module_content, ← c.self.view_is) (Extends-with_entry _ (module_entry _) c.self.invariant)

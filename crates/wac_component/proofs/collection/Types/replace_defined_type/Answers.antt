@@ -23,3 +23,9 @@ returns-in-Ok-false-clause-replaced c = rw (c.index.ensures, map-set defined_con
 
 pub returns-in-Ok-false-clause-keeps : goal.returns-in-Ok-false-clause-keeps
 returns-in-Ok-false-clause-keeps c = rw (c.index.ensures, map-set defined_content) (replaces_after (collection_of c.self.inside) c.args.self.now c.args.id (defined_entry (defined_content c.args.ty)) c.self.view_is c.self.invariant c.requires.id)
+
+pub returns-in-Ok-false-clause-answer : goal.returns-in-Ok-false-clause-answer
+returns-in-Ok-false-clause-answer c = λ n. let h = c.in-Ok-false.ensures.1 n in absurd (cc)
+
+pub returns-in-Ok-true-clause-answer : goal.returns-in-Ok-true-clause-answer
+returns-in-Ok-true-clause-answer c = (refl, c.in-Ok-true.ensures.0 (cc))
