@@ -126,6 +126,13 @@ keys_are_tracks = record { is_key = key_of-is; only_key = key_of-only }
 
 -- ---- classes
 
+-- the class of a name with this track key, and of a name without one
+pub class_of-keyed : (name key : List ℕ) → HasKey name key → on_track key ≡ class_of name
+class_of-keyed name key h = ap (class_with name) (key_of-only name (Some key) h)
+
+pub class_of-alone : (name : List ℕ) → ((key : List ℕ) → HasKey name key → ⊥) → alone name ≡ class_of name
+class_of-alone name none = ap (class_with name) (key_of-only name None none)
+
 class_complete : (a b : List ℕ) → IsCompatible a b → class_of a ≡ class_of b
 class_complete a b (inl e) = ap class_of e
 class_complete a b (inr s) =

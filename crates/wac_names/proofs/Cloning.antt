@@ -18,7 +18,7 @@ use Rattle.semver.specs.contracts.BuildMetadataClone.TheImpl as build_clones
 use Rattle.wac_names.specs.Track.{IsTracked, version_cmp}
 use Rattle.wac_names.specs.Interner.{Interning, IsLawful}
 use Rattle.wac_names.specs.Pairs.{value_at}
-use Rattle.wac_names.specs.NameMap.{ClonesPairs, Lead, Notes, Stands}
+use Rattle.wac_names.specs.NameMap.{ClonesPairs, Lead, Notes, Represents}
 use Rattle.wac_names.specs.declared.name_map.NameMap.{NameMap}
 use Rattle.wac_names.proofs.Tracks.{parts_path}
 
@@ -114,7 +114,7 @@ module _ {K V : Type 0} (eq : K → K → Bool) (same : IsEquivalence eq) (C : K
     there_from (Some a) (Some b) c h = refl
 
     pub stands_clone : (m n : NameMap K V) (ps : List (List ℕ × V)) → AllZip IsEntryClone m.definitions.entries n.definitions.entries
-        → AllZip IsNoteClone m.alternate_lookups.entries n.alternate_lookups.entries → Stands eq f m ps → (qs : List (List ℕ × V)) × ClonesPairs D ps qs × Stands eq f n qs
+        → AllZip IsNoteClone m.alternate_lookups.entries n.alternate_lookups.entries → Represents eq f m ps → (qs : List (List ℕ × V)) × ClonesPairs D ps qs × Represents eq f n qs
     stands_clone m n ps z a s =
         let qs = with_values n.definitions.entries ps in
         let clones = pairs_clone m.definitions.entries n.definitions.entries ps z s.defined in

@@ -20,7 +20,7 @@ use Rattle.wac_names.specs.Track.{HasKey, IsTracked, version_cmp}
 use Rattle.wac_names.specs.Interner.{Extends, Interning, IsKnown, IsLawful}
 use Rattle.wac_names.specs.Pairs.{HasText, IsFound, value_at, with_pair}
 use Rattle.wac_names.specs.Lends.{WritesAt}
-use Rattle.wac_names.specs.NameMap.{InsertAnswers, IsLead, Lead, Notes, Stands}
+use Rattle.wac_names.specs.NameMap.{InsertAnswers, IsLead, Lead, Notes, Represents}
 use Rattle.wac_names.specs.Placing.{NotesName, NotesVersion, PlaceAnswers, Places, SameMaps}
 use Rattle.wac_names.specs.declared.error.NameError.{NameError}
 use Rattle.wac_names.specs.declared.error.NameError.TheVariants.{Memory, Twice}
@@ -155,7 +155,7 @@ module _ {K V : Type 0} {eq : K → K → Bool} (same : IsEquivalence eq) where
   zip_more (e ∷ es) (p ∷ ps) x a = ((x p.0 e.0 a.0.0, a.0.1), zip_more es ps x a.1)
 
   -- a map stands for its pairs under a function that has more
-  pub stands_more : {f g : Interning K} (m : NameMap K V) (ps : List (List ℕ × V)) → IsLawful eq g → Extends f g → Stands eq f m ps → Stands eq g m ps
+  pub stands_more : {f g : Interning K} (m : NameMap K V) (ps : List (List ℕ × V)) → IsLawful eq g → Extends f g → Represents eq f m ps → Represents eq g m ps
   stands_more {f = f} {g = g} m ps law x s = record {
     defined = zip_more m.definitions.entries ps x s.defined;
     distinct = s.distinct;
@@ -179,12 +179,12 @@ module _ {K V : Type 0} {eq : K → K → Bool} (same : IsEquivalence eq) where
 -- ---- a change
 
 module _ {K V : Type 0} (eq : K → K → Bool) (f : Interning K) (same : IsEquivalence eq) (law : IsLawful eq f) (m n : NameMap K V) (ps : List (List ℕ × V)) (name : List ℕ) (k : K) (v : V)
-    (key : f name k ≡ true) (s : Stands eq f m ps) (put : n.definitions.entries ≡ insert_entry eq m.definitions.entries k v) where
+    (key : f name k ≡ true) (s : Represents eq f m ps) (put : n.definitions.entries ≡ insert_entry eq m.definitions.entries k v) where
   -- the definitions and the texts after a change
   put_with : ((track : List ℕ) (w : Parts) → IsTracked name track w → IsKnown f track)
       → ((j : K) → IsSome (lookup (eq j) n.alternate_lookups.entries) → (track : List ℕ) × (f track j ≡ true))
       → ((track : List ℕ) (j : K) → f track j ≡ true → Notes f (with_pair ps name v) track (lookup (eq j) n.alternate_lookups.entries))
-      → Stands eq f n (with_pair ps name v)
+      → Represents eq f n (with_pair ps name v)
   put_with tracks known notes = record {
     defined = subst (λ (es : List (K × V)). AllZip (λ (e : K × V) (p : List ℕ × V). (f p.0 e.0 ≡ true) × (e.1 ≡ p.1)) es (with_pair ps name v)) (sym put)
         (insert_agrees law m.definitions.entries ps name k v s.defined key);
@@ -198,7 +198,7 @@ module _ {K V : Type 0} (eq : K → K → Bool) (f : Interning K) (same : IsEqui
   }
 
   -- the name stands on no track
-  pub put_plain : ((track : List ℕ) (w : Parts) → IsTracked name track w → ⊥) → n.alternate_lookups.entries ≡ m.alternate_lookups.entries → Stands eq f n (with_pair ps name v)
+  pub put_plain : ((track : List ℕ) (w : Parts) → IsTracked name track w → ⊥) → n.alternate_lookups.entries ≡ m.alternate_lookups.entries → Represents eq f n (with_pair ps name v)
   put_plain none stay = put_with (λ track w t. absurd (none track w t))
       (λ j h. s.notes_known j (subst (λ (es : List (K × Lead K)). IsSome (lookup (eq j) es)) stay h))
       (λ track j h. subst (λ (es : List (K × Lead K)). Notes f (with_pair ps name v) track (lookup (eq j) es)) (sym stay) (note_other f ps name v track _ (none track) (s.notes track j h)))
@@ -212,7 +212,7 @@ module _ {K V : Type 0} (eq : K → K → Bool) (f : Interning K) (same : IsEqui
 
     -- the note of its track stays
     pub put_kept : (lead : Lead K) → lookup (eq j) m.alternate_lookups.entries ≡ Some lead → is_le (version_cmp w (parts_of lead.1)) ≡ true
-        → n.alternate_lookups.entries ≡ m.alternate_lookups.entries → Stands eq f n (with_pair ps name v)
+        → n.alternate_lookups.entries ≡ m.alternate_lookups.entries → Represents eq f n (with_pair ps name v)
     put_kept lead at le stay = put_with tracks_at
         (λ i h. s.notes_known i (subst (λ (es : List (K × Lead K)). IsSome (lookup (eq i) es)) stay h))
         (λ other i h. subst (λ (es : List (K × Lead K)). Notes f (with_pair ps name v) other (lookup (eq i) es)) (sym stay) (elim (cases_Bool (bytes_eq track other)) [
@@ -228,7 +228,7 @@ module _ {K V : Type 0} (eq : K → K → Bool) (f : Interning K) (same : IsEqui
 
     -- the name becomes the note of its track
     pub put_new : (lead : Lead K) → parts_of lead.1 ≡ w → f name lead.0 ≡ true → IsNoteBelow (lookup (eq j) m.alternate_lookups.entries) w
-        → ((q : K) → lookup (eq q) n.alternate_lookups.entries ≡ cond (eq j q) (Some lead) (lookup (eq q) m.alternate_lookups.entries)) → Stands eq f n (with_pair ps name v)
+        → ((q : K) → lookup (eq q) n.alternate_lookups.entries ≡ cond (eq j q) (Some lead) (lookup (eq q) m.alternate_lookups.entries)) → Represents eq f n (with_pair ps name v)
     put_new lead version own b change = put_with tracks_at known notes where
       known : (i : K) → IsSome (lookup (eq i) n.alternate_lookups.entries) → (t : List ℕ) × (f t i ≡ true)
       known i h = elim (cases_Bool (eq j i)) [
@@ -250,7 +250,7 @@ module _ {K V : Type 0} (eq : K → K → Bool) (f : Interning K) (same : IsEqui
 
 -- ---- a look-up
 
-module _ {K V : Type 0} (eq : K → K → Bool) (f : Interning K) (law : IsLawful eq f) (m : NameMap K V) (ps : List (List ℕ × V)) (name : List ℕ) (s : Stands eq f m ps) where
+module _ {K V : Type 0} (eq : K → K → Bool) (f : Interning K) (law : IsLawful eq f) (m : NameMap K V) (ps : List (List ℕ × V)) (name : List ℕ) (s : Represents eq f m ps) where
   -- the value at the name itself
   pub found_exact : (k : K) (v : V) → f name k ≡ true → lookup (eq k) m.definitions.entries ≡ Some v → IsFound ps name (Some v)
   found_exact k v key e = rw (sym (lookup_agrees law m.definitions.entries ps name k s.defined key) ∙ e) refl
@@ -306,9 +306,9 @@ module _ {K V : Type 0} (eq : K → K → Bool) (f : Interning K) (law : IsLawfu
 
 -- ---- what the code does
 
-module _ {K V : Type 0} (eq : K → K → Bool) (g : Interning K) (same : IsEquivalence eq) (law : IsLawful eq g) (m n : NameMap K V) (ps : List (List ℕ × V)) (name : List ℕ) (s : Stands eq g m ps) where
+module _ {K V : Type 0} (eq : K → K → Bool) (g : Interning K) (same : IsEquivalence eq) (law : IsLawful eq g) (m n : NameMap K V) (ps : List (List ℕ × V)) (name : List ℕ) (s : Represents eq g m ps) where
   -- a map with the same definitions and notes
-  pub stands_same : SameMaps m n → Stands eq g n ps
+  pub stands_same : SameMaps m n → Represents eq g n ps
   stands_same e = record {
     defined = subst (λ (es : List (K × V)). AllZip (λ (e : K × V) (p : List ℕ × V). (g p.0 e.0 ≡ true) × (e.1 ≡ p.1)) es ps) (sym e.0) s.defined;
     distinct = s.distinct;
@@ -322,7 +322,7 @@ module _ {K V : Type 0} (eq : K → K → Bool) (g : Interning K) (same : IsEqui
   note_below (Some noted) lead h = le_from_not_lt (parts_of lead.1) (parts_of noted.1) h
 
   -- a map in which a name was placed
-  pub stands_placed : (item : V) → Places eq g name item m n → Stands eq g n (with_pair ps name item)
+  pub stands_placed : (item : V) → Places eq g name item m n → Represents eq g n (with_pair ps name item)
   stands_placed item p = elim p.noted [
     | inl alone ↦ put_plain eq g same law m n ps name p.key item p.own s p.placed alone.0 alone.1
     | inr x ↦
@@ -350,7 +350,7 @@ not_in_empty : false ≡ true → ⊥
 not_in_empty e = cc e
 
 -- a map without definitions and notes stands for no pairs
-pub stands_empty : {K V : Type 0} (eq : K → K → Bool) (f : Interning K) (m : NameMap K V) → m.definitions.entries ≡ [] → m.alternate_lookups.entries ≡ [] → Stands eq f m []
+pub stands_empty : {K V : Type 0} (eq : K → K → Bool) (f : Interning K) (m : NameMap K V) → m.definitions.entries ≡ [] → m.alternate_lookups.entries ≡ [] → Represents eq f m []
 stands_empty {K = K} {V = V} eq f m d e = record {
   defined = subst (λ (es : List (K × V)). AllZip (λ (e : K × V) (p : List ℕ × V). (f p.0 e.0 ≡ true) × (e.1 ≡ p.1)) es []) (sym d) tt;
   distinct = distinct_nil V;
@@ -372,12 +372,12 @@ absent_unknown f (e ∷ es) (p ∷ ps) name a h = elim (cases_Bool (bytes_eq nam
 
 -- ---- the same of a call's result
 
-module _ {K V : Type 0} (eq : K → K → Bool) (g : Interning K) (same : IsEquivalence eq) (law : IsLawful eq g) (m n : NameMap K V) (ps : List (List ℕ × V)) (name : List ℕ) (s : Stands eq g m ps) where
-  pub insert_ok : (item : V) (r : Result K NameError) → OnOk r (Places eq g name item m n) → OnOk r (Stands eq g n (with_pair ps name item))
+module _ {K V : Type 0} (eq : K → K → Bool) (g : Interning K) (same : IsEquivalence eq) (law : IsLawful eq g) (m n : NameMap K V) (ps : List (List ℕ × V)) (name : List ℕ) (s : Represents eq g m ps) where
+  pub insert_ok : (item : V) (r : Result K NameError) → OnOk r (Places eq g name item m n) → OnOk r (Represents eq g n (with_pair ps name item))
   insert_ok item (Ok k) p = stands_placed eq g same law m n ps name s item p
   insert_ok item (Err e) p = tt
 
-  pub insert_err : (r : Result K NameError) → OnErr r (SameMaps m n) → OnErr r (Stands eq g n ps)
+  pub insert_err : (r : Result K NameError) → OnErr r (SameMaps m n) → OnErr r (Represents eq g n ps)
   insert_err (Ok k) p = tt
   insert_err (Err e) p = stands_same eq g same law m n ps name s p
 
@@ -410,7 +410,7 @@ set_is_insert {K = K} {V = V} eq (e ∷ es) k w h = elim (cases_Bool (eq k e.0))
   | inr b ↦ rw b (ap (λ (xs : List (K × V)). e ∷ xs) (set_is_insert eq es k w (rw b at h)))
 ]
 
-module _ {K V : Type 0} (eq : K → K → Bool) (f : Interning K) (law : IsLawful eq f) (m n : NameMap K V) (ps : List (List ℕ × V)) (s : Stands eq f m ps) (text : List ℕ) (k : K) (w : V)
+module _ {K V : Type 0} (eq : K → K → Bool) (f : Interning K) (law : IsLawful eq f) (m n : NameMap K V) (ps : List (List ℕ × V)) (s : Represents eq f m ps) (text : List ℕ) (k : K) (w : V)
     (key : f text k ≡ true) (there : HasText ps text) (values : n.definitions.entries ≡ set_value (eq k) m.definitions.entries w)
     (notes : n.alternate_lookups.entries ≡ m.alternate_lookups.entries) where
   still : (other : List ℕ) → HasText (with_pair ps text w) other → HasText ps other
@@ -429,7 +429,7 @@ module _ {K V : Type 0} (eq : K → K → Bool) (f : Interning K) (law : IsLawfu
     greatest = λ other u h t. x.greatest other u (still other h) t;
   }
 
-  pub stands_overwritten : Stands eq f n (with_pair ps text w)
+  pub stands_overwritten : Represents eq f n (with_pair ps text w)
   stands_overwritten =
       let found : IsSome (lookup (eq k) m.definitions.entries) = subst (λ (o : Option V). IsSome o) (sym (lookup_agrees law m.definitions.entries ps text k s.defined key)) there in
       let put : n.definitions.entries ≡ insert_entry eq m.definitions.entries k w = values ∙ set_is_insert eq m.definitions.entries k w found in

@@ -13,7 +13,7 @@ use Rattle.semver.specs.OrderLaws.{pre-anti, build-anti}
 use Rattle.semver.specs.Parse.{Parts, version_parts}
 use Rattle.semver.proofs.Grammar.{version_parts-complete}
 use Rattle.semver.proofs.Numerals.{ok-value}
-use Rattle.wac_names.specs.Track.{HasNoAt, HasKey, IsCompatible, IsEquivalenceOfNames, IsKeyText, IsTracked, VersionsTellNames, version_cmp}
+use Rattle.wac_names.specs.Track.{HasNoAt, HasKey, IsCompatible, IsEquivalenceOfNames, IsKeyText, IsTracked, SameKey, VersionsTellNames, version_cmp}
 
 -- two texts cut at their first `@` are cut in the same place
 pub split_same : (a b x y : List ℕ) → HasNoAt a → HasNoAt b → a ++ 64 ∷ x ≡ b ++ 64 ∷ y → (a ≡ b) × (x ≡ y)
@@ -123,3 +123,10 @@ keys_compare a b k l r ne x y e = (
 
 pub not_same : (a b : List ℕ) → bytes_eq a b ≡ false → a ≢ b
 not_same a b f e = cc (f, (bytes_decides a b).1 e)
+
+-- names whose keys differ have no key in common
+pub keys_apart : (a b k l : List ℕ) → bytes_eq k l ≡ false → HasKey a k → HasKey b l → SameKey a b → ⊥
+keys_apart a b k l f x y s =
+    let one = (tracked_same a k s.0 x.0 s.1.0 x.1 s.1.1).0 in
+    let two = (tracked_same b l s.0 y.0 s.2.0 y.1 s.2.1).0 in
+    cc (f, (bytes_decides k l).1 (one ∙ sym two))

@@ -1,6 +1,7 @@
 -- The class of a name: what it is compatible with, as a value.
-use Rattle.std.specs.Prelude.{◌≡◌, ◌↔◌, ◌==◌, ◌∷◌, ◌++◌, Bool, false, IsTrue, Option, Some, None, Result, Ok, Err, ℕ, length, if◌then◌else◌}
+use Rattle.std.specs.Prelude.{◌≡◌, ◌↔◌, ◌==◌, ◌∷◌, ◌++◌, Bool, false, true, IsTrue, Option, Some, None, Result, Ok, Err, ℕ, length, if◌then◌else◌}
 use Rattle.std.specs.Fmt.{decimal}
+use Rattle.std.specs.Hash as fed
 use Rattle.std.specs.List.{after_first, before_first}
 use Rattle.std.specs.Str.{bytes_eq}
 use Rattle.semver.specs.declared.error.Error.{Error}
@@ -19,6 +20,16 @@ class_eq (on_track k) (on_track l) = bytes_eq k l
 class_eq (on_track k) (alone b) = false
 class_eq (alone a) (on_track l) = false
 class_eq (alone a) (alone b) = bytes_eq a b
+
+-- the class of a track with this key, or of one name alone
+abbrev pub class_from : Bool → Text → Class
+class_from true key = on_track key
+class_from false name = alone name
+
+-- what a class feeds a hasher
+abbrev pub class_writes : Class → fed.HashWrites
+class_writes (on_track key) = fed.bool true ++ fed.str key
+class_writes (alone name) = fed.bool false ++ fed.str name
 
 -- whether a byte is `@`
 abbrev pub is_at : ℕ → Bool

@@ -6,7 +6,7 @@ use Rattle.std.specs.Map.{set_value}
 use Rattle.wac_model.specs.Text.{Text}
 use Rattle.wac_names.specs.Interner.{Interning, IsLawful}
 use Rattle.wac_names.specs.Pairs.{HasText, with_pair}
-use Rattle.wac_names.specs.NameMap.{Stands, definitions}
+use Rattle.wac_names.specs.NameMap.{Represents, definitions}
 use Rattle.wac_names.specs.contracts.name_map.NameMap.{the_row}
 use Rattle.wac_names.specs.declared.name_map.NameMap.{NameMap}
 
@@ -14,8 +14,8 @@ use Rattle.wac_names.specs.declared.name_map.NameMap.{NameMap}
 -- n stands for these with w at the key's text
 pub record WritesAt {K V : Type 0} (eq : K → K → Bool) (k : K) (m : NameMap K V) (w : V) (n : NameMap K V) : Type 0 where
   pub values : definitions n ≡ set_value (eq k) (definitions m) w
-  pub stands : (f : Interning K) (ps : List (Text × V)) (text : Text) → IsLawful eq f → Stands eq f m ps → f text k ≡ true → HasText ps text
-      → Stands eq f n (with_pair ps text w)
+  pub stands : (f : Interning K) (ps : List (Text × V)) (text : Text) → IsLawful eq f → Represents eq f m ps → f text k ≡ true → HasText ps text
+      → Represents eq f n (with_pair ps text w)
 
 -- the key has the last value written through r, and at `None` the map stays as it is
 abbrev pub lends_value : (K V : RattleType) (key : HashMembers K.Denot) → MutBor (NameMap K.Denot V.Denot) → K.Denot → Option (MutBor V.Denot) → Fml

@@ -1,6 +1,7 @@
 pub mod Track
 pub mod Reading
 pub mod Class
+pub mod ClassLaws
 pub mod Interner
 pub mod InternerLaws
 pub mod Pairs

@@ -51,7 +51,7 @@ module _ {K V : Type 0} where
 
 -- the map stands for these pairs under the function f: its definitions are the values at the texts' keys, in order,
 -- and for each track it notes the name with the greatest version
-pub record Stands {K V : Type 0} (eq : K → K → Bool) (f : Interning K) (m : NameMap K V) (ps : List (Text × V)) : Type 0 where
+pub record Represents {K V : Type 0} (eq : K → K → Bool) (f : Interning K) (m : NameMap K V) (ps : List (Text × V)) : Type 0 where
   pub defined : AreEntriesOf f ps m.definitions.entries
   pub distinct : HasDistinctTexts ps
   pub tracks_known : (text track : Text) (w : Parts) → HasText ps text → IsTracked text track w → IsKnown f track
@@ -88,11 +88,11 @@ ClonesPairs {V} C ps qs = AllZip (λ (p : Text × V) (q : Text × V). (q.0 ≡ p
 
 -- n is a clone of m, where a clone of a key by C equals it: it stands for clones by D of what m stands for
 abbrev pub IsNameMapClone : {K V : Type 0} → (K → K → Bool) → (K → K → Type 0) → (V → V → Type 0) → NameMap K V → NameMap K V → Type 0
-IsNameMapClone {K} {V} eq C D m n = ((j k : K) → C j k → eq j k ≡ true) → (f : Interning K) (ps : List (Text × V)) → IsLawful eq f → Stands eq f m ps
-    → (qs : List (Text × V)) × ClonesPairs D ps qs × Stands eq f n qs
+IsNameMapClone {K} {V} eq C D m n = ((j k : K) → C j k → eq j k ≡ true) → (f : Interning K) (ps : List (Text × V)) → IsLawful eq f → Represents eq f m ps
+    → (qs : List (Text × V)) × ClonesPairs D ps qs × Represents eq f n qs
 
 -- ---- laws
 
 -- a map stands for the same pairs where the interner's function has grown
 abbrev pub StandsAsInternerGrows : {K V : Type 0} → (K → K → Bool) → NameMap K V → Type 0
-StandsAsInternerGrows {K} {V} eq m = (f g : Interning K) (ps : List (Text × V)) → IsLawful eq g → Extends f g → Stands eq f m ps → Stands eq g m ps
+StandsAsInternerGrows {K} {V} eq m = (f g : Interning K) (ps : List (Text × V)) → IsLawful eq g → Extends f g → Represents eq f m ps → Represents eq g m ps

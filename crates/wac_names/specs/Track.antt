@@ -60,6 +60,11 @@ abbrev pub IsKeyOf : Text → Option Text → Type 0
 IsKeyOf name (Some key) = HasKey name key
 IsKeyOf name None = (key : Text) → HasKey name key → ⊥
 
+-- the two names stand on one track, and the first one's version is ordered so to the second's; with none they stand on no common track
+abbrev pub IsVersionOrder : Text → Text → Option Ordering → Type 0
+IsVersionOrder a b (Some o) = (key : Text) × (v w : Parts) × IsTracked a key v × IsTracked b key w × (o ≡ version_cmp v w)
+IsVersionOrder a b None = SameKey a b → ⊥
+
 -- the name is no `base@version`
 abbrev pub HasNoVersion : Text → Type 0
 HasNoVersion name = (base : Text) (parts : Parts) → IsVersioned name base parts → ⊥

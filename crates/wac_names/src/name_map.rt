@@ -9,7 +9,7 @@ ghost use Rattle.semver.specs.Identifiers.{parts_of};
 ghost use Rattle.wac_model.specs.Text.{Text};
 ghost use Rattle.wac_names.specs.Interner.{Extends, GrowsOnlyAt, Interning, IsKnown, IsLawful};
 ghost use Rattle.wac_names.specs.Lends.{lends_value};
-ghost use Rattle.wac_names.specs.NameMap.{AreEntriesOf, InsertAnswers, IsNameOrKey, OnTwice, SameDefinitions, Stands, definitions, value_with_key};
+ghost use Rattle.wac_names.specs.NameMap.{AreEntriesOf, InsertAnswers, IsNameOrKey, OnTwice, SameDefinitions, Represents, definitions, value_with_key};
 ghost use Rattle.wac_names.specs.Pairs.{IsFound, value_at, with_pair};
 ghost use Rattle.wac_names.specs.Placing.{NotesName, NotesVersion, PlaceAnswers, Places, SameMaps};
 ghost use Rattle.wac_names.specs.Track.{HasKey, version_cmp};
@@ -28,7 +28,7 @@ use std::hash::Hash;
 ///
 /// It stands for a list of pairs of a name and a value under an interner's function: use one interner
 /// with it. What an interner is given later changes nothing in the map.
-#[derive(Drop)]
+#[derive(Debug, Drop)]
 pub struct NameMap<K: Eq + Hash, V> {
     definitions: IndexMap<K, V>,
     // For each track the key of the name with the greatest version, and that version.
@@ -45,7 +45,7 @@ fn is_before(a: &Version, b: &Version) -> bool
 impl<K: Eq + Hash, V> NameMap<K, V> {
     /// An empty map.
     pub fn new(alloc: Global) -> NameMap<K, V>
-        ensures empty { (f : Interning K) → Stands K.eq f result [] }
+        ensures empty { (f : Interning K) → Represents K.eq f result [] }
     {
         NameMap {
             definitions: IndexMap::new(alloc),
@@ -56,7 +56,7 @@ impl<K: Eq + Hash, V> NameMap<K, V> {
     /// The keys of the names with their values, in order. A name that was shadowed keeps its place.
     pub fn raw_iter(&self) -> Iter<'_, K, V>
         ensures entries { result ≡ definitions self.now }
-        ensures pairs { (f : Interning K) (ps : List (Text × V)) → Stands K.eq f self.now ps → AreEntriesOf f ps result }
+        ensures pairs { (f : Interning K) (ps : List (Text × V)) → Represents K.eq f self.now ps → AreEntriesOf f ps result }
         ensures fits { length result < 2 ^ 63 }
         ensures runs { ShowsInOrder (deref_pair {K = K} {X = V}) }
         ensures values_run { ShowsValuesInOrder (deref_pair {K = K} {X = V}) }
@@ -162,10 +162,10 @@ impl<K: Clone + Eq + Hash + Drop, V: Drop> NameMap<K, V> {
         ensures twice { OnTwice result (GrowsOnlyAt (I.is_key cx.old) (I.is_key cx.new) (λ text. text ≡ name.now)) }
 
         // The map stands for the pairs with the new one, and where it refuses for the same pairs.
-        ensures ok { (ps : List (Text × V)) → Stands K.eq (I.is_key cx.old) self.old ps → OnOk result (Stands K.eq (I.is_key cx.new) self.new (with_pair ps name.now item)) }
-        ensures err { (ps : List (Text × V)) → Stands K.eq (I.is_key cx.old) self.old ps → OnErr result (Stands K.eq (I.is_key cx.new) self.new ps) }
+        ensures ok { (ps : List (Text × V)) → Represents K.eq (I.is_key cx.old) self.old ps → OnOk result (Represents K.eq (I.is_key cx.new) self.new (with_pair ps name.now item)) }
+        ensures err { (ps : List (Text × V)) → Represents K.eq (I.is_key cx.old) self.old ps → OnErr result (Represents K.eq (I.is_key cx.new) self.new ps) }
         ensures unchanged { OnErr result (SameDefinitions self.old self.new) }
-        ensures answer { (ps : List (Text × V)) → Stands K.eq (I.is_key cx.old) self.old ps → InsertAnswers ps name.now allow_shadowing result }
+        ensures answer { (ps : List (Text × V)) → Represents K.eq (I.is_key cx.old) self.old ps → InsertAnswers ps name.now allow_shadowing result }
     {
         self.place(name, cx, allow_shadowing, item)
     }
@@ -174,7 +174,7 @@ impl<K: Clone + Eq + Hash + Drop, V: Drop> NameMap<K, V> {
 impl<K: Eq + Hash + Drop, V> NameMap<K, V> {
     // The value at the name itself.
     fn exact<I: NameMapIntern<Key = K>>(&self, name: &str, cx: &I) -> Result<Option<&V>, AllocError>
-        ensures value { (ps : List (Text × V)) → Stands K.eq (I.is_key cx.now) self.now ps → IfOk result (λ r. option_copied r ≡ value_at ps name.now) }
+        ensures value { (ps : List (Text × V)) → Represents K.eq (I.is_key cx.now) self.now ps → IfOk result (λ r. option_copied r ≡ value_at ps name.now) }
     {
         let alloc = *self.definitions.allocator();
         let Some(key) = cx.lookup(alloc, name)? else {
@@ -191,7 +191,7 @@ impl<K: Eq + Hash + Drop, V> NameMap<K, V> {
         name: &str,
         cx: &I,
     ) -> Result<Option<&V>, AllocError>
-        ensures found { (ps : List (Text × V)) → Stands K.eq (I.is_key cx.now) self.now ps → IfOk result (λ r. IsFound ps name.now (option_copied r)) }
+        ensures found { (ps : List (Text × V)) → Represents K.eq (I.is_key cx.now) self.now ps → IfOk result (λ r. IsFound ps name.now (option_copied r)) }
     {
         let alloc = *self.definitions.allocator();
         let exact = self.exact(name, cx)?;
@@ -213,7 +213,7 @@ impl<K: Eq + Hash + Drop, V> NameMap<K, V> {
     /// The value of the name that has this key, to write; no key and no other value changes.
     pub fn raw_get_mut(&mut self, key: &K) -> Option<&mut V>
         ensures* writes_back { sem 𝓛 (lends_value K.row V.row K.Hash self.entry key.now result) }
-        ensures value { (f : Interning K) (ps : List (Text × V)) → IsLawful K.eq f → Stands K.eq f self.old ps → option_copied_mut result ≡ value_with_key f ps key.now }
+        ensures value { (f : Interning K) (ps : List (Text × V)) → IsLawful K.eq f → Represents K.eq f self.old ps → option_copied_mut result ≡ value_with_key f ps key.now }
     {
         self.definitions.get_mut(key)
     }

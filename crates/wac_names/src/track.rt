@@ -7,10 +7,11 @@ ghost use Rattle.semver.specs.Identifiers.{parts_of};
 ghost use Rattle.semver.specs.Parse.{Parts, memory_error};
 ghost use Rattle.wac_model.specs.Text.{Text};
 ghost use Rattle.wac_names.specs.Reading.{IsKeyFront, IsNoVersionText, IsVersionText};
-ghost use Rattle.wac_names.specs.Track.{IsCompatible, IsKeyOf, IsPlainName, IsTracked};
+ghost use Rattle.wac_names.specs.Track.{IsCompatible, IsKeyOf, IsPlainName, IsTracked, IsVersionOrder};
 
 use semver::Version;
 use std::alloc::{AllocError, Global};
+use std::cmp::Ordering;
 
 // Whether an error of a reader is want of memory.
 fn is_memory(e: &semver::Error) -> bool
@@ -19,8 +20,11 @@ fn is_memory(e: &semver::Error) -> bool
     *e == semver::Error::from(AllocError)
 }
 
-// The version that a text is, where it is one.
-fn read_version(alloc: Global, text: &str) -> Result<Option<Version>, AllocError>
+/// The version that a text is, where it is one of SemVer 2.0.0 (items 2, 9 and 10) with numbers below
+/// 2^64.
+///
+/// `Err` is want of memory, which only a version with a pre-release or build metadata asks for.
+pub fn read_version(alloc: Global, text: &str) -> Result<Option<Version>, AllocError>
     ensures read { IfOk result (λ r. MatchOption r (IsNoVersionText text.now) (λ v. IsVersionText text.now (parts_of v))) }
     ensures no_version { IsNoVersionText text.now → result ≡ Ok None }
     ensures plain { (p : Parts) → IsVersionText text.now p → p.3 ≡ [] → p.4 ≡ [] → IsOk result }
@@ -106,4 +110,25 @@ pub fn are_semver_compatible(alloc: Global, a: &str, b: &str) -> Result<bool, Al
         Some(other) => Ok(key == other),
         None => Ok(false),
     }
+}
+
+/// How the version of a name stands to that of another on the track that both stand on: by major, minor
+/// and patch number (SemVer 2.0.0, item 11), and then by build metadata. None where they stand on no
+/// common track.
+///
+/// `Err` is want of memory, which only versions with a pre-release or build metadata ask for.
+pub fn version_cmp(alloc: Global, a: &str, b: &str) -> Result<Option<Ordering>, AllocError>
+    ensures answer { IfOk result (IsVersionOrder a.now b.now) }
+    ensures no_memory { IsPlainName a.now → IsPlainName b.now → IsOk result }
+{
+    let Some((key, version)) = tracked(alloc, a)? else {
+        return Ok(None);
+    };
+    let Some((other, other_version)) = tracked(alloc, b)? else {
+        return Ok(None);
+    };
+    if key == other {
+        return Ok(Some(version.cmp(&other_version)));
+    }
+    Ok(None)
 }

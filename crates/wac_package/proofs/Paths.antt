@@ -4,9 +4,13 @@ use Rattle.std.proofs.lemmas.List.Folds.{list_all-append}
 use Rattle.std.proofs.lemmas.Str.Pattern.{IsSplitOnceResult, split_after}
 use Rattle.std.specs.Borrow.{Bor}
 use Rattle.std.specs.List.{list_all}
-use Rattle.std.specs.Prelude.{IfOk, IsTrue, ◌↔◌}
+use Rattle.std.specs.Option.{is_some}
+use Rattle.std.specs.Prelude.{IfOk, IsTrue, MatchOption, Some, None, ◌↔◌}
+use Rattle.semver.specs.Identifiers.{parts_of}
 use Rattle.semver.specs.Parse.{Parts}
-use Rattle.wac_names.specs.Reading.{IsVersionText}
+use Rattle.semver.specs.declared.Version.{Version}
+use Rattle.wac_model.specs.Text.{Text}
+use Rattle.wac_names.specs.Reading.{IsNoVersionText, IsVersionText}
 use Rattle.wac_names.specs.Track.{HasNoAt}
 use Rattle.wac_names.proofs.Cuts.{Cuts, no_at, version_after, versioned_at}
 use Rattle.wac_names.proofs.Tracks.{split_same}
@@ -73,3 +77,9 @@ module _ (name path version : List ℕ) (cut : name ≡ path ++ 64 ∷ version) 
 
   pub name_answer : {E : Type 0} (r : Result Bool E) → IsInterfacePath path → IfOk r (λ b. IsTrue b ↔ ((parts : Parts) × IsVersionText version parts)) → IfOk r (λ b. IsTrue b ↔ IsInterfaceName name)
   name_answer = answer
+
+-- a text was read as a version exactly where there is one
+pub version_answer : (text : Text) (read : Option Version) (r : Bool) → MatchOption read (IsNoVersionText text) (λ v. IsVersionText text (parts_of v)) → r ≡ is_some read
+    → IsTrue r ↔ ((p : Parts) × IsVersionText text p)
+version_answer text (Some v) r read e = (λ h. (parts_of v, read), λ h. e)
+version_answer text None r none e = (λ h. cc (e, h), λ h. absurd (none h.0 h.1))

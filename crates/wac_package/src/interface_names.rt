@@ -2,12 +2,12 @@
 
 ghost use Rattle.std.specs.Prelude.{◌≡◌, ◌↔◌, IfOk, IsTrue};
 ghost use Rattle.std.specs.List.{list_all};
-ghost use Rattle.semver.specs.Parse.{Parts, memory_error};
+ghost use Rattle.semver.specs.Parse.{Parts};
 ghost use Rattle.wac_names.specs.Reading.{IsVersionText};
 ghost use Rattle.wac_package.specs.InterfaceName.{IsInterfaceName, IsInterfacePath, IsLabel, begins_with_letter, is_acronym_byte, is_fragment, is_word_byte};
 
-use semver::Version;
 use std::alloc::{AllocError, Global};
+use wac_names::read_version;
 
 /// Whether a name is that of an interface, as `wasi:http/types` or `wasi:http/types@0.2.0`.
 ///
@@ -28,20 +28,8 @@ pub(crate) fn is_interface_name(alloc: Global, name: &str) -> Result<bool, Alloc
 fn is_version(alloc: Global, text: &str) -> Result<bool, AllocError>
     ensures { IfOk result (λ r. IsTrue r ↔ ((p : Parts) × IsVersionText text.now p)) }
 {
-    let Err(e) = Version::parse(alloc, text) else {
-        return Ok(true);
-    };
-    if is_memory(&e) {
-        return Err(AllocError);
-    }
-    Ok(false)
-}
-
-// Whether an error of a reader is want of memory.
-fn is_memory(e: &semver::Error) -> bool
-    ensures { IsTrue result ↔ (e.now ≡ memory_error) }
-{
-    *e == semver::Error::from(AllocError)
+    let version = read_version(alloc, text)?;
+    Ok(version.is_some())
 }
 
 // Whether a text is `namespace:package/interface`.

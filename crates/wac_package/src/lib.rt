@@ -5,12 +5,8 @@
 mod definitions;
 mod interface_names;
 mod keys;
-mod laws;
+pub mod laws;
 mod packages;
 
-pub use keys::{BorrowedKey, BorrowedPackageKey, PackageKey, same_key};
-pub use laws::{
-    definitions_are_determined, equal_keys_hash_equally, equality_of_keys_is_decided,
-    keys_are_ordered, order_of_keys_agrees_with_equality,
-};
+pub use keys::{BorrowedKey, BorrowedPackageKey, PackageKey, is_same_key, same_key};
 pub use packages::Package;
