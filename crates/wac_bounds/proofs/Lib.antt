@@ -11,3 +11,4 @@ pub mod TreeMeet
 pub mod TreeMeetIs
 pub mod ListMeet
 pub mod Bounds
+pub mod More

@@ -1,8 +1,10 @@
 -- The laws of bounds.
-use Rattle.std.specs.Prelude.{List, ◌∷◌, Contains, ◌↔◌}
+use Rattle.std.specs.Prelude.{List, ◌∷◌, Contains, Some, ◌↔◌}
 use Rattle.wac_model.specs.ItemTree.{ItemTree}
+use Rattle.wac_model.specs.Order.{Fits}
 use Rattle.wac_model.specs.Same.{Same}
 use Rattle.wac_bounds.specs.Bounds.{IsLowerBound, IsUpperBound, IsMeet, IsJoin}
+use Rattle.wac_bounds.specs.MeetIn.{IsMeetIn}
 
 -- one tree or more with a common lower bound have a greatest one
 abbrev pub HaveMeets : Type 0
@@ -31,3 +33,11 @@ MeetsDependOnMembers = (ts us : List ItemTree) → HaveSameMembers ts us → (m 
 -- lists with the same members have the same joins
 abbrev pub JoinsDependOnMembers : Type 0
 JoinsDependOnMembers = (ts us : List ItemTree) → HaveSameMembers ts us → (m : ItemTree) → IsJoin m ts ↔ IsJoin m us
+
+-- what is below a list's meet and below one tree more is below the list with that tree, and the other way round
+abbrev pub BoundsOfMore : Type 0
+BoundsOfMore = (ts : List ItemTree) (m t c : ItemTree) → IsMeet m ts → (Fits c m × Fits c t) ↔ IsLowerBound c (t ∷ ts)
+
+-- the meet of a list's meet and one tree more is the meet of the list with that tree
+abbrev pub MeetsOfMore : Type 0
+MeetsOfMore = (ts : List ItemTree) (m t n : ItemTree) → IsMeet m ts → IsMeetIn Fits m t (Some n) ↔ IsMeet n (t ∷ ts)

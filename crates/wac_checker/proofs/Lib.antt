@@ -9,3 +9,4 @@ pub mod TruthLemmas
 pub mod Lookups
 pub mod ExternLemmas
 pub mod CoreLemmas
+pub mod CacheGrowth

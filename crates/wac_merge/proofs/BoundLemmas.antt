@@ -10,7 +10,7 @@ use Rattle.wac_component.specs.Growth.{Extends}
 use Rattle.wac_component.specs.Key.{AllStand, item_keys}
 use Rattle.wac_component.specs.Tree.{item_tree}
 use Rattle.wac_component.specs.declared.items.ItemKind.{ItemKind}
-use Rattle.wac_merge.specs.Bounded.{IsMetAs, IsJoinedAs, AreApart, AreUnlike}
+use Rattle.wac_merge.specs.Bounded.{IsMetAs, IsJoinedAs, AreIncomparable, AreUnlike}
 
 -- in any relation R of trees
 module _ (R : ItemTree → ItemTree → Type 0) where

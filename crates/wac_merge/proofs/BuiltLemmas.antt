@@ -20,7 +20,7 @@ use Rattle.wac_merge.specs.Bounded.{IsMetAs, IsJoinedAs}
 use Rattle.wac_merge.specs.Built.{Origins, IsBuilt, first, second, fresh, IsBuiltAt, of_first, of_second, of_both, AreBuilt, IsInterfaceFrom, IsWorldFrom, IsEntryFrom, of_interfaces, of_worlds, of_modules, IsMadeOf, IsAddedBuilt, OnlyBuilds}
 use Rattle.wac_merge.specs.Items.{entry_item, item_of, Externs}
 use Rattle.wac_merge.specs.Runs.{AgreeOn, Ran, Runs}
-use Rattle.wac_merge.proofs.AddLemmas.{IsLast}
+use Rattle.wac_component.proofs.Last.{IsLast}
 use Rattle.wac_merge.proofs.BoundLemmas.{bound_before, bound_after}
 
 -- an item that names an entry stands where the entry does

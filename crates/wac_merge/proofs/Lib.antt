@@ -1,5 +1,4 @@
 pub mod PutLemmas
-pub mod AddLemmas
 pub mod BoundLemmas
 pub mod ExternLemmas
 pub mod BuiltLemmas
@@ -9,3 +8,4 @@ pub mod MadeLemmas
 pub mod LoopLemmas
 pub mod ItemLemmas
 pub mod OrderLemmas
+pub mod ItemKeys

@@ -24,7 +24,7 @@ use Rattle.wac_component.proofs.Trees.{interface-externs, world-externs}
 use Rattle.wac_merge.specs.Built.{uses_of_both}
 use Rattle.wac_merge.specs.Items.{Externs, extern_keys}
 use Rattle.wac_merge.specs.Reads.{entry_imports, entry_exports, imports_at, exports_at, HasExports, AreRead, IsInterfaceOfBoth, IsWorldOfBoth}
-use Rattle.wac_merge.proofs.AddLemmas.{IsLast, with_entry-last}
+use Rattle.wac_component.proofs.Last.{IsLast, with_entry-last}
 
 -- an entry of the list of its sort
 pub interface_at : (c : Collection) (x : Id) (e : InterfaceContent) → slice_get c.interfaces x.index ≡ Some e → entry_at c (interface_key x) ≡ Some (interface_entry e)

@@ -12,8 +12,8 @@ use Rattle.wac_component.specs.declared.items.ItemKind.{ItemKind}
 use Rattle.wac_merge.specs.Items.{Externs}
 
 -- neither fits where the other is asked for
-abbrev pub AreApart : ItemTree → ItemTree → Type 0
-AreApart a b = (¬ (Fits a b)) × (¬ (Fits b a))
+abbrev pub AreIncomparable : ItemTree → ItemTree → Type 0
+AreIncomparable a b = (¬ (Fits a b)) × (¬ (Fits b a))
 
 -- not both interfaces, both worlds or both core modules, both as items or both as types
 abbrev pub AreUnlike : ItemTree → ItemTree → Type 0

@@ -40,8 +40,8 @@ abbrev pub extern_keys : Externs → List Key
 extern_keys es = named_keys item_keys es
 
 -- what a map from names to items holds
-abbrev pub listed : {S : Type 0} → IndexMap (String Global) ItemKind S → Externs
-listed m = named (λ k. k) m.entries
+abbrev pub extern_list : {S : Type 0} → IndexMap (String Global) ItemKind S → Externs
+extern_list m = named (λ k. k) m.entries
 
 -- no entry is hidden by another of its name
 abbrev pub AreFound : Externs → Type 0

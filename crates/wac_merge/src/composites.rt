@@ -7,7 +7,7 @@ ghost use Rattle.wac_model.specs.ItemTree.{Kind};
 ghost use Rattle.wac_core_merge.specs.NameOrder.{HasAllNames, HasSomeNames};
 ghost use Rattle.wac_component.specs.Growth.{Extends};
 ghost use Rattle.wac_component.specs.Key.{Stands, AllStand, interface_key, world_key};
-ghost use Rattle.wac_merge.specs.Items.{entry_item, extern_keys, listed};
+ghost use Rattle.wac_merge.specs.Items.{entry_item, extern_keys, extern_list};
 ghost use Rattle.wac_merge.specs.Bounded.{IsMetAs, IsJoinedAs, AreMet, AreJoined};
 ghost use Rattle.wac_merge.specs.Built.{IsMadeOf, AreBuilt};
 ghost use Rattle.wac_merge.specs.Reads.{imports_at, exports_at};
@@ -74,10 +74,10 @@ fn meet_exports(
     requires left { Stands types.old (interface_key x) }
     requires right { Stands types.old (interface_key y) }
     ensures grows { Extends types.old types.new }
-    ensures met { IfOk result (λ r. AreMet types.old types.new (exports_at types.old (interface_key x)) (exports_at types.old (interface_key y)) (option_map listed r)) }
-    ensures names { IfOk result (λ r. IfSome r (λ m. HasAllNames bytes_eq (exports_at types.old (interface_key x)) (exports_at types.old (interface_key y)) (listed m))) }
-    ensures standing { IfOk result (λ r. IfSome r (λ m. AllStand types.new (extern_keys (listed m)))) }
-    ensures built { Runs (interface_key x ∷ interface_key y ∷ []) types.old types.new (λ c o. IfOk result (λ r. IfSome r (λ m. AreBuilt c types.new o (exports_at types.old (interface_key x)) (exports_at types.old (interface_key y)) (listed m)))) }
+    ensures met { IfOk result (λ r. AreMet types.old types.new (exports_at types.old (interface_key x)) (exports_at types.old (interface_key y)) (option_map extern_list r)) }
+    ensures names { IfOk result (λ r. IfSome r (λ m. HasAllNames bytes_eq (exports_at types.old (interface_key x)) (exports_at types.old (interface_key y)) (extern_list m))) }
+    ensures standing { IfOk result (λ r. IfSome r (λ m. AllStand types.new (extern_keys (extern_list m)))) }
+    ensures built { Runs (interface_key x ∷ interface_key y ∷ []) types.old types.new (λ c o. IfOk result (λ r. IfSome r (λ m. AreBuilt c types.new o (exports_at types.old (interface_key x)) (exports_at types.old (interface_key y)) (extern_list m)))) }
 {
     let first = exports_of(types, x)?;
     let second = exports_of(types, y)?;
@@ -95,10 +95,10 @@ fn join_exports(
     requires left { Stands types.old (interface_key x) }
     requires right { Stands types.old (interface_key y) }
     ensures grows { Extends types.old types.new }
-    ensures joined { IfOk result (λ j. AreJoined types.old types.new (exports_at types.old (interface_key x)) (exports_at types.old (interface_key y)) (listed j)) }
-    ensures names { IfOk result (λ j. HasSomeNames bytes_eq (exports_at types.old (interface_key x)) (listed j)) }
-    ensures standing { IfOk result (λ j. AllStand types.new (extern_keys (listed j))) }
-    ensures built { Runs (interface_key x ∷ interface_key y ∷ []) types.old types.new (λ c o. IfOk result (λ j. AreBuilt c types.new o (exports_at types.old (interface_key x)) (exports_at types.old (interface_key y)) (listed j))) }
+    ensures joined { IfOk result (λ j. AreJoined types.old types.new (exports_at types.old (interface_key x)) (exports_at types.old (interface_key y)) (extern_list j)) }
+    ensures names { IfOk result (λ j. HasSomeNames bytes_eq (exports_at types.old (interface_key x)) (extern_list j)) }
+    ensures standing { IfOk result (λ j. AllStand types.new (extern_keys (extern_list j))) }
+    ensures built { Runs (interface_key x ∷ interface_key y ∷ []) types.old types.new (λ c o. IfOk result (λ j. AreBuilt c types.new o (exports_at types.old (interface_key x)) (exports_at types.old (interface_key y)) (extern_list j))) }
 {
     let first = exports_of(types, x)?;
     let second = exports_of(types, y)?;
@@ -168,10 +168,10 @@ fn meet_world_exports(
     requires left { Stands types.old (world_key x) }
     requires right { Stands types.old (world_key y) }
     ensures grows { Extends types.old types.new }
-    ensures met { IfOk result (λ r. AreMet types.old types.new (exports_at types.old (world_key x)) (exports_at types.old (world_key y)) (option_map listed r)) }
-    ensures names { IfOk result (λ r. IfSome r (λ m. HasAllNames bytes_eq (exports_at types.old (world_key x)) (exports_at types.old (world_key y)) (listed m))) }
-    ensures standing { IfOk result (λ r. IfSome r (λ m. AllStand types.new (extern_keys (listed m)))) }
-    ensures built { Runs (world_key x ∷ world_key y ∷ []) types.old types.new (λ c o. IfOk result (λ r. IfSome r (λ m. AreBuilt c types.new o (exports_at types.old (world_key x)) (exports_at types.old (world_key y)) (listed m)))) }
+    ensures met { IfOk result (λ r. AreMet types.old types.new (exports_at types.old (world_key x)) (exports_at types.old (world_key y)) (option_map extern_list r)) }
+    ensures names { IfOk result (λ r. IfSome r (λ m. HasAllNames bytes_eq (exports_at types.old (world_key x)) (exports_at types.old (world_key y)) (extern_list m))) }
+    ensures standing { IfOk result (λ r. IfSome r (λ m. AllStand types.new (extern_keys (extern_list m)))) }
+    ensures built { Runs (world_key x ∷ world_key y ∷ []) types.old types.new (λ c o. IfOk result (λ r. IfSome r (λ m. AreBuilt c types.new o (exports_at types.old (world_key x)) (exports_at types.old (world_key y)) (extern_list m)))) }
 {
     let first = world_exports_of(types, x)?;
     let second = world_exports_of(types, y)?;
@@ -189,10 +189,10 @@ fn meet_world_imports(
     requires left { Stands types.old (world_key x) }
     requires right { Stands types.old (world_key y) }
     ensures grows { Extends types.old types.new }
-    ensures met { IfOk result (λ r. AreMet types.old types.new (imports_at types.old (world_key x)) (imports_at types.old (world_key y)) (option_map listed r)) }
-    ensures names { IfOk result (λ r. IfSome r (λ m. HasAllNames bytes_eq (imports_at types.old (world_key x)) (imports_at types.old (world_key y)) (listed m))) }
-    ensures standing { IfOk result (λ r. IfSome r (λ m. AllStand types.new (extern_keys (listed m)))) }
-    ensures built { Runs (world_key x ∷ world_key y ∷ []) types.old types.new (λ c o. IfOk result (λ r. IfSome r (λ m. AreBuilt c types.new o (imports_at types.old (world_key x)) (imports_at types.old (world_key y)) (listed m)))) }
+    ensures met { IfOk result (λ r. AreMet types.old types.new (imports_at types.old (world_key x)) (imports_at types.old (world_key y)) (option_map extern_list r)) }
+    ensures names { IfOk result (λ r. IfSome r (λ m. HasAllNames bytes_eq (imports_at types.old (world_key x)) (imports_at types.old (world_key y)) (extern_list m))) }
+    ensures standing { IfOk result (λ r. IfSome r (λ m. AllStand types.new (extern_keys (extern_list m)))) }
+    ensures built { Runs (world_key x ∷ world_key y ∷ []) types.old types.new (λ c o. IfOk result (λ r. IfSome r (λ m. AreBuilt c types.new o (imports_at types.old (world_key x)) (imports_at types.old (world_key y)) (extern_list m)))) }
 {
     let first = world_imports_of(types, x)?;
     let second = world_imports_of(types, y)?;
@@ -210,10 +210,10 @@ fn join_world_imports(
     requires left { Stands types.old (world_key x) }
     requires right { Stands types.old (world_key y) }
     ensures grows { Extends types.old types.new }
-    ensures joined { IfOk result (λ j. AreJoined types.old types.new (imports_at types.old (world_key x)) (imports_at types.old (world_key y)) (listed j)) }
-    ensures names { IfOk result (λ j. HasSomeNames bytes_eq (imports_at types.old (world_key x)) (listed j)) }
-    ensures standing { IfOk result (λ j. AllStand types.new (extern_keys (listed j))) }
-    ensures built { Runs (world_key x ∷ world_key y ∷ []) types.old types.new (λ c o. IfOk result (λ j. AreBuilt c types.new o (imports_at types.old (world_key x)) (imports_at types.old (world_key y)) (listed j))) }
+    ensures joined { IfOk result (λ j. AreJoined types.old types.new (imports_at types.old (world_key x)) (imports_at types.old (world_key y)) (extern_list j)) }
+    ensures names { IfOk result (λ j. HasSomeNames bytes_eq (imports_at types.old (world_key x)) (extern_list j)) }
+    ensures standing { IfOk result (λ j. AllStand types.new (extern_keys (extern_list j))) }
+    ensures built { Runs (world_key x ∷ world_key y ∷ []) types.old types.new (λ c o. IfOk result (λ j. AreBuilt c types.new o (imports_at types.old (world_key x)) (imports_at types.old (world_key y)) (extern_list j))) }
 {
     let first = world_imports_of(types, x)?;
     let second = world_imports_of(types, y)?;
@@ -231,10 +231,10 @@ fn join_world_exports(
     requires left { Stands types.old (world_key x) }
     requires right { Stands types.old (world_key y) }
     ensures grows { Extends types.old types.new }
-    ensures joined { IfOk result (λ j. AreJoined types.old types.new (exports_at types.old (world_key x)) (exports_at types.old (world_key y)) (listed j)) }
-    ensures names { IfOk result (λ j. HasSomeNames bytes_eq (exports_at types.old (world_key x)) (listed j)) }
-    ensures standing { IfOk result (λ j. AllStand types.new (extern_keys (listed j))) }
-    ensures built { Runs (world_key x ∷ world_key y ∷ []) types.old types.new (λ c o. IfOk result (λ j. AreBuilt c types.new o (exports_at types.old (world_key x)) (exports_at types.old (world_key y)) (listed j))) }
+    ensures joined { IfOk result (λ j. AreJoined types.old types.new (exports_at types.old (world_key x)) (exports_at types.old (world_key y)) (extern_list j)) }
+    ensures names { IfOk result (λ j. HasSomeNames bytes_eq (exports_at types.old (world_key x)) (extern_list j)) }
+    ensures standing { IfOk result (λ j. AllStand types.new (extern_keys (extern_list j))) }
+    ensures built { Runs (world_key x ∷ world_key y ∷ []) types.old types.new (λ c o. IfOk result (λ j. AreBuilt c types.new o (exports_at types.old (world_key x)) (exports_at types.old (world_key y)) (extern_list j))) }
 {
     let first = world_exports_of(types, x)?;
     let second = world_exports_of(types, y)?;

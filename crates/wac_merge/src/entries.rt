@@ -5,7 +5,7 @@ ghost use Rattle.wac_component.specs.Content.{named, use_content};
 ghost use Rattle.wac_component.specs.Growth.{Extends};
 ghost use Rattle.wac_component.specs.Key.{Stands, AllStand, interface_key, world_key};
 ghost use Rattle.wac_merge.specs.Built.{uses_of_both};
-ghost use Rattle.wac_merge.specs.Items.{extern_keys, listed};
+ghost use Rattle.wac_merge.specs.Items.{extern_keys, extern_list};
 ghost use Rattle.wac_merge.specs.Reads.{imports_at, exports_at, HasExports, AreRead, IsInterfaceOfBoth, IsWorldOfBoth};
 
 use indexmap::IndexMap;
@@ -19,7 +19,7 @@ pub(crate) fn exports_of(
     id: InterfaceId,
 ) -> Result<IndexMap<String, ItemKind>, AllocError>
     requires { Stands types.now (interface_key id) }
-    ensures { IfOk result (λ m. HasExports types.now id (listed m)) }
+    ensures { IfOk result (λ m. HasExports types.now id (extern_list m)) }
 {
     types[id].exports.clone()
 }
@@ -30,7 +30,7 @@ pub(crate) fn world_imports_of(
     id: WorldId,
 ) -> Result<IndexMap<String, ItemKind>, AllocError>
     requires { Stands types.now (world_key id) }
-    ensures { IfOk result (λ m. AreRead types.now (world_key id) (imports_at types.now (world_key id)) (listed m)) }
+    ensures { IfOk result (λ m. AreRead types.now (world_key id) (imports_at types.now (world_key id)) (extern_list m)) }
 {
     types[id].imports.clone()
 }
@@ -41,7 +41,7 @@ pub(crate) fn world_exports_of(
     id: WorldId,
 ) -> Result<IndexMap<String, ItemKind>, AllocError>
     requires { Stands types.now (world_key id) }
-    ensures { IfOk result (λ m. AreRead types.now (world_key id) (exports_at types.now (world_key id)) (listed m)) }
+    ensures { IfOk result (λ m. AreRead types.now (world_key id) (exports_at types.now (world_key id)) (extern_list m)) }
 {
     types[id].exports.clone()
 }
@@ -67,8 +67,8 @@ pub(crate) fn add_interface_of(
 ) -> Result<InterfaceId, AllocError>
     requires first { Stands types.old (interface_key first) }
     requires second { Stands types.old (interface_key second) }
-    requires exports { AllStand types.old (extern_keys (listed exports)) }
-    ensures made { IfOk result (λ p. IsInterfaceOfBoth types.old types.new first second (listed exports) p) }
+    requires exports { AllStand types.old (extern_keys (extern_list exports)) }
+    ensures made { IfOk result (λ p. IsInterfaceOfBoth types.old types.new first second (extern_list exports) p) }
     ensures grows { Extends types.old types.new }
     ensures err { OnErr result (types.new ≡ types.old) }
 {
@@ -90,9 +90,9 @@ pub(crate) fn add_world_of(
 ) -> Result<WorldId, AllocError>
     requires first { Stands types.old (world_key first) }
     requires second { Stands types.old (world_key second) }
-    requires imports { AllStand types.old (extern_keys (listed imports)) }
-    requires exports { AllStand types.old (extern_keys (listed exports)) }
-    ensures made { IfOk result (λ p. IsWorldOfBoth types.old types.new first second (listed imports) (listed exports) p) }
+    requires imports { AllStand types.old (extern_keys (extern_list imports)) }
+    requires exports { AllStand types.old (extern_keys (extern_list exports)) }
+    ensures made { IfOk result (λ p. IsWorldOfBoth types.old types.new first second (extern_list imports) (extern_list exports) p) }
     ensures grows { Extends types.old types.new }
     ensures err { OnErr result (types.new ≡ types.old) }
 {

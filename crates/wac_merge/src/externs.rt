@@ -7,7 +7,7 @@ ghost use Rattle.std.specs.Str.{bytes_eq};
 ghost use Rattle.wac_core_merge.specs.NameOrder.{HasAllNames, HasSomeNames};
 ghost use Rattle.wac_component.specs.Growth.{Extends};
 ghost use Rattle.wac_component.specs.Key.{AllStand, item_keys, optional_keys};
-ghost use Rattle.wac_merge.specs.Items.{extern_keys, listed};
+ghost use Rattle.wac_merge.specs.Items.{extern_keys, extern_list};
 ghost use Rattle.wac_merge.specs.Bounded.{IsMetWith, IsJoinedWith, AreMet, AreFirstMet, AreJoined};
 ghost use Rattle.wac_merge.specs.Built.{IsBuiltWith, AreBuilt};
 ghost use Rattle.wac_merge.specs.Runs.{Runs};
@@ -26,13 +26,13 @@ pub(crate) fn meet_externs(
     first: &IndexMap<String, ItemKind>,
     second: &IndexMap<String, ItemKind>,
 ) -> Result<Option<IndexMap<String, ItemKind>>, AllocError>
-    requires left { AllStand types.old (extern_keys (listed first.now)) }
-    requires right { AllStand types.old (extern_keys (listed second.now)) }
+    requires left { AllStand types.old (extern_keys (extern_list first.now)) }
+    requires right { AllStand types.old (extern_keys (extern_list second.now)) }
     ensures grows { Extends types.old types.new }
-    ensures met { IfOk result (λ r. AreMet types.old types.new (listed first.now) (listed second.now) (option_map listed r)) }
-    ensures names { IfOk result (λ r. IfSome r (λ m. HasAllNames bytes_eq (listed first.now) (listed second.now) (listed m))) }
-    ensures standing { IfOk result (λ r. IfSome r (λ m. AllStand types.new (extern_keys (listed m)))) }
-    ensures built { Runs (extern_keys (listed first.now) ++ extern_keys (listed second.now)) types.old types.new (λ c o. IfOk result (λ r. IfSome r (λ m. AreBuilt c types.new o (listed first.now) (listed second.now) (listed m)))) }
+    ensures met { IfOk result (λ r. AreMet types.old types.new (extern_list first.now) (extern_list second.now) (option_map extern_list r)) }
+    ensures names { IfOk result (λ r. IfSome r (λ m. HasAllNames bytes_eq (extern_list first.now) (extern_list second.now) (extern_list m))) }
+    ensures standing { IfOk result (λ r. IfSome r (λ m. AllStand types.new (extern_keys (extern_list m)))) }
+    ensures built { Runs (extern_keys (extern_list first.now) ++ extern_keys (extern_list second.now)) types.old types.new (λ c o. IfOk result (λ r. IfSome r (λ m. AreBuilt c types.new o (extern_list first.now) (extern_list second.now) (extern_list m)))) }
 {
     match meet_first(alloc, types, first, second)? {
         Some(mut met) => {
@@ -51,13 +51,13 @@ fn meet_first(
     first: &IndexMap<String, ItemKind>,
     second: &IndexMap<String, ItemKind>,
 ) -> Result<Option<IndexMap<String, ItemKind>>, AllocError>
-    requires left { AllStand types.old (extern_keys (listed first.now)) }
-    requires right { AllStand types.old (extern_keys (listed second.now)) }
+    requires left { AllStand types.old (extern_keys (extern_list first.now)) }
+    requires right { AllStand types.old (extern_keys (extern_list second.now)) }
     ensures grows { Extends types.old types.new }
-    ensures met { IfOk result (λ r. AreFirstMet types.old types.new (listed first.now) (listed second.now) (option_map listed r)) }
-    ensures names { IfOk result (λ r. IfSome r (λ m. keys_of (listed m) ≡ keys_of (listed first.now))) }
-    ensures standing { IfOk result (λ r. IfSome r (λ m. AllStand types.new (extern_keys (listed m)))) }
-    ensures built { Runs (extern_keys (listed first.now) ++ extern_keys (listed second.now)) types.old types.new (λ c o. IfOk result (λ r. IfSome r (λ m. AreBuilt c types.new o (listed first.now) (listed second.now) (listed m)))) }
+    ensures met { IfOk result (λ r. AreFirstMet types.old types.new (extern_list first.now) (extern_list second.now) (option_map extern_list r)) }
+    ensures names { IfOk result (λ r. IfSome r (λ m. keys_of (extern_list m) ≡ keys_of (extern_list first.now))) }
+    ensures standing { IfOk result (λ r. IfSome r (λ m. AllStand types.new (extern_keys (extern_list m)))) }
+    ensures built { Runs (extern_keys (extern_list first.now) ++ extern_keys (extern_list second.now)) types.old types.new (λ c o. IfOk result (λ r. IfSome r (λ m. AreBuilt c types.new o (extern_list first.now) (extern_list second.now) (extern_list m)))) }
 {
     let mut met = IndexMap::new(alloc);
     for (name, a) in first {
@@ -99,13 +99,13 @@ pub(crate) fn join_externs(
     first: &IndexMap<String, ItemKind>,
     second: &IndexMap<String, ItemKind>,
 ) -> Result<IndexMap<String, ItemKind>, AllocError>
-    requires left { AllStand types.old (extern_keys (listed first.now)) }
-    requires right { AllStand types.old (extern_keys (listed second.now)) }
+    requires left { AllStand types.old (extern_keys (extern_list first.now)) }
+    requires right { AllStand types.old (extern_keys (extern_list second.now)) }
     ensures grows { Extends types.old types.new }
-    ensures joined { IfOk result (λ j. AreJoined types.old types.new (listed first.now) (listed second.now) (listed j)) }
-    ensures names { IfOk result (λ j. HasSomeNames bytes_eq (listed first.now) (listed j)) }
-    ensures standing { IfOk result (λ j. AllStand types.new (extern_keys (listed j))) }
-    ensures built { Runs (extern_keys (listed first.now) ++ extern_keys (listed second.now)) types.old types.new (λ c o. IfOk result (λ j. AreBuilt c types.new o (listed first.now) (listed second.now) (listed j))) }
+    ensures joined { IfOk result (λ j. AreJoined types.old types.new (extern_list first.now) (extern_list second.now) (extern_list j)) }
+    ensures names { IfOk result (λ j. HasSomeNames bytes_eq (extern_list first.now) (extern_list j)) }
+    ensures standing { IfOk result (λ j. AllStand types.new (extern_keys (extern_list j))) }
+    ensures built { Runs (extern_keys (extern_list first.now) ++ extern_keys (extern_list second.now)) types.old types.new (λ c o. IfOk result (λ j. AreBuilt c types.new o (extern_list first.now) (extern_list second.now) (extern_list j))) }
 {
     let mut joined = IndexMap::new(alloc);
     for (name, a) in first {

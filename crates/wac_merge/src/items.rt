@@ -5,7 +5,7 @@ ghost use Rattle.wac_component.specs.Growth.{Extends};
 ghost use Rattle.wac_component.specs.Key.{AllStand, item_keys, type_keys};
 ghost use Rattle.wac_component.specs.Tree.{item_tree};
 ghost use Rattle.wac_component.specs.declared.items.ItemKind.TheVariants.{«Type» as OfType};
-ghost use Rattle.wac_merge.specs.Bounded.{AreApart, IsKept, IsMetAs, IsJoinedAs};
+ghost use Rattle.wac_merge.specs.Bounded.{AreIncomparable, IsKept, IsMetAs, IsJoinedAs};
 ghost use Rattle.wac_merge.specs.Built.{IsBuilt};
 ghost use Rattle.wac_merge.specs.Runs.{Runs};
 
@@ -63,7 +63,7 @@ fn meet_types(
 ) -> Result<Option<ItemKind>, AllocError>
     requires left { AllStand types.old (type_keys a) }
     requires right { AllStand types.old (type_keys b) }
-    requires apart { AreApart (item_tree types.old (OfType a)) (item_tree types.old (OfType b)) }
+    requires apart { AreIncomparable (item_tree types.old (OfType a)) (item_tree types.old (OfType b)) }
     ensures grows { Extends types.old types.new }
     ensures met { IfOk result (λ m. IsMetAs types.old types.new (OfType a) (OfType b) m) }
     ensures standing { IfOk result (λ m. IfSome m (λ k. AllStand types.new (item_keys k))) }
@@ -128,7 +128,7 @@ fn join_types(
 ) -> Result<Option<ItemKind>, AllocError>
     requires left { AllStand types.old (type_keys a) }
     requires right { AllStand types.old (type_keys b) }
-    requires apart { AreApart (item_tree types.old (OfType a)) (item_tree types.old (OfType b)) }
+    requires apart { AreIncomparable (item_tree types.old (OfType a)) (item_tree types.old (OfType b)) }
     ensures grows { Extends types.old types.new }
     ensures joined { IfOk result (λ m. IsJoinedAs types.old types.new (OfType a) (OfType b) m) }
     ensures standing { IfOk result (λ m. IfSome m (λ k. AllStand types.new (item_keys k))) }

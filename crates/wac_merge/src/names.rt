@@ -5,7 +5,7 @@ ghost use Rattle.std.specs.Str.{bytes_eq};
 ghost use Rattle.indexmap.specs.IndexMap.{insert_entry};
 ghost use Rattle.wac_model.specs.Text.{lookup};
 ghost use Rattle.wac_core_merge.specs.Names.{with_new};
-ghost use Rattle.wac_merge.specs.Items.{AreFound, listed};
+ghost use Rattle.wac_merge.specs.Items.{AreFound, extern_list};
 
 use indexmap::IndexMap;
 use std::alloc::AllocError;
@@ -14,7 +14,7 @@ use wac_core_merge::add_new;
 
 // The item of a name.
 pub(crate) fn extern_named(externs: &IndexMap<String, ItemKind>, name: &String) -> Option<ItemKind>
-    ensures { result ≡ lookup bytes_eq (listed externs.now) (string_bytes name.now) }
+    ensures { result ≡ lookup bytes_eq (extern_list externs.now) (string_bytes name.now) }
 {
     externs.get(name).copied()
 }
@@ -25,7 +25,7 @@ pub(crate) fn put_extern(
     name: &String,
     kind: ItemKind,
 ) -> Result<(), AllocError>
-    ensures { OnOk result (listed externs.new ≡ insert_entry bytes_eq (listed externs.old) (string_bytes name.now) kind) }
+    ensures { OnOk result (extern_list externs.new ≡ insert_entry bytes_eq (extern_list externs.old) (string_bytes name.now) kind) }
 {
     externs.insert(name.clone()?, kind)?;
     Ok(())
@@ -36,8 +36,8 @@ pub(crate) fn add_others(
     externs: &mut IndexMap<String, ItemKind>,
     second: &IndexMap<String, ItemKind>,
 ) -> Result<(), AllocError>
-    ensures added { OnOk result (listed externs.new ≡ with_new bytes_eq (listed externs.old) (listed second.now)) }
-    ensures found { OnOk result (AreFound (listed second.now)) }
+    ensures added { OnOk result (extern_list externs.new ≡ with_new bytes_eq (extern_list externs.old) (extern_list second.now)) }
+    ensures found { OnOk result (AreFound (extern_list second.now)) }
 {
     add_new(externs, second.clone()?)
 }

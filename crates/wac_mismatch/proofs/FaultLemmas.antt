@@ -174,16 +174,16 @@ core_not_there None (Some u) h none t some = h
 core_not_there (Some s) (Some u) h none t some = cc
 
 export_refutes : (h k n : Text) (a b : Side) → LacksExport h k n a b → SideFits a b → ⊥
-export_refutes h k n (item_side (composite i s is es)) (item_side (composite i' s' is' es')) lacks (composites p q) = not_there (p n) lacks.1 lacks.2.0 lacks.2.1
-export_refutes h k n (item_side (core_module i m)) (item_side (core_module i' m')) lacks (modules p) = core_not_there _ _ (p.exports n) lacks.1 lacks.2.0 lacks.2.1
+export_refutes h k n (item_side (composite i s is es)) (item_side (composite i' s' is' es')) lacks (composites p q) = not_there (p n) lacks.3 lacks.4.0 lacks.4.1
+export_refutes h k n (item_side (core_module i m)) (item_side (core_module i' m')) lacks (modules p) = core_not_there _ _ (p.exports n) lacks.2 lacks.3.0 lacks.3.1
 export_refutes h k n a b lacks fits = elim lacks [ ]
 
 import_refutes : (k n : Text) (a b : Side) → LacksImport k n a b → SideFits a b → ⊥
-import_refutes k n (item_side (composite i world is es)) (item_side (composite i' world is' es')) lacks (composites p q) = not_there (q n) lacks.0 lacks.1.0 lacks.1.1
+import_refutes k n (item_side (composite i world is es)) (item_side (composite i' world is' es')) lacks (composites p q) = not_there (q n) lacks.1 lacks.2.0 lacks.2.1
 import_refutes k n a b lacks fits = elim lacks [ ]
 
 core_import_refutes : (k : Text) (n : ImportName) (a b : Side) → LacksCoreImport k n a b → SideFits a b → ⊥
-core_import_refutes k n (item_side (core_module i m)) (item_side (core_module i' m')) lacks (modules p) = core_not_there _ _ (p.imports n) lacks.0 lacks.1.0 lacks.1.1
+core_import_refutes k n (item_side (core_module i m)) (item_side (core_module i' m')) lacks (modules p) = core_not_there _ _ (p.imports n) lacks.1 lacks.2.0 lacks.2.1
 core_import_refutes k n a b lacks fits = elim lacks [ ]
 
 field_refutes : (field : CoreField) (a b : Side) → DifferIn field a b → SideFits a b → ⊥

@@ -1,7 +1,7 @@
 -- A path: frames that lead from a place to one where the fault holds.
 use Rattle.std.specs.Prelude.{◌≡◌, List, [], ◌∷◌, Some}
-use Rattle.wac_model.specs.ItemTree.{core_module}
-use Rattle.wac_mismatch.specs.Place.{Side, item_side, Place, place, turned}
+use Rattle.wac_model.specs.ItemTree.{leaf, core_module, composite}
+use Rattle.wac_mismatch.specs.Place.{Side, item_side, core_side, value_side, absent, Place, place, turned}
 use Rattle.wac_mismatch.specs.Part.{part_of}
 use Rattle.wac_mismatch.specs.Holds.{Holds}
 use Rattle.wac_mismatch.specs.declared.frame.Frame.{Frame}
@@ -23,8 +23,19 @@ abbrev pub check_below : Frame → Side → SubtypeCheck → SubtypeCheck
 check_below (Export n) (item_side (core_module k m)) c = Covariant
 check_below f a c = c
 
--- from a place to the place below it: both sides have the part that the frame names
+-- two sides of one case: items of one kind, and composites of one shape
+abbrev pub AreAlike : Side → Side → Type 0
+AreAlike (item_side (leaf k x)) (item_side (leaf k' y)) = k ≡ k'
+AreAlike (item_side (core_module k m)) (item_side (core_module k' n)) = k ≡ k'
+AreAlike (item_side (composite k s is es)) (item_side (composite k' s' is' es')) = (k ≡ k') × (s ≡ s')
+AreAlike (core_side a) (core_side b) = Unit {0}
+AreAlike (value_side t) (value_side u) = Unit {0}
+AreAlike absent absent = Unit {0}
+AreAlike a b = ⊥
+
+-- from a place to the place below it: the sides are alike, and both have the part that the frame names
 pub record Leads (frame : Frame) (above below : Place) : Type 0 where
+  pub alike : AreAlike above.left above.right
   pub left : part_of frame (entered frame above).left ≡ Some below.left
   pub right : part_of frame (entered frame above).right ≡ Some below.right
   pub same_check : below.check ≡ check_below frame above.left (entered frame above).check

@@ -3,7 +3,7 @@ use Rattle.std.proofs.Common.{◌≡◌, ℕ, slice_get, Bool, true, false, cond
 use Rattle.std.specs.Str.{bytes_eq}
 use Rattle.indexmap.specs.IndexMap.{insert_entry, insert_all}
 use Rattle.wac_model.specs.Text.{Text}
-use Rattle.wac_checker.specs.Cache.{AreApart}
+use Rattle.wac_checker.specs.Cache.{AreNumberedApart}
 use Rattle.wac_component.specs.Collection.{Collection}
 use Rattle.wac_component.specs.Key.{Stands, AllStand, item_keys, named_keys}
 use Rattle.wac_component.specs.Items.{promoted}
@@ -52,17 +52,16 @@ module _ (c : Collection) where
   right-stands Import b h = h
   right-stands Export b h = promoted-stands b h
 
-  -- one collection, twice
-  pub alone : (d : Collection) → Contains (c ∷ c ∷ []) d → d ≡ c
+  -- one collection, four times: the two sides of a question, and those of which the cache is true
+  alone : (d : Collection) → Contains (c ∷ c ∷ c ∷ c ∷ []) d → d ≡ c
   alone d (zero, l, at) = sym at
   alone d (suc zero, l, at) = sym at
-  alone d (suc (suc i), l, at) = absurd (omega (arith, l))
+  alone d (suc (suc zero), l, at) = sym at
+  alone d (suc (suc (suc zero)), l, at) = sym at
+  alone d (suc (suc (suc (suc i))), l, at) = absurd (omega (arith, l))
 
-  pub alone-apart : AreApart (c ∷ c ∷ [])
+  pub alone-apart : AreNumberedApart (c ∷ c ∷ c ∷ c ∷ [])
   alone-apart d e f g same = alone d f ∙ sym (alone e g)
-
-  pub alone-there : Contains (c ∷ c ∷ []) c
-  alone-there = (zero, omega arith, refl)
 
   -- items that are put among others
   pub insert_all-stands : (ps qs : Items) → AllStand c (named_keys item_keys ps) → AllStand c (named_keys item_keys qs) → AllStand c (named_keys item_keys (insert_all bytes_eq ps qs))

@@ -9,7 +9,7 @@ use Rattle.wac_component.specs.Collection.{Collection}
 use Rattle.wac_component.specs.Key.{AllStand, item_keys, named_keys}
 use Rattle.wac_component.specs.declared.items.ItemKind.{ItemKind}
 use Rattle.wac_names.specs.Interner.{Interning}
-use Rattle.wac_names.specs.NameMap.{Stands}
+use Rattle.wac_names.specs.NameMap.{Represents}
 use Rattle.wac_names.specs.declared.name_map.NameMap.{NameMap}
 use Rattle.wac_targets.specs.Wanted.{Items}
 
@@ -19,7 +19,7 @@ text_keys text key = bytes_eq text (string_bytes key)
 
 -- the map stands for these values under their names
 abbrev pub IsMapOf : {V : Type 0} → NameMap (String Global) V → List (Text × V) → Type 0
-IsMapOf m ps = Stands string_eq text_keys m ps
+IsMapOf m ps = Represents string_eq text_keys m ps
 
 -- the entries of a map with borrowed names
 abbrev pub borrowed : {V : Type 0} → List (Bor Text × V) → List (Text × V)

@@ -1,7 +1,7 @@
 //! The checks of what one side wants, name by name.
 
 ghost use Rattle.std.specs.Prelude.{◌≡◌, ◌∷◌, [], string_bytes, IfOk, IfErr, OnOk};
-ghost use Rattle.wac_checker.specs.Cache.{IsTrueCache};
+ghost use Rattle.wac_checker.specs.Cache.{IsSoundCache};
 ghost use Rattle.wac_checker.specs.Checker.{direction, depth, remembered};
 ghost use Rattle.wac_component.specs.Content.{named};
 ghost use Rattle.wac_component.specs.Key.{AllStand, item_keys, named_keys};
@@ -46,10 +46,10 @@ pub(crate) fn check_all(
     requires given { HoldsItemsOf types.now given.now }
     requires wanted { AllStand types.now (named_keys item_keys (named (λ k. k) wanted.now.entries)) }
     requires direction { direction checker.old ≡ check_of kind }
-    requires remembered { IsTrueCache (types.now ∷ types.now ∷ []) (remembered checker.old) }
+    requires remembered { IsSoundCache (types.now ∷ types.now ∷ []) (remembered checker.old) }
     ensures direction { direction checker.new ≡ direction checker.old }
     ensures depth { depth checker.new ≡ depth checker.old }
-    ensures remembered { IsTrueCache (types.now ∷ types.now ∷ []) (remembered checker.new) }
+    ensures remembered { IsSoundCache (types.now ∷ types.now ∷ []) (remembered checker.new) }
     ensures noted { (items : Items) → IsMapOf given.now items → OnOk result (AreNoted types.now kind items (named (λ k. k) wanted.now.entries) (note_of report.old) (note_of report.new)) }
     ensures err { IfErr result (λ e. e ≡ Memory) }
 {
@@ -74,10 +74,10 @@ fn check_one(
     requires given { HoldsItemsOf types.now given.now }
     requires wanted { AllStand types.now (item_keys wanted.now) }
     requires direction { direction checker.old ≡ check_of kind }
-    requires remembered { IsTrueCache (types.now ∷ types.now ∷ []) (remembered checker.old) }
+    requires remembered { IsSoundCache (types.now ∷ types.now ∷ []) (remembered checker.old) }
     ensures direction { direction checker.new ≡ direction checker.old }
     ensures depth { depth checker.new ≡ depth checker.old }
-    ensures remembered { IsTrueCache (types.now ∷ types.now ∷ []) (remembered checker.new) }
+    ensures remembered { IsSoundCache (types.now ∷ types.now ∷ []) (remembered checker.new) }
     ensures noted { (items : Items) → IsMapOf given.now items → OnOk result (NotesAt types.now kind items name.now wanted.now (note_of report.old) (note_of report.new)) }
     ensures err { IfErr result (λ e. e ≡ Memory) }
 {
@@ -101,10 +101,10 @@ fn judge(
     requires given { HoldsItemsOf types.now given.now }
     requires wanted { AllStand types.now (item_keys wanted.now) }
     requires direction { direction checker.old ≡ check_of kind }
-    requires remembered { IsTrueCache (types.now ∷ types.now ∷ []) (remembered checker.old) }
+    requires remembered { IsSoundCache (types.now ∷ types.now ∷ []) (remembered checker.old) }
     ensures direction { direction checker.new ≡ direction checker.old }
     ensures depth { depth checker.new ≡ depth checker.old }
-    ensures remembered { IsTrueCache (types.now ∷ types.now ∷ []) (remembered checker.new) }
+    ensures remembered { IsSoundCache (types.now ∷ types.now ∷ []) (remembered checker.new) }
     ensures verdict { (items : Items) → IsMapOf given.now items → IfOk result (IsVerdict types.now kind items name.now wanted.now) }
     ensures err { IfErr result (λ e. e ≡ Memory) }
 {

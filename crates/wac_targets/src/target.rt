@@ -6,7 +6,7 @@ ghost use Rattle.wac_component.specs.Implicit.{used_interfaces, HasIdentifier, I
 ghost use Rattle.wac_component.specs.Key.{Stands, AllStand, world_key, world_keys};
 ghost use Rattle.wac_component.specs.Content.{world_content};
 ghost use Rattle.wac_component.specs.declared.implicit.TargetError.TheVariants.{Memory};
-ghost use Rattle.wac_checker.specs.Cache.{IsTrueCache};
+ghost use Rattle.wac_checker.specs.Cache.{IsSoundCache};
 ghost use Rattle.wac_checker.specs.Checker.{direction, depth, remembered};
 ghost use Rattle.wac_names.specs.Pairs.{HasDistinctTexts};
 ghost use Rattle.wac_targets.specs.Noting.{AreNoted, note_of};
@@ -65,9 +65,9 @@ fn check_imports(
     requires component { AllStand types.now (world_keys (world_content component.now)) }
     requires depth { depth checker.old ≡ 0 }
     requires direction { direction checker.old ≡ Covariant }
-    requires remembered { IsTrueCache (types.now ∷ types.now ∷ []) (remembered checker.old) }
+    requires remembered { IsSoundCache (types.now ∷ types.now ∷ []) (remembered checker.old) }
     ensures direction { OnOk result (direction checker.new ≡ Covariant) }
-    ensures remembered { IsTrueCache (types.now ∷ types.now ∷ []) (remembered checker.new) }
+    ensures remembered { IsSoundCache (types.now ∷ types.now ∷ []) (remembered checker.new) }
     ensures noted { OnOk result (AreNoted types.now Import (all_imports types.now (world_content target.now)) (world_content component.now).imports (note_of report.old) (note_of report.new)) }
     ensures distinct { OnOk result (HasDistinctTexts (world_content target.now).imports) }
     ensures identified { OnOk result (All (HasIdentifier types.now) (used_interfaces types.now (world_content target.now))) }
@@ -100,7 +100,7 @@ fn check_exports(
     requires target { AllStand types.now (world_keys (world_content target.now)) }
     requires component { AllStand types.now (world_keys (world_content component.now)) }
     requires direction { direction checker.old ≡ Covariant }
-    requires remembered { IsTrueCache (types.now ∷ types.now ∷ []) (remembered checker.old) }
+    requires remembered { IsSoundCache (types.now ∷ types.now ∷ []) (remembered checker.old) }
     ensures noted { OnOk result (AreNoted types.now Export (world_content component.now).exports (world_content target.now).exports (note_of report.old) (note_of report.new)) }
     ensures err { IfErr result (λ e. e ≡ Memory) }
 {

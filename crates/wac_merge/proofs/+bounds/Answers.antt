@@ -10,7 +10,7 @@ use Rattle.wac_component.specs.declared.items.ItemKind.TheVariants.{«Type» as 
 use Rattle.wac_component.proofs.Extended.{Extends-trans, AllStand-Extends}
 use Rattle.wac_checker.proofs.ExternLemmas.{named_stands}
 use Rattle.wac_merge.specs.Bounded.{AreFirstMet, AreUnlike}
-use Rattle.wac_merge.specs.Items.{extern_keys, item_of, listed}
+use Rattle.wac_merge.specs.Items.{extern_keys, item_of, extern_list}
 use Rattle.wac_merge.proofs.BoundLemmas.{met_left, met_right, joined_left, joined_right, none_met, none_joined}
 use Rattle.wac_merge.proofs.BuiltLemmas.{Runs-map, Runs-same, Runs-then, IfOk-refused}
 use Rattle.wac_merge.proofs.CompositeLemmas.{interfaces_met, interfaces_joined, interfaces_clash, worlds_met_then, worlds_joined_then, worlds_clash, worlds_do_not_join}
@@ -227,16 +227,16 @@ items::join_types-returns-in_ok-join_module_types-in-Module-Module-clause-built 
 pub externs::meet_first-returns-clause-met : goal.externs::meet_first-returns-clause-met
 externs::meet_first-returns-clause-met t c =
     let all = iter_end deref_pair c.args.first.now.entries c.loop-name.yielded _ _ _ _ c.into_iter-name-iterator.ensures.into_iter_gives.0 c.loop-name.yielded_by c.in-None.is c.next.ensures.steps in
-    subst (λ l. AreFirstMet c.args.types.now c.loop-name.types (named (λ k. k) l) (listed c.args.second.now) (Some (listed c.loop-name.met))) all.0 c.loop-name.invariant.met
+    subst (λ l. AreFirstMet c.args.types.now c.loop-name.types (named (λ k. k) l) (extern_list c.args.second.now) (Some (extern_list c.loop-name.met))) all.0 c.loop-name.invariant.met
 
 pub externs::meet_first-meet_with-requires : goal.externs::meet_first-meet_with-requires
 externs::meet_first-meet_with-requires t c =
     let there = name_has deref_pair c.args.first.now.entries c.loop-name.yielded _ _ _ _ (c.in-Some.name, c.in-Some.a) c.into_iter-name-iterator.ensures.into_iter_gives.0 c.loop-name.yielded_by c.in-Some.is c.next.ensures.steps c.into_iter-name-iterator.ensures.into_iter_gives.4 in
-    let low = item_lower c.args.types.now c.loop-name.types c.loop-name.invariant.grows (listed c.args.first.now) (string_bytes c.in-Some.name.now) c.in-Some.a.now there c.requires.left in (
+    let low = item_lower c.args.types.now c.loop-name.types c.loop-name.invariant.grows (extern_list c.args.first.now) (string_bytes c.in-Some.name.now) c.in-Some.a.now there c.requires.left in (
       omega (arith, low),
       (
-        AllStand-Extends c.args.types.now c.loop-name.types c.loop-name.invariant.grows (item_keys c.in-Some.a.now) (named_stands c.args.types.now (listed c.args.first.now) (string_bytes c.in-Some.name.now) c.in-Some.a.now there c.requires.left),
-        subst (λ o. AllStand c.loop-name.types (optional_keys item_keys o)) (sym c.extern_named-b.ensures) (found_stands c.loop-name.types (listed c.args.second.now) (string_bytes c.in-Some.name.now) (AllStand-Extends c.args.types.now c.loop-name.types c.loop-name.invariant.grows (extern_keys (listed c.args.second.now)) c.requires.right)),
+        AllStand-Extends c.args.types.now c.loop-name.types c.loop-name.invariant.grows (item_keys c.in-Some.a.now) (named_stands c.args.types.now (extern_list c.args.first.now) (string_bytes c.in-Some.name.now) c.in-Some.a.now there c.requires.left),
+        subst (λ o. AllStand c.loop-name.types (optional_keys item_keys o)) (sym c.extern_named-b.ensures) (found_stands c.loop-name.types (extern_list c.args.second.now) (string_bytes c.in-Some.name.now) (AllStand-Extends c.args.types.now c.loop-name.types c.loop-name.invariant.grows (extern_keys (extern_list c.args.second.now)) c.requires.right)),
       ),
     )
 
@@ -247,7 +247,7 @@ externs::meet_first-returns-in_err-kind-clause-grows t c =
 pub externs::meet_first-returns-in_err-kind-clause-built : goal.externs::meet_first-returns-in_err-kind-clause-built
 externs::meet_first-returns-in_err-kind-clause-built t c =
     let there = name_has deref_pair c.args.first.now.entries c.loop-name.yielded _ _ _ _ (c.in-Some.name, c.in-Some.a) c.into_iter-name-iterator.ensures.into_iter_gives.0 c.loop-name.yielded_by c.in-Some.is c.next.ensures.steps c.into_iter-name-iterator.ensures.into_iter_gives.4 in
-    ended_built c.args.types.now c.loop-name.types c.meet_with.new.types c.loop-name.invariant.grows c.in_err-kind.ensures.grows (listed c.args.first.now) (listed c.args.second.now) (string_bytes c.in-Some.name.now) c.in-Some.a.now c.extern_named-b.result there c.extern_named-b.ensures (listed c.loop-name.met) c.loop-name.invariant.built _ _ (λ x o. IfOk-refused c.from_residual.result _ c.from_residual.ensures.0) c.in_err-kind.ensures.built
+    ended_built c.args.types.now c.loop-name.types c.meet_with.new.types c.loop-name.invariant.grows c.in_err-kind.ensures.grows (extern_list c.args.first.now) (extern_list c.args.second.now) (string_bytes c.in-Some.name.now) c.in-Some.a.now c.extern_named-b.result there c.extern_named-b.ensures (extern_list c.loop-name.met) c.loop-name.invariant.built _ _ (λ x o. IfOk-refused c.from_residual.result _ c.from_residual.ensures.0) c.in_err-kind.ensures.built
 
 pub externs::meet_first-returns-in_err-put_extern-in-Some-2-clause-grows : goal.externs::meet_first-returns-in_err-put_extern-in-Some-2-clause-grows
 externs::meet_first-returns-in_err-put_extern-in-Some-2-clause-grows t c =
@@ -256,7 +256,7 @@ externs::meet_first-returns-in_err-put_extern-in-Some-2-clause-grows t c =
 pub externs::meet_first-returns-in_err-put_extern-in-Some-2-clause-built : goal.externs::meet_first-returns-in_err-put_extern-in-Some-2-clause-built
 externs::meet_first-returns-in_err-put_extern-in-Some-2-clause-built t c =
     let there = name_has deref_pair c.args.first.now.entries c.loop-name.yielded _ _ _ _ (c.in-Some.name, c.in-Some.a) c.into_iter-name-iterator.ensures.into_iter_gives.0 c.loop-name.yielded_by c.in-Some.is c.next.ensures.steps c.into_iter-name-iterator.ensures.into_iter_gives.4 in
-    ended_built c.args.types.now c.loop-name.types c.meet_with.new.types c.loop-name.invariant.grows c.in_ok-kind.ensures.grows (listed c.args.first.now) (listed c.args.second.now) (string_bytes c.in-Some.name.now) c.in-Some.a.now c.extern_named-b.result there c.extern_named-b.ensures (listed c.loop-name.met) c.loop-name.invariant.built _ _ (λ x o. IfOk-refused c.from_residual-in_err-put_extern-in-Some-2.result _ c.from_residual-in_err-put_extern-in-Some-2.ensures.0) c.in_ok-kind.ensures.built
+    ended_built c.args.types.now c.loop-name.types c.meet_with.new.types c.loop-name.invariant.grows c.in_ok-kind.ensures.grows (extern_list c.args.first.now) (extern_list c.args.second.now) (string_bytes c.in-Some.name.now) c.in-Some.a.now c.extern_named-b.result there c.extern_named-b.ensures (extern_list c.loop-name.met) c.loop-name.invariant.built _ _ (λ x o. IfOk-refused c.from_residual-in_err-put_extern-in-Some-2.result _ c.from_residual-in_err-put_extern-in-Some-2.ensures.0) c.in_ok-kind.ensures.built
 
 pub externs::meet_first-loop-name-preserved : goal.externs::meet_first-loop-name-preserved
 externs::meet_first-loop-name-preserved t c =
@@ -265,10 +265,10 @@ externs::meet_first-loop-name-preserved t c =
     let more = done_more deref_pair c.args.first.now.entries c.loop-name.yielded _ _ _ _ (c.in-Some.name, c.in-Some.a) c.into_iter-name-iterator.ensures.into_iter_gives.0 c.loop-name.yielded_by c.in-Some.is c.next.ensures.steps c.into_iter-name-iterator.ensures.into_iter_gives.4 in
     record {
       grows = Extends-trans c.args.types.now c.loop-name.types c.meet_with.new.types c.loop-name.invariant.grows c.in_ok-kind.ensures.grows;
-      met = rw more (first_met_turn c.args.types.now c.loop-name.types c.meet_with.new.types c.loop-name.invariant.grows c.in_ok-kind.ensures.grows (listed c.args.first.now) (listed c.args.second.now) (named (λ k. k) (map deref_pair c.loop-name.yielded)) (string_bytes c.in-Some.name.now) c.in-Some.a.now c.extern_named-b.result absent there c.extern_named-b.ensures c.requires.left c.requires.right (listed c.loop-name.met) c.loop-name.invariant.standing c.in-Some-2.kind (listed c.put_extern.new.externs) c.loop-name.invariant.met (rw c.in-Some-2.is at c.in_ok-kind.ensures.met) c.in_ok-put_extern-in-Some-2.ensures);
-      names = rw more (all_names_put (named (λ k. k) (map deref_pair c.loop-name.yielded)) (string_bytes c.in-Some.name.now) c.in-Some.a.now absent (listed c.loop-name.met) (not_met_yet c.args.types.now c.loop-name.types (named (λ k. k) (map deref_pair c.loop-name.yielded)) (listed c.args.second.now) (listed c.loop-name.met) (string_bytes c.in-Some.name.now) absent c.loop-name.invariant.met) c.in-Some-2.kind (listed c.put_extern.new.externs) c.in_ok-put_extern-in-Some-2.ensures c.loop-name.invariant.names);
-      standing = standing_turn c.args.types.now c.loop-name.types c.meet_with.new.types c.loop-name.invariant.grows c.in_ok-kind.ensures.grows (listed c.args.first.now) (listed c.args.second.now) (named (λ k. k) (map deref_pair c.loop-name.yielded)) (string_bytes c.in-Some.name.now) c.in-Some.a.now c.extern_named-b.result absent there c.extern_named-b.ensures c.requires.left c.requires.right (listed c.loop-name.met) c.loop-name.invariant.standing c.in-Some-2.kind (listed c.put_extern.new.externs) (rw c.in-Some-2.is at c.in_ok-kind.ensures.standing) c.in_ok-put_extern-in-Some-2.ensures;
-      built = built_turn c.args.types.now c.loop-name.types c.meet_with.new.types c.loop-name.invariant.grows c.in_ok-kind.ensures.grows (listed c.args.first.now) (listed c.args.second.now) (string_bytes c.in-Some.name.now) c.in-Some.a.now c.extern_named-b.result there c.extern_named-b.ensures (listed c.loop-name.met) c.loop-name.invariant.built c.in-Some-2.kind (listed c.put_extern.new.externs) c.in_ok-put_extern-in-Some-2.ensures (rw c.in-Some-2.is at c.in_ok-kind.ensures.built);
+      met = rw more (first_met_turn c.args.types.now c.loop-name.types c.meet_with.new.types c.loop-name.invariant.grows c.in_ok-kind.ensures.grows (extern_list c.args.first.now) (extern_list c.args.second.now) (named (λ k. k) (map deref_pair c.loop-name.yielded)) (string_bytes c.in-Some.name.now) c.in-Some.a.now c.extern_named-b.result absent there c.extern_named-b.ensures c.requires.left c.requires.right (extern_list c.loop-name.met) c.loop-name.invariant.standing c.in-Some-2.kind (extern_list c.put_extern.new.externs) c.loop-name.invariant.met (rw c.in-Some-2.is at c.in_ok-kind.ensures.met) c.in_ok-put_extern-in-Some-2.ensures);
+      names = rw more (all_names_put (named (λ k. k) (map deref_pair c.loop-name.yielded)) (string_bytes c.in-Some.name.now) c.in-Some.a.now absent (extern_list c.loop-name.met) (not_met_yet c.args.types.now c.loop-name.types (named (λ k. k) (map deref_pair c.loop-name.yielded)) (extern_list c.args.second.now) (extern_list c.loop-name.met) (string_bytes c.in-Some.name.now) absent c.loop-name.invariant.met) c.in-Some-2.kind (extern_list c.put_extern.new.externs) c.in_ok-put_extern-in-Some-2.ensures c.loop-name.invariant.names);
+      standing = standing_turn c.args.types.now c.loop-name.types c.meet_with.new.types c.loop-name.invariant.grows c.in_ok-kind.ensures.grows (extern_list c.args.first.now) (extern_list c.args.second.now) (named (λ k. k) (map deref_pair c.loop-name.yielded)) (string_bytes c.in-Some.name.now) c.in-Some.a.now c.extern_named-b.result absent there c.extern_named-b.ensures c.requires.left c.requires.right (extern_list c.loop-name.met) c.loop-name.invariant.standing c.in-Some-2.kind (extern_list c.put_extern.new.externs) (rw c.in-Some-2.is at c.in_ok-kind.ensures.standing) c.in_ok-put_extern-in-Some-2.ensures;
+      built = built_turn c.args.types.now c.loop-name.types c.meet_with.new.types c.loop-name.invariant.grows c.in_ok-kind.ensures.grows (extern_list c.args.first.now) (extern_list c.args.second.now) (string_bytes c.in-Some.name.now) c.in-Some.a.now c.extern_named-b.result there c.extern_named-b.ensures (extern_list c.loop-name.met) c.loop-name.invariant.built c.in-Some-2.kind (extern_list c.put_extern.new.externs) c.in_ok-put_extern-in-Some-2.ensures (rw c.in-Some-2.is at c.in_ok-kind.ensures.built);
     }
 
 pub externs::meet_first-returns-in-None-2-clause-grows : goal.externs::meet_first-returns-in-None-2-clause-grows
@@ -278,24 +278,24 @@ externs::meet_first-returns-in-None-2-clause-grows t c =
 pub externs::meet_first-returns-in-None-2-clause-met : goal.externs::meet_first-returns-in-None-2-clause-met
 externs::meet_first-returns-in-None-2-clause-met t c =
     let there = name_has deref_pair c.args.first.now.entries c.loop-name.yielded _ _ _ _ (c.in-Some.name, c.in-Some.a) c.into_iter-name-iterator.ensures.into_iter_gives.0 c.loop-name.yielded_by c.in-Some.is c.next.ensures.steps c.into_iter-name-iterator.ensures.into_iter_gives.4 in
-    clash_at c.args.types.now c.meet_with.new.types (listed c.args.first.now) (listed c.args.second.now) (string_bytes c.in-Some.name.now) c.in-Some.a.now c.extern_named-b.result there (sym c.extern_named-b.ensures)
-    (met_with_before c.args.types.now c.loop-name.types c.meet_with.new.types c.loop-name.invariant.grows c.in-Some.a.now c.extern_named-b.result None (named_stands c.args.types.now (listed c.args.first.now) (string_bytes c.in-Some.name.now) c.in-Some.a.now there c.requires.left)
-    (subst (λ o. AllStand c.args.types.now (optional_keys item_keys o)) (sym c.extern_named-b.ensures) (found_stands c.args.types.now (listed c.args.second.now) (string_bytes c.in-Some.name.now) c.requires.right))
+    clash_at c.args.types.now c.meet_with.new.types (extern_list c.args.first.now) (extern_list c.args.second.now) (string_bytes c.in-Some.name.now) c.in-Some.a.now c.extern_named-b.result there (sym c.extern_named-b.ensures)
+    (met_with_before c.args.types.now c.loop-name.types c.meet_with.new.types c.loop-name.invariant.grows c.in-Some.a.now c.extern_named-b.result None (named_stands c.args.types.now (extern_list c.args.first.now) (string_bytes c.in-Some.name.now) c.in-Some.a.now there c.requires.left)
+    (subst (λ o. AllStand c.args.types.now (optional_keys item_keys o)) (sym c.extern_named-b.ensures) (found_stands c.args.types.now (extern_list c.args.second.now) (string_bytes c.in-Some.name.now) c.requires.right))
     (rw c.in-None-2.is at c.in_ok-kind.ensures.met))
 
 pub externs::meet_first-returns-in-None-2-clause-built : goal.externs::meet_first-returns-in-None-2-clause-built
 externs::meet_first-returns-in-None-2-clause-built t c =
     let there = name_has deref_pair c.args.first.now.entries c.loop-name.yielded _ _ _ _ (c.in-Some.name, c.in-Some.a) c.into_iter-name-iterator.ensures.into_iter_gives.0 c.loop-name.yielded_by c.in-Some.is c.next.ensures.steps c.into_iter-name-iterator.ensures.into_iter_gives.4 in
-    ended_built c.args.types.now c.loop-name.types c.meet_with.new.types c.loop-name.invariant.grows c.in_ok-kind.ensures.grows (listed c.args.first.now) (listed c.args.second.now) (string_bytes c.in-Some.name.now) c.in-Some.a.now c.extern_named-b.result there c.extern_named-b.ensures (listed c.loop-name.met) c.loop-name.invariant.built _ _ (λ x o. tt) c.in_ok-kind.ensures.built
+    ended_built c.args.types.now c.loop-name.types c.meet_with.new.types c.loop-name.invariant.grows c.in_ok-kind.ensures.grows (extern_list c.args.first.now) (extern_list c.args.second.now) (string_bytes c.in-Some.name.now) c.in-Some.a.now c.extern_named-b.result there c.extern_named-b.ensures (extern_list c.loop-name.met) c.loop-name.invariant.built _ _ (λ x o. tt) c.in_ok-kind.ensures.built
 
 pub externs::join_externs-join_with-requires : goal.externs::join_externs-join_with-requires
 externs::join_externs-join_with-requires t c =
     let there = name_has deref_pair c.args.first.now.entries c.loop-name.yielded _ _ _ _ (c.in-Some.name, c.in-Some.a) c.into_iter-name-iterator.ensures.into_iter_gives.0 c.loop-name.yielded_by c.in-Some.is c.next.ensures.steps c.into_iter-name-iterator.ensures.into_iter_gives.4 in
-    let low = item_lower c.args.types.now c.loop-name.types c.loop-name.invariant.grows (listed c.args.first.now) (string_bytes c.in-Some.name.now) c.in-Some.a.now there c.requires.left in (
+    let low = item_lower c.args.types.now c.loop-name.types c.loop-name.invariant.grows (extern_list c.args.first.now) (string_bytes c.in-Some.name.now) c.in-Some.a.now there c.requires.left in (
       omega (arith, low),
       (
-        AllStand-Extends c.args.types.now c.loop-name.types c.loop-name.invariant.grows (item_keys c.in-Some.a.now) (named_stands c.args.types.now (listed c.args.first.now) (string_bytes c.in-Some.name.now) c.in-Some.a.now there c.requires.left),
-        subst (λ o. AllStand c.loop-name.types (optional_keys item_keys o)) (sym c.extern_named-b.ensures) (found_stands c.loop-name.types (listed c.args.second.now) (string_bytes c.in-Some.name.now) (AllStand-Extends c.args.types.now c.loop-name.types c.loop-name.invariant.grows (extern_keys (listed c.args.second.now)) c.requires.right)),
+        AllStand-Extends c.args.types.now c.loop-name.types c.loop-name.invariant.grows (item_keys c.in-Some.a.now) (named_stands c.args.types.now (extern_list c.args.first.now) (string_bytes c.in-Some.name.now) c.in-Some.a.now there c.requires.left),
+        subst (λ o. AllStand c.loop-name.types (optional_keys item_keys o)) (sym c.extern_named-b.ensures) (found_stands c.loop-name.types (extern_list c.args.second.now) (string_bytes c.in-Some.name.now) (AllStand-Extends c.args.types.now c.loop-name.types c.loop-name.invariant.grows (extern_keys (extern_list c.args.second.now)) c.requires.right)),
       ),
     )
 
@@ -306,7 +306,7 @@ externs::join_externs-returns-in_err-kind-clause-grows t c =
 pub externs::join_externs-returns-in_err-kind-clause-built : goal.externs::join_externs-returns-in_err-kind-clause-built
 externs::join_externs-returns-in_err-kind-clause-built t c =
     let there = name_has deref_pair c.args.first.now.entries c.loop-name.yielded _ _ _ _ (c.in-Some.name, c.in-Some.a) c.into_iter-name-iterator.ensures.into_iter_gives.0 c.loop-name.yielded_by c.in-Some.is c.next.ensures.steps c.into_iter-name-iterator.ensures.into_iter_gives.4 in
-    ended_built c.args.types.now c.loop-name.types c.join_with.new.types c.loop-name.invariant.grows c.in_err-kind.ensures.grows (listed c.args.first.now) (listed c.args.second.now) (string_bytes c.in-Some.name.now) c.in-Some.a.now c.extern_named-b.result there c.extern_named-b.ensures (listed c.loop-name.joined) c.loop-name.invariant.built _ _ (λ x o. IfOk-refused c.from_residual.result _ c.from_residual.ensures.0) c.in_err-kind.ensures.built
+    ended_built c.args.types.now c.loop-name.types c.join_with.new.types c.loop-name.invariant.grows c.in_err-kind.ensures.grows (extern_list c.args.first.now) (extern_list c.args.second.now) (string_bytes c.in-Some.name.now) c.in-Some.a.now c.extern_named-b.result there c.extern_named-b.ensures (extern_list c.loop-name.joined) c.loop-name.invariant.built _ _ (λ x o. IfOk-refused c.from_residual.result _ c.from_residual.ensures.0) c.in_err-kind.ensures.built
 
 pub externs::join_externs-returns-in_err-put_extern-clause-grows : goal.externs::join_externs-returns-in_err-put_extern-clause-grows
 externs::join_externs-returns-in_err-put_extern-clause-grows t c =
@@ -315,7 +315,7 @@ externs::join_externs-returns-in_err-put_extern-clause-grows t c =
 pub externs::join_externs-returns-in_err-put_extern-clause-built : goal.externs::join_externs-returns-in_err-put_extern-clause-built
 externs::join_externs-returns-in_err-put_extern-clause-built t c =
     let there = name_has deref_pair c.args.first.now.entries c.loop-name.yielded _ _ _ _ (c.in-Some.name, c.in-Some.a) c.into_iter-name-iterator.ensures.into_iter_gives.0 c.loop-name.yielded_by c.in-Some.is c.next.ensures.steps c.into_iter-name-iterator.ensures.into_iter_gives.4 in
-    ended_built c.args.types.now c.loop-name.types c.join_with.new.types c.loop-name.invariant.grows c.in_ok-kind.ensures.grows (listed c.args.first.now) (listed c.args.second.now) (string_bytes c.in-Some.name.now) c.in-Some.a.now c.extern_named-b.result there c.extern_named-b.ensures (listed c.loop-name.joined) c.loop-name.invariant.built _ _ (λ x o. IfOk-refused c.from_residual-in_err-put_extern.result _ c.from_residual-in_err-put_extern.ensures.0) c.in_ok-kind.ensures.built
+    ended_built c.args.types.now c.loop-name.types c.join_with.new.types c.loop-name.invariant.grows c.in_ok-kind.ensures.grows (extern_list c.args.first.now) (extern_list c.args.second.now) (string_bytes c.in-Some.name.now) c.in-Some.a.now c.extern_named-b.result there c.extern_named-b.ensures (extern_list c.loop-name.joined) c.loop-name.invariant.built _ _ (λ x o. IfOk-refused c.from_residual-in_err-put_extern.result _ c.from_residual-in_err-put_extern.ensures.0) c.in_ok-kind.ensures.built
 
 pub externs::join_externs-loop-name-preserved-in-Continue-branch-3 : goal.externs::join_externs-loop-name-preserved-in-Continue-branch-3
 externs::join_externs-loop-name-preserved-in-Continue-branch-3 t c =
@@ -324,10 +324,10 @@ externs::join_externs-loop-name-preserved-in-Continue-branch-3 t c =
     let more = done_more deref_pair c.args.first.now.entries c.loop-name.yielded _ _ _ _ (c.in-Some.name, c.in-Some.a) c.into_iter-name-iterator.ensures.into_iter_gives.0 c.loop-name.yielded_by c.in-Some.is c.next.ensures.steps c.into_iter-name-iterator.ensures.into_iter_gives.4 in
     record {
       grows = Extends-trans c.args.types.now c.loop-name.types c.join_with.new.types c.loop-name.invariant.grows c.in_ok-kind.ensures.grows;
-      joined = rw more (joined_turn c.args.types.now c.loop-name.types c.join_with.new.types c.loop-name.invariant.grows c.in_ok-kind.ensures.grows (listed c.args.first.now) (listed c.args.second.now) (named (λ k. k) (map deref_pair c.loop-name.yielded)) (string_bytes c.in-Some.name.now) c.in-Some.a.now c.extern_named-b.result absent there c.extern_named-b.ensures c.requires.left c.requires.right (listed c.loop-name.joined) c.loop-name.invariant.standing c.in-Some-2.kind (listed c.put_extern.new.externs) c.loop-name.invariant.joined (rw c.in-Some-2.is at c.in_ok-kind.ensures.joined) c.in_ok-put_extern.ensures);
-      names = rw more (some_names_put (named (λ k. k) (map deref_pair c.loop-name.yielded)) (string_bytes c.in-Some.name.now) c.in-Some.a.now absent (listed c.loop-name.joined) (not_joined_yet c.args.types.now c.loop-name.types (named (λ k. k) (map deref_pair c.loop-name.yielded)) (listed c.args.second.now) (listed c.loop-name.joined) (string_bytes c.in-Some.name.now) absent c.loop-name.invariant.joined) c.in-Some-2.kind (listed c.put_extern.new.externs) c.in_ok-put_extern.ensures c.loop-name.invariant.names);
-      standing = standing_turn c.args.types.now c.loop-name.types c.join_with.new.types c.loop-name.invariant.grows c.in_ok-kind.ensures.grows (listed c.args.first.now) (listed c.args.second.now) (named (λ k. k) (map deref_pair c.loop-name.yielded)) (string_bytes c.in-Some.name.now) c.in-Some.a.now c.extern_named-b.result absent there c.extern_named-b.ensures c.requires.left c.requires.right (listed c.loop-name.joined) c.loop-name.invariant.standing c.in-Some-2.kind (listed c.put_extern.new.externs) (rw c.in-Some-2.is at c.in_ok-kind.ensures.standing) c.in_ok-put_extern.ensures;
-      built = built_turn c.args.types.now c.loop-name.types c.join_with.new.types c.loop-name.invariant.grows c.in_ok-kind.ensures.grows (listed c.args.first.now) (listed c.args.second.now) (string_bytes c.in-Some.name.now) c.in-Some.a.now c.extern_named-b.result there c.extern_named-b.ensures (listed c.loop-name.joined) c.loop-name.invariant.built c.in-Some-2.kind (listed c.put_extern.new.externs) c.in_ok-put_extern.ensures (rw c.in-Some-2.is at c.in_ok-kind.ensures.built);
+      joined = rw more (joined_turn c.args.types.now c.loop-name.types c.join_with.new.types c.loop-name.invariant.grows c.in_ok-kind.ensures.grows (extern_list c.args.first.now) (extern_list c.args.second.now) (named (λ k. k) (map deref_pair c.loop-name.yielded)) (string_bytes c.in-Some.name.now) c.in-Some.a.now c.extern_named-b.result absent there c.extern_named-b.ensures c.requires.left c.requires.right (extern_list c.loop-name.joined) c.loop-name.invariant.standing c.in-Some-2.kind (extern_list c.put_extern.new.externs) c.loop-name.invariant.joined (rw c.in-Some-2.is at c.in_ok-kind.ensures.joined) c.in_ok-put_extern.ensures);
+      names = rw more (some_names_put (named (λ k. k) (map deref_pair c.loop-name.yielded)) (string_bytes c.in-Some.name.now) c.in-Some.a.now absent (extern_list c.loop-name.joined) (not_joined_yet c.args.types.now c.loop-name.types (named (λ k. k) (map deref_pair c.loop-name.yielded)) (extern_list c.args.second.now) (extern_list c.loop-name.joined) (string_bytes c.in-Some.name.now) absent c.loop-name.invariant.joined) c.in-Some-2.kind (extern_list c.put_extern.new.externs) c.in_ok-put_extern.ensures c.loop-name.invariant.names);
+      standing = standing_turn c.args.types.now c.loop-name.types c.join_with.new.types c.loop-name.invariant.grows c.in_ok-kind.ensures.grows (extern_list c.args.first.now) (extern_list c.args.second.now) (named (λ k. k) (map deref_pair c.loop-name.yielded)) (string_bytes c.in-Some.name.now) c.in-Some.a.now c.extern_named-b.result absent there c.extern_named-b.ensures c.requires.left c.requires.right (extern_list c.loop-name.joined) c.loop-name.invariant.standing c.in-Some-2.kind (extern_list c.put_extern.new.externs) (rw c.in-Some-2.is at c.in_ok-kind.ensures.standing) c.in_ok-put_extern.ensures;
+      built = built_turn c.args.types.now c.loop-name.types c.join_with.new.types c.loop-name.invariant.grows c.in_ok-kind.ensures.grows (extern_list c.args.first.now) (extern_list c.args.second.now) (string_bytes c.in-Some.name.now) c.in-Some.a.now c.extern_named-b.result there c.extern_named-b.ensures (extern_list c.loop-name.joined) c.loop-name.invariant.built c.in-Some-2.kind (extern_list c.put_extern.new.externs) c.in_ok-put_extern.ensures (rw c.in-Some-2.is at c.in_ok-kind.ensures.built);
     }
 
 pub externs::join_externs-loop-name-preserved : goal.externs::join_externs-loop-name-preserved
@@ -338,10 +338,10 @@ externs::join_externs-loop-name-preserved t c =
     let none : c.in_ok-kind.field-0 ≡ None = search rules in
     record {
       grows = Extends-trans c.args.types.now c.loop-name.types c.join_with.new.types c.loop-name.invariant.grows c.in_ok-kind.ensures.grows;
-      joined = rw more (dropped_turn c.args.types.now c.loop-name.types c.join_with.new.types c.loop-name.invariant.grows c.in_ok-kind.ensures.grows (listed c.args.first.now) (listed c.args.second.now) (named (λ k. k) (map deref_pair c.loop-name.yielded)) (string_bytes c.in-Some.name.now) c.in-Some.a.now c.extern_named-b.result absent there c.extern_named-b.ensures c.requires.left c.requires.right (listed c.loop-name.joined) c.loop-name.invariant.standing c.loop-name.invariant.joined (rw none at c.in_ok-kind.ensures.joined));
-      names = rw more (some_names_dropped (named (λ k. k) (map deref_pair c.loop-name.yielded)) (string_bytes c.in-Some.name.now) c.in-Some.a.now absent (listed c.loop-name.joined) (not_joined_yet c.args.types.now c.loop-name.types (named (λ k. k) (map deref_pair c.loop-name.yielded)) (listed c.args.second.now) (listed c.loop-name.joined) (string_bytes c.in-Some.name.now) absent c.loop-name.invariant.joined) c.loop-name.invariant.names);
-      standing = AllStand-Extends c.loop-name.types c.join_with.new.types c.in_ok-kind.ensures.grows (extern_keys (listed c.loop-name.joined)) c.loop-name.invariant.standing;
-      built = dropped_built c.args.types.now c.loop-name.types c.join_with.new.types c.loop-name.invariant.grows c.in_ok-kind.ensures.grows (listed c.args.first.now) (listed c.args.second.now) (string_bytes c.in-Some.name.now) c.in-Some.a.now c.extern_named-b.result there c.extern_named-b.ensures (listed c.loop-name.joined) c.loop-name.invariant.built _ c.in_ok-kind.ensures.built;
+      joined = rw more (dropped_turn c.args.types.now c.loop-name.types c.join_with.new.types c.loop-name.invariant.grows c.in_ok-kind.ensures.grows (extern_list c.args.first.now) (extern_list c.args.second.now) (named (λ k. k) (map deref_pair c.loop-name.yielded)) (string_bytes c.in-Some.name.now) c.in-Some.a.now c.extern_named-b.result absent there c.extern_named-b.ensures c.requires.left c.requires.right (extern_list c.loop-name.joined) c.loop-name.invariant.standing c.loop-name.invariant.joined (rw none at c.in_ok-kind.ensures.joined));
+      names = rw more (some_names_dropped (named (λ k. k) (map deref_pair c.loop-name.yielded)) (string_bytes c.in-Some.name.now) c.in-Some.a.now absent (extern_list c.loop-name.joined) (not_joined_yet c.args.types.now c.loop-name.types (named (λ k. k) (map deref_pair c.loop-name.yielded)) (extern_list c.args.second.now) (extern_list c.loop-name.joined) (string_bytes c.in-Some.name.now) absent c.loop-name.invariant.joined) c.loop-name.invariant.names);
+      standing = AllStand-Extends c.loop-name.types c.join_with.new.types c.in_ok-kind.ensures.grows (extern_keys (extern_list c.loop-name.joined)) c.loop-name.invariant.standing;
+      built = dropped_built c.args.types.now c.loop-name.types c.join_with.new.types c.loop-name.invariant.grows c.in_ok-kind.ensures.grows (extern_list c.args.first.now) (extern_list c.args.second.now) (string_bytes c.in-Some.name.now) c.in-Some.a.now c.extern_named-b.result there c.extern_named-b.ensures (extern_list c.loop-name.joined) c.loop-name.invariant.built _ c.in_ok-kind.ensures.built;
     }
 
 pub externs::meet_with-returns-in-Some-clause-built : goal.externs::meet_with-returns-in-Some-clause-built
@@ -354,32 +354,32 @@ externs::join_with-returns-in-Some-clause-built t c =
 
 pub externs::meet_externs-returns-in_err-met-clause-built : goal.externs::meet_externs-returns-in_err-met-clause-built
 externs::meet_externs-returns-in_err-met-clause-built t c =
-    Runs-map (extern_keys (listed c.args.first.now) ++ extern_keys (listed c.args.second.now)) c.args.types.now c.meet_first.new.types _ _ (λ x o h. IfOk-refused c.from_residual.result _ c.from_residual.ensures.0) c.in_err-met.ensures.built
+    Runs-map (extern_keys (extern_list c.args.first.now) ++ extern_keys (extern_list c.args.second.now)) c.args.types.now c.meet_first.new.types _ _ (λ x o h. IfOk-refused c.from_residual.result _ c.from_residual.ensures.0) c.in_err-met.ensures.built
 
 pub externs::meet_externs-returns-in_err-add_others-in-Some-clause-built : goal.externs::meet_externs-returns-in_err-add_others-in-Some-clause-built
 externs::meet_externs-returns-in_err-add_others-in-Some-clause-built t c =
-    Runs-map (extern_keys (listed c.args.first.now) ++ extern_keys (listed c.args.second.now)) c.args.types.now c.meet_first.new.types _ _ (λ x o h. IfOk-refused c.from_residual-in_err-add_others-in-Some.result _ c.from_residual-in_err-add_others-in-Some.ensures.0) c.in_ok-met.ensures.built
+    Runs-map (extern_keys (extern_list c.args.first.now) ++ extern_keys (extern_list c.args.second.now)) c.args.types.now c.meet_first.new.types _ _ (λ x o h. IfOk-refused c.from_residual-in_err-add_others-in-Some.result _ c.from_residual-in_err-add_others-in-Some.ensures.0) c.in_ok-met.ensures.built
 
 pub externs::meet_externs-returns-in-None-clause-built : goal.externs::meet_externs-returns-in-None-clause-built
 externs::meet_externs-returns-in-None-clause-built t c =
-    Runs-map (extern_keys (listed c.args.first.now) ++ extern_keys (listed c.args.second.now)) c.args.types.now c.meet_first.new.types _ _ (λ x o h. tt) c.in_ok-met.ensures.built
+    Runs-map (extern_keys (extern_list c.args.first.now) ++ extern_keys (extern_list c.args.second.now)) c.args.types.now c.meet_first.new.types _ _ (λ x o h. tt) c.in_ok-met.ensures.built
 
 pub externs::meet_externs-returns-in_ok-add_others-in-Some-clause-met : goal.externs::meet_externs-returns-in_ok-add_others-in-Some-clause-met
 externs::meet_externs-returns-in_ok-add_others-in-Some-clause-met t c =
-    all_met c.args.types.now c.meet_first.new.types (listed c.args.first.now) (listed c.args.second.now) (listed c.in-Some.met) (listed c.add_others.new.externs) (rw c.in-Some.is at c.in_ok-met.ensures.met) c.in_ok-add_others-in-Some.ensures.added
+    all_met c.args.types.now c.meet_first.new.types (extern_list c.args.first.now) (extern_list c.args.second.now) (extern_list c.in-Some.met) (extern_list c.add_others.new.externs) (rw c.in-Some.is at c.in_ok-met.ensures.met) c.in_ok-add_others-in-Some.ensures.added
 
 pub externs::meet_externs-returns-in_ok-add_others-in-Some-clause-names : goal.externs::meet_externs-returns-in_ok-add_others-in-Some-clause-names
 externs::meet_externs-returns-in_ok-add_others-in-Some-clause-names t c =
-    all_names_with (listed c.args.first.now) (listed c.args.second.now) (listed c.in-Some.met) (listed c.add_others.new.externs) c.in_ok-add_others-in-Some.ensures.added (rw c.in-Some.is at c.in_ok-met.ensures.names)
+    all_names_with (extern_list c.args.first.now) (extern_list c.args.second.now) (extern_list c.in-Some.met) (extern_list c.add_others.new.externs) c.in_ok-add_others-in-Some.ensures.added (rw c.in-Some.is at c.in_ok-met.ensures.names)
 
 pub externs::meet_externs-returns-in_ok-add_others-in-Some-clause-standing : goal.externs::meet_externs-returns-in_ok-add_others-in-Some-clause-standing
 externs::meet_externs-returns-in_ok-add_others-in-Some-clause-standing t c =
-    all_stand c.meet_first.new.types (listed c.in-Some.met) (listed c.args.second.now) (listed c.add_others.new.externs) c.in_ok-add_others-in-Some.ensures.added (rw c.in-Some.is at c.in_ok-met.ensures.standing)
-    (AllStand-Extends c.args.types.now c.meet_first.new.types c.in_ok-met.ensures.grows (extern_keys (listed c.args.second.now)) c.requires.right)
+    all_stand c.meet_first.new.types (extern_list c.in-Some.met) (extern_list c.args.second.now) (extern_list c.add_others.new.externs) c.in_ok-add_others-in-Some.ensures.added (rw c.in-Some.is at c.in_ok-met.ensures.standing)
+    (AllStand-Extends c.args.types.now c.meet_first.new.types c.in_ok-met.ensures.grows (extern_keys (extern_list c.args.second.now)) c.requires.right)
 
 pub externs::meet_externs-returns-in_ok-add_others-in-Some-clause-built : goal.externs::meet_externs-returns-in_ok-add_others-in-Some-clause-built
 externs::meet_externs-returns-in_ok-add_others-in-Some-clause-built t c =
-    Runs-map (extern_keys (listed c.args.first.now) ++ extern_keys (listed c.args.second.now)) c.args.types.now c.meet_first.new.types _ _ (λ x o h. all_built x c.meet_first.new.types o (listed c.args.first.now) (listed c.args.second.now) (listed c.in-Some.met) (listed c.add_others.new.externs) c.in_ok-add_others-in-Some.ensures.added c.in_ok-add_others-in-Some.ensures.found h)
+    Runs-map (extern_keys (extern_list c.args.first.now) ++ extern_keys (extern_list c.args.second.now)) c.args.types.now c.meet_first.new.types _ _ (λ x o h. all_built x c.meet_first.new.types o (extern_list c.args.first.now) (extern_list c.args.second.now) (extern_list c.in-Some.met) (extern_list c.add_others.new.externs) c.in_ok-add_others-in-Some.ensures.added c.in_ok-add_others-in-Some.ensures.found h)
     (rw c.in-Some.is at c.in_ok-met.ensures.built)
 
 pub composites::meet_interfaces-returns-in_err-exports-clause-built : goal.composites::meet_interfaces-returns-in_err-exports-clause-built
@@ -404,11 +404,11 @@ composites::meet_interfaces-returns-in_ok-add_interface_of-in-Some-clause-grows 
 
 pub composites::meet_interfaces-returns-in_ok-add_interface_of-in-Some-clause-met : goal.composites::meet_interfaces-returns-in_ok-add_interface_of-in-Some-clause-met
 composites::meet_interfaces-returns-in_ok-add_interface_of-in-Some-clause-met t c =
-    λ k. interfaces_met c.args.types.now c.meet_exports.new.types c.add_interface_of.new.types c.in_ok-exports.ensures.grows c.args.x c.args.y k _ _ (has_exports_at c.args.types.now c.args.x c.sound.ensures c.requires.left) (has_exports_at c.args.types.now c.args.y c.sound.ensures c.requires.right) (listed c.in-Some.exports) c.in_ok-add_interface_of-in-Some.field-0 (rw c.in-Some.is at c.in_ok-exports.ensures.met) c.in_ok-add_interface_of-in-Some.ensures.made.tree
+    λ k. interfaces_met c.args.types.now c.meet_exports.new.types c.add_interface_of.new.types c.in_ok-exports.ensures.grows c.args.x c.args.y k _ _ (has_exports_at c.args.types.now c.args.x c.sound.ensures c.requires.left) (has_exports_at c.args.types.now c.args.y c.sound.ensures c.requires.right) (extern_list c.in-Some.exports) c.in_ok-add_interface_of-in-Some.field-0 (rw c.in-Some.is at c.in_ok-exports.ensures.met) c.in_ok-add_interface_of-in-Some.ensures.made.tree
 
 pub composites::meet_interfaces-returns-in_ok-add_interface_of-in-Some-clause-built : goal.composites::meet_interfaces-returns-in_ok-add_interface_of-in-Some-clause-built
 composites::meet_interfaces-returns-in_ok-add_interface_of-in-Some-clause-built t c =
-    interface_of_both c.args.types.now c.meet_exports.new.types c.add_interface_of.new.types c.args.x c.args.y c.in_ok-add_interface_of-in-Some.field-0 c.requires.left c.requires.right c.in_ok-exports.ensures.grows c.in_ok-add_interface_of-in-Some.ensures.grows _ _ (listed c.in-Some.exports) (has_exports_at c.args.types.now c.args.x c.sound.ensures c.requires.left) (has_exports_at c.args.types.now c.args.y c.sound.ensures c.requires.right) c.in_ok-add_interface_of-in-Some.ensures.made
+    interface_of_both c.args.types.now c.meet_exports.new.types c.add_interface_of.new.types c.args.x c.args.y c.in_ok-add_interface_of-in-Some.field-0 c.requires.left c.requires.right c.in_ok-exports.ensures.grows c.in_ok-add_interface_of-in-Some.ensures.grows _ _ (extern_list c.in-Some.exports) (has_exports_at c.args.types.now c.args.x c.sound.ensures c.requires.left) (has_exports_at c.args.types.now c.args.y c.sound.ensures c.requires.right) c.in_ok-add_interface_of-in-Some.ensures.made
     (inl (rw c.in-Some.is at c.in_ok-exports.ensures.names)) (inl (composites::meet_interfaces-returns-in_ok-add_interface_of-in-Some-clause-met t c)) (rw c.in-Some.is at c.in_ok-exports.ensures.built)
 
 pub composites::meet_interfaces-returns-in-None-clause-met : goal.composites::meet_interfaces-returns-in-None-clause-met
@@ -438,36 +438,36 @@ composites::join_interfaces-returns-clause-grows t c =
 pub composites::join_interfaces-returns-clause-joined : goal.composites::join_interfaces-returns-clause-joined
 composites::join_interfaces-returns-clause-joined t c =
     IfOk-weaker c.add_interface_of.result _ _ (λ p made k.
-    interfaces_joined c.args.types.now c.join_exports.new.types c.add_interface_of.new.types c.in_ok-exports.ensures.grows c.args.x c.args.y k _ _ (has_exports_at c.args.types.now c.args.x c.sound.ensures c.requires.left) (has_exports_at c.args.types.now c.args.y c.sound.ensures c.requires.right) (listed c.in_ok-exports.exports) p c.in_ok-exports.ensures.joined made.tree) c.add_interface_of.ensures.made
+    interfaces_joined c.args.types.now c.join_exports.new.types c.add_interface_of.new.types c.in_ok-exports.ensures.grows c.args.x c.args.y k _ _ (has_exports_at c.args.types.now c.args.x c.sound.ensures c.requires.left) (has_exports_at c.args.types.now c.args.y c.sound.ensures c.requires.right) (extern_list c.in_ok-exports.exports) p c.in_ok-exports.ensures.joined made.tree) c.add_interface_of.ensures.made
 
 pub composites::join_interfaces-returns-clause-built : goal.composites::join_interfaces-returns-clause-built
 composites::join_interfaces-returns-clause-built t c =
-    joined_interface_built c.add_interface_of.result c.args.types.now c.join_exports.new.types c.add_interface_of.new.types c.args.x c.args.y c.requires.left c.requires.right c.in_ok-exports.ensures.grows c.add_interface_of.ensures.grows _ _ (listed c.in_ok-exports.exports) (has_exports_at c.args.types.now c.args.x c.sound.ensures c.requires.left) (has_exports_at c.args.types.now c.args.y c.sound.ensures c.requires.right)
+    joined_interface_built c.add_interface_of.result c.args.types.now c.join_exports.new.types c.add_interface_of.new.types c.args.x c.args.y c.requires.left c.requires.right c.in_ok-exports.ensures.grows c.add_interface_of.ensures.grows _ _ (extern_list c.in_ok-exports.exports) (has_exports_at c.args.types.now c.args.x c.sound.ensures c.requires.left) (has_exports_at c.args.types.now c.args.y c.sound.ensures c.requires.right)
     c.add_interface_of.ensures.made c.in_ok-exports.ensures.joined c.in_ok-exports.ensures.names c.in_ok-exports.ensures.built c.add_interface_of.ensures.err
 
 pub composites::meet_exports-returns-clause-met : goal.composites::meet_exports-returns-clause-met
 composites::meet_exports-returns-clause-met t c =
-    rw (exports_read c.args.types.now c.args.x (listed c.in_ok-first.first) c.in_ok-first.ensures, exports_read c.args.types.now c.args.y (listed c.in_ok-second.second) c.in_ok-second.ensures) at c.meet_externs.ensures.met
+    rw (exports_read c.args.types.now c.args.x (extern_list c.in_ok-first.first) c.in_ok-first.ensures, exports_read c.args.types.now c.args.y (extern_list c.in_ok-second.second) c.in_ok-second.ensures) at c.meet_externs.ensures.met
 
 pub composites::meet_exports-returns-clause-names : goal.composites::meet_exports-returns-clause-names
 composites::meet_exports-returns-clause-names t c =
-    rw (exports_read c.args.types.now c.args.x (listed c.in_ok-first.first) c.in_ok-first.ensures, exports_read c.args.types.now c.args.y (listed c.in_ok-second.second) c.in_ok-second.ensures) at c.meet_externs.ensures.names
+    rw (exports_read c.args.types.now c.args.x (extern_list c.in_ok-first.first) c.in_ok-first.ensures, exports_read c.args.types.now c.args.y (extern_list c.in_ok-second.second) c.in_ok-second.ensures) at c.meet_externs.ensures.names
 
 pub composites::meet_exports-returns-clause-built : goal.composites::meet_exports-returns-clause-built
 composites::meet_exports-returns-clause-built t c =
-    rw (exports_read c.args.types.now c.args.x (listed c.in_ok-first.first) c.in_ok-first.ensures, exports_read c.args.types.now c.args.y (listed c.in_ok-second.second) c.in_ok-second.ensures) at (Runs-exports c.args.types.now c.args.x c.args.y c.requires.left c.requires.right (listed c.in_ok-first.first) (listed c.in_ok-second.second) c.in_ok-first.ensures c.in_ok-second.ensures c.meet_externs.new.types _ c.meet_externs.ensures.built)
+    rw (exports_read c.args.types.now c.args.x (extern_list c.in_ok-first.first) c.in_ok-first.ensures, exports_read c.args.types.now c.args.y (extern_list c.in_ok-second.second) c.in_ok-second.ensures) at (Runs-exports c.args.types.now c.args.x c.args.y c.requires.left c.requires.right (extern_list c.in_ok-first.first) (extern_list c.in_ok-second.second) c.in_ok-first.ensures c.in_ok-second.ensures c.meet_externs.new.types _ c.meet_externs.ensures.built)
 
 pub composites::join_exports-returns-clause-joined : goal.composites::join_exports-returns-clause-joined
 composites::join_exports-returns-clause-joined t c =
-    rw (exports_read c.args.types.now c.args.x (listed c.in_ok-first.first) c.in_ok-first.ensures, exports_read c.args.types.now c.args.y (listed c.in_ok-second.second) c.in_ok-second.ensures) at c.join_externs.ensures.joined
+    rw (exports_read c.args.types.now c.args.x (extern_list c.in_ok-first.first) c.in_ok-first.ensures, exports_read c.args.types.now c.args.y (extern_list c.in_ok-second.second) c.in_ok-second.ensures) at c.join_externs.ensures.joined
 
 pub composites::join_exports-returns-clause-names : goal.composites::join_exports-returns-clause-names
 composites::join_exports-returns-clause-names t c =
-    rw (exports_read c.args.types.now c.args.x (listed c.in_ok-first.first) c.in_ok-first.ensures) at c.join_externs.ensures.names
+    rw (exports_read c.args.types.now c.args.x (extern_list c.in_ok-first.first) c.in_ok-first.ensures) at c.join_externs.ensures.names
 
 pub composites::join_exports-returns-clause-built : goal.composites::join_exports-returns-clause-built
 composites::join_exports-returns-clause-built t c =
-    rw (exports_read c.args.types.now c.args.x (listed c.in_ok-first.first) c.in_ok-first.ensures, exports_read c.args.types.now c.args.y (listed c.in_ok-second.second) c.in_ok-second.ensures) at (Runs-exports c.args.types.now c.args.x c.args.y c.requires.left c.requires.right (listed c.in_ok-first.first) (listed c.in_ok-second.second) c.in_ok-first.ensures c.in_ok-second.ensures c.join_externs.new.types _ c.join_externs.ensures.built)
+    rw (exports_read c.args.types.now c.args.x (extern_list c.in_ok-first.first) c.in_ok-first.ensures, exports_read c.args.types.now c.args.y (extern_list c.in_ok-second.second) c.in_ok-second.ensures) at (Runs-exports c.args.types.now c.args.x c.args.y c.requires.left c.requires.right (extern_list c.in_ok-first.first) (extern_list c.in_ok-second.second) c.in_ok-first.ensures c.in_ok-second.ensures c.join_externs.new.types _ c.join_externs.ensures.built)
 
 pub composites::meet_world_exports-returns-clause-met : goal.composites::meet_world_exports-returns-clause-met
 composites::meet_world_exports-returns-clause-met t c =
@@ -544,7 +544,7 @@ composites::meet_worlds-add_world_of-requires-clause-second t c =
 
 pub composites::meet_worlds-add_world_of-requires-clause-exports : goal.composites::meet_worlds-add_world_of-requires-clause-exports
 composites::meet_worlds-add_world_of-requires-clause-exports t c =
-    AllStand-Extends c.meet_world_exports.new.types c.join_world_imports.new.types c.in_ok-imports-in-Some.ensures.grows (extern_keys (listed c.in-Some.exports)) (rw c.in-Some.is at c.in_ok-exports.ensures.standing)
+    AllStand-Extends c.meet_world_exports.new.types c.join_world_imports.new.types c.in_ok-imports-in-Some.ensures.grows (extern_keys (extern_list c.in-Some.exports)) (rw c.in-Some.is at c.in_ok-exports.ensures.standing)
 
 pub composites::meet_worlds-returns-in_err-add_world_of-in-Some-clause-grows : goal.composites::meet_worlds-returns-in_err-add_world_of-in-Some-clause-grows
 composites::meet_worlds-returns-in_err-add_world_of-in-Some-clause-grows t c =
@@ -561,11 +561,11 @@ composites::meet_worlds-returns-in_ok-add_world_of-in-Some-clause-grows t c =
 
 pub composites::meet_worlds-returns-in_ok-add_world_of-in-Some-clause-met : goal.composites::meet_worlds-returns-in_ok-add_world_of-in-Some-clause-met
 composites::meet_worlds-returns-in_ok-add_world_of-in-Some-clause-met t c =
-    λ k. worlds_met_then c.args.types.now c.meet_world_exports.new.types c.join_world_imports.new.types c.add_world_of.new.types c.sound.ensures c.in_ok-exports.ensures.grows c.in_ok-imports-in-Some.ensures.grows c.args.x c.args.y c.requires.left c.requires.right k (listed c.in-Some.exports) (listed c.in_ok-imports-in-Some.imports) c.in_ok-add_world_of-in-Some.field-0 (rw c.in-Some.is at c.in_ok-exports.ensures.met) (rw c.in-Some.is at c.in_ok-exports.ensures.standing) c.in_ok-imports-in-Some.ensures.joined c.in_ok-add_world_of-in-Some.ensures.made.tree
+    λ k. worlds_met_then c.args.types.now c.meet_world_exports.new.types c.join_world_imports.new.types c.add_world_of.new.types c.sound.ensures c.in_ok-exports.ensures.grows c.in_ok-imports-in-Some.ensures.grows c.args.x c.args.y c.requires.left c.requires.right k (extern_list c.in-Some.exports) (extern_list c.in_ok-imports-in-Some.imports) c.in_ok-add_world_of-in-Some.field-0 (rw c.in-Some.is at c.in_ok-exports.ensures.met) (rw c.in-Some.is at c.in_ok-exports.ensures.standing) c.in_ok-imports-in-Some.ensures.joined c.in_ok-add_world_of-in-Some.ensures.made.tree
 
 pub composites::meet_worlds-returns-in_ok-add_world_of-in-Some-clause-built : goal.composites::meet_worlds-returns-in_ok-add_world_of-in-Some-clause-built
 composites::meet_worlds-returns-in_ok-add_world_of-in-Some-clause-built t c =
-    met_world_of_both c.args.types.now c.meet_world_exports.new.types c.join_world_imports.new.types c.add_world_of.new.types c.args.x c.args.y c.in_ok-add_world_of-in-Some.field-0 c.requires.left c.requires.right c.in_ok-exports.ensures.grows c.in_ok-imports-in-Some.ensures.grows c.in_ok-add_world_of-in-Some.ensures.grows (listed c.in-Some.exports) (listed c.in_ok-imports-in-Some.imports) c.in_ok-add_world_of-in-Some.ensures.made (rw c.in-Some.is at c.in_ok-exports.ensures.names) c.in_ok-imports-in-Some.ensures.names
+    met_world_of_both c.args.types.now c.meet_world_exports.new.types c.join_world_imports.new.types c.add_world_of.new.types c.args.x c.args.y c.in_ok-add_world_of-in-Some.field-0 c.requires.left c.requires.right c.in_ok-exports.ensures.grows c.in_ok-imports-in-Some.ensures.grows c.in_ok-add_world_of-in-Some.ensures.grows (extern_list c.in-Some.exports) (extern_list c.in_ok-imports-in-Some.imports) c.in_ok-add_world_of-in-Some.ensures.made (rw c.in-Some.is at c.in_ok-exports.ensures.names) c.in_ok-imports-in-Some.ensures.names
     (inl (composites::meet_worlds-returns-in_ok-add_world_of-in-Some-clause-met t c)) (rw c.in-Some.is at c.in_ok-exports.ensures.built) c.in_ok-imports-in-Some.ensures.built
 
 pub composites::meet_worlds-returns-in-None-clause-met : goal.composites::meet_worlds-returns-in-None-clause-met
@@ -603,7 +603,7 @@ composites::join_worlds-add_world_of-requires-clause-second t c =
 
 pub composites::join_worlds-add_world_of-requires-clause-imports : goal.composites::join_worlds-add_world_of-requires-clause-imports
 composites::join_worlds-add_world_of-requires-clause-imports t c =
-    AllStand-Extends c.meet_world_imports.new.types c.join_world_exports.new.types c.in_ok-exports-in-Some.ensures.grows (extern_keys (listed c.in-Some.imports)) (rw c.in-Some.is at c.in_ok-imports.ensures.standing)
+    AllStand-Extends c.meet_world_imports.new.types c.join_world_exports.new.types c.in_ok-exports-in-Some.ensures.grows (extern_keys (extern_list c.in-Some.imports)) (rw c.in-Some.is at c.in_ok-imports.ensures.standing)
 
 pub composites::join_worlds-returns-in_err-add_world_of-in-Some-clause-grows : goal.composites::join_worlds-returns-in_err-add_world_of-in-Some-clause-grows
 composites::join_worlds-returns-in_err-add_world_of-in-Some-clause-grows t c =
@@ -620,11 +620,11 @@ composites::join_worlds-returns-in_ok-add_world_of-in-Some-clause-grows t c =
 
 pub composites::join_worlds-returns-in_ok-add_world_of-in-Some-clause-joined : goal.composites::join_worlds-returns-in_ok-add_world_of-in-Some-clause-joined
 composites::join_worlds-returns-in_ok-add_world_of-in-Some-clause-joined t c =
-    λ k. worlds_joined_then c.args.types.now c.meet_world_imports.new.types c.join_world_exports.new.types c.add_world_of.new.types c.sound.ensures c.in_ok-imports.ensures.grows c.in_ok-exports-in-Some.ensures.grows c.args.x c.args.y c.requires.left c.requires.right k (listed c.in-Some.imports) (listed c.in_ok-exports-in-Some.exports) c.in_ok-add_world_of-in-Some.field-0 (rw c.in-Some.is at c.in_ok-imports.ensures.met) (rw c.in-Some.is at c.in_ok-imports.ensures.standing) c.in_ok-exports-in-Some.ensures.joined c.in_ok-add_world_of-in-Some.ensures.made.tree
+    λ k. worlds_joined_then c.args.types.now c.meet_world_imports.new.types c.join_world_exports.new.types c.add_world_of.new.types c.sound.ensures c.in_ok-imports.ensures.grows c.in_ok-exports-in-Some.ensures.grows c.args.x c.args.y c.requires.left c.requires.right k (extern_list c.in-Some.imports) (extern_list c.in_ok-exports-in-Some.exports) c.in_ok-add_world_of-in-Some.field-0 (rw c.in-Some.is at c.in_ok-imports.ensures.met) (rw c.in-Some.is at c.in_ok-imports.ensures.standing) c.in_ok-exports-in-Some.ensures.joined c.in_ok-add_world_of-in-Some.ensures.made.tree
 
 pub composites::join_worlds-returns-in_ok-add_world_of-in-Some-clause-built : goal.composites::join_worlds-returns-in_ok-add_world_of-in-Some-clause-built
 composites::join_worlds-returns-in_ok-add_world_of-in-Some-clause-built t c =
-    joined_world_of_both c.args.types.now c.meet_world_imports.new.types c.join_world_exports.new.types c.add_world_of.new.types c.args.x c.args.y c.in_ok-add_world_of-in-Some.field-0 c.requires.left c.requires.right c.in_ok-imports.ensures.grows c.in_ok-exports-in-Some.ensures.grows c.in_ok-add_world_of-in-Some.ensures.grows (listed c.in-Some.imports) (listed c.in_ok-exports-in-Some.exports) c.in_ok-add_world_of-in-Some.ensures.made (rw c.in-Some.is at c.in_ok-imports.ensures.names) c.in_ok-exports-in-Some.ensures.names
+    joined_world_of_both c.args.types.now c.meet_world_imports.new.types c.join_world_exports.new.types c.add_world_of.new.types c.args.x c.args.y c.in_ok-add_world_of-in-Some.field-0 c.requires.left c.requires.right c.in_ok-imports.ensures.grows c.in_ok-exports-in-Some.ensures.grows c.in_ok-add_world_of-in-Some.ensures.grows (extern_list c.in-Some.imports) (extern_list c.in_ok-exports-in-Some.exports) c.in_ok-add_world_of-in-Some.ensures.made (rw c.in-Some.is at c.in_ok-imports.ensures.names) c.in_ok-exports-in-Some.ensures.names
     (inr (composites::join_worlds-returns-in_ok-add_world_of-in-Some-clause-joined t c)) (rw c.in-Some.is at c.in_ok-imports.ensures.built) c.in_ok-exports-in-Some.ensures.built
 
 pub composites::join_worlds-returns-in-None-clause-joined : goal.composites::join_worlds-returns-in-None-clause-joined

@@ -9,7 +9,7 @@ use Rattle.wac_component.specs.Height.{height, keys_height}
 use Rattle.wac_component.specs.Key.{AllStand, item_keys, type_keys, interface_key, world_key}
 use Rattle.wac_merge.specs.Bounded.{AreFirstMet, AreJoined}
 use Rattle.wac_merge.specs.Built.{AreBuilt}
-use Rattle.wac_merge.specs.Items.{extern_keys, listed}
+use Rattle.wac_merge.specs.Items.{extern_keys, extern_list}
 use Rattle.wac_merge.specs.Runs.{Runs}
 use Rattle.wac_merge.proofs.+bounds.Given as goal
 
@@ -56,13 +56,13 @@ abbrev pub decreases-composites::join_world_exports : goal.decreases-composites:
 decreases-composites::join_world_exports l = 7 * height l.types.now (world_key l.x)
 
 abbrev pub decreases-externs::meet_externs : goal.decreases-externs::meet_externs
-decreases-externs::meet_externs l = 7 * keys_height l.types.now (extern_keys (listed l.first.now)) + 6
+decreases-externs::meet_externs l = 7 * keys_height l.types.now (extern_keys (extern_list l.first.now)) + 6
 
 abbrev pub decreases-externs::meet_first : goal.decreases-externs::meet_first
-decreases-externs::meet_first l = 7 * keys_height l.types.now (extern_keys (listed l.first.now)) + 5
+decreases-externs::meet_first l = 7 * keys_height l.types.now (extern_keys (extern_list l.first.now)) + 5
 
 abbrev pub decreases-externs::join_externs : goal.decreases-externs::join_externs
-decreases-externs::join_externs l = 7 * keys_height l.types.now (extern_keys (listed l.first.now)) + 6
+decreases-externs::join_externs l = 7 * keys_height l.types.now (extern_keys (extern_list l.first.now)) + 6
 
 abbrev pub decreases-externs::meet_with : goal.decreases-externs::meet_with
 decreases-externs::meet_with l = 7 * keys_height l.types.now (item_keys l.a) + 4
@@ -73,17 +73,17 @@ decreases-externs::join_with l = 7 * keys_height l.types.now (item_keys l.a) + 4
 abbrev pub invariant-externs::meet_first-loop-name : goal.invariant-externs::meet_first-loop-name
 invariant-externs::meet_first-loop-name l = record {
   grows : Extends l.initial.types l.types;
-  met : AreFirstMet l.initial.types l.types (named (λ k. k) (map deref_pair l.yielded)) (listed l.second) (Some (listed l.met));
-  names : keys_of (listed l.met) ≡ keys_of (named (λ k. k) (map deref_pair l.yielded));
-  standing : AllStand l.types (extern_keys (listed l.met));
-  built : Runs (extern_keys (listed l.first) ++ extern_keys (listed l.second)) l.initial.types l.types (λ c o. AreBuilt c l.types o (listed l.first) (listed l.second) (listed l.met));
+  met : AreFirstMet l.initial.types l.types (named (λ k. k) (map deref_pair l.yielded)) (extern_list l.second) (Some (extern_list l.met));
+  names : keys_of (extern_list l.met) ≡ keys_of (named (λ k. k) (map deref_pair l.yielded));
+  standing : AllStand l.types (extern_keys (extern_list l.met));
+  built : Runs (extern_keys (extern_list l.first) ++ extern_keys (extern_list l.second)) l.initial.types l.types (λ c o. AreBuilt c l.types o (extern_list l.first) (extern_list l.second) (extern_list l.met));
 }
 
 abbrev pub invariant-externs::join_externs-loop-name : goal.invariant-externs::join_externs-loop-name
 invariant-externs::join_externs-loop-name l = record {
   grows : Extends l.initial.types l.types;
-  joined : AreJoined l.initial.types l.types (named (λ k. k) (map deref_pair l.yielded)) (listed l.second) (listed l.joined);
-  names : HasSomeNames bytes_eq (named (λ k. k) (map deref_pair l.yielded)) (listed l.joined);
-  standing : AllStand l.types (extern_keys (listed l.joined));
-  built : Runs (extern_keys (listed l.first) ++ extern_keys (listed l.second)) l.initial.types l.types (λ c o. AreBuilt c l.types o (listed l.first) (listed l.second) (listed l.joined));
+  joined : AreJoined l.initial.types l.types (named (λ k. k) (map deref_pair l.yielded)) (extern_list l.second) (extern_list l.joined);
+  names : HasSomeNames bytes_eq (named (λ k. k) (map deref_pair l.yielded)) (extern_list l.joined);
+  standing : AllStand l.types (extern_keys (extern_list l.joined));
+  built : Runs (extern_keys (extern_list l.first) ++ extern_keys (extern_list l.second)) l.initial.types l.types (λ c o. AreBuilt c l.types o (extern_list l.first) (extern_list l.second) (extern_list l.joined));
 }

@@ -1,5 +1,5 @@
 use Rattle.std.proofs.Common.{◌≡◌, ◌∷◌, [], take}
-use Rattle.wac_checker.specs.Cache.{IsTrueCache}
+use Rattle.wac_checker.specs.Cache.{IsSoundCache}
 use Rattle.wac_checker.specs.Checker.{direction, depth, remembered}
 use Rattle.wac_component.specs.Content.{named}
 use Rattle.wac_targets.specs.Named.{IsMapOf}
@@ -11,6 +11,6 @@ abbrev pub invariant-loop-i : goal.invariant-loop-i
 invariant-loop-i l = record {
   direction : direction l.checker ≡ direction l.fn.checker;
   depth : depth l.checker ≡ depth l.fn.checker;
-  remembered : IsTrueCache (l.types ∷ l.types ∷ []) (remembered l.checker);
+  remembered : IsSoundCache (l.types ∷ l.types ∷ []) (remembered l.checker);
   noted : (items : Items) → IsMapOf l.given items → AreNoted l.types l.kind items (take l.i (named (λ k. k) l.wanted.entries)) (note_of l.fn.report) (note_of l.report);
 }

@@ -1,7 +1,7 @@
 use Rattle.std.proofs.Common.{◌∷◌, [], Some, subst}
 use Rattle.std.specs.Option.{option_copied}
 use Rattle.wac_names.specs.Pairs.{IsFound}
-use Rattle.wac_targets.proofs.Standing.{found-stands, left-stands, right-stands, alone-apart, alone-there}
+use Rattle.wac_targets.proofs.Standing.{found-stands, left-stands, right-stands, alone-apart}
 use Rattle.wac_targets.proofs.checks.judge.Goals as goal
 
 pub is_subtype-requires-clause-left : goal.is_subtype-requires-clause-left
@@ -13,10 +13,10 @@ pub is_subtype-requires-clause-right : goal.is_subtype-requires-clause-right
 is_subtype-requires-clause-right c = rw c.right_item-right.ensures (right-stands c.args.types.now c.args.kind c.args.wanted.now c.requires.wanted)
 
 pub returns-in-Ok-clause-remembered : goal.returns-in-Ok-clause-remembered
-returns-in-Ok-clause-remembered c = c.is_subtype.ensures.still_true (c.args.types.now ∷ c.args.types.now ∷ []) (alone-apart c.args.types.now) (alone-there c.args.types.now) (alone-there c.args.types.now) c.requires.remembered
+returns-in-Ok-clause-remembered c = c.is_subtype.ensures.still_true (c.args.types.now ∷ c.args.types.now ∷ []) (alone-apart c.args.types.now) c.requires.remembered
 
 pub returns-in-Err-Memory-clause-remembered : goal.returns-in-Err-Memory-clause-remembered
-returns-in-Err-Memory-clause-remembered c = c.is_subtype.ensures.still_true (c.args.types.now ∷ c.args.types.now ∷ []) (alone-apart c.args.types.now) (alone-there c.args.types.now) (alone-there c.args.types.now) c.requires.remembered
+returns-in-Err-Memory-clause-remembered c = c.is_subtype.ensures.still_true (c.args.types.now ∷ c.args.types.now ∷ []) (alone-apart c.args.types.now) c.requires.remembered
 
 pub returns-in-Err-clause-remembered : goal.returns-in-Err-clause-remembered
-returns-in-Err-clause-remembered c = c.is_subtype.ensures.still_true (c.args.types.now ∷ c.args.types.now ∷ []) (alone-apart c.args.types.now) (alone-there c.args.types.now) (alone-there c.args.types.now) c.requires.remembered
+returns-in-Err-clause-remembered c = c.is_subtype.ensures.still_true (c.args.types.now ∷ c.args.types.now ∷ []) (alone-apart c.args.types.now) c.requires.remembered
