@@ -3,6 +3,8 @@
 //! world.
 #![tactic(auto)]
 
+pub mod laws;
+
 pub use wac_checker::SubtypeChecker;
 pub use wac_component::{
     DefinedType, DefinedTypeId, Enum, ExternKind, Flags, FuncKind, FuncType, FuncTypeId, Interface,
@@ -10,15 +12,19 @@ pub use wac_component::{
     Type, Types, UsedType, ValueType, Variant, World, WorldId,
 };
 pub use wac_core::{CoreExtern, CoreFuncType, CoreRefType, CoreType, HeapType, ModuleType};
+pub use wac_core_merge::{join_externs, join_modules, meet_externs, meet_modules};
 pub use wac_merge::{join, meet};
 pub use wac_mismatch::{
     CoreField, CountOf, Fault, Frame, NameOf, Path, ResultPart, SubtypeCheck, SubtypeError,
 };
 pub use wac_model::PrimitiveType;
 pub use wac_names::{
-    NameError, NameMap, NameMapIntern, NameMapNoIntern, are_semver_compatible, track_of,
+    NameClass, NameError, NameMap, NameMapIntern, NameMapNoIntern, are_semver_compatible,
+    read_version, track_of, version_cmp,
 };
-pub use wac_package::{BorrowedKey, BorrowedPackageKey, Package, PackageKey, same_key};
+pub use wac_package::{
+    BorrowedKey, BorrowedPackageKey, Package, PackageKey, is_same_key, same_key,
+};
 pub use wac_targets::{
     ImportsNotInTarget, MismatchedTypes, MissingExports, TargetError, TargetValidationReport,
     TargetValidationResult, validate_target,

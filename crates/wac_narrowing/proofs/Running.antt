@@ -1,0 +1,208 @@
+-- Whatever steps are taken, what is remembered stays true, and imports serve what they served.
+use Rattle.std.proofs.Common.{◌≡◌, List, Some, sym, subst, ◌∙◌, inl, inr}
+use Rattle.wac_model.specs.Text.{Text}
+use Rattle.wac_model.proofs.ItemOrder.{Fits-refl, Fits-trans}
+use Rattle.wac_component.specs.Collection.{Collection}
+use Rattle.wac_component.specs.Key.{Key, item_keys, Each, Stands, AllStand}
+use Rattle.wac_component.specs.Tree.{item_tree}
+use Rattle.wac_component.specs.declared.items.ItemKind.{ItemKind}
+use Rattle.wac_component.proofs.Among.{among_each, each_among}
+use Rattle.wac_merge.specs.Items.{entry_item}
+use Rattle.wac_merge.proofs.ItemKeys.{each_entry_item}
+use Rattle.wac_narrowing.specs.Apart.{IsApart}
+use Rattle.wac_narrowing.specs.Identified.{IsCovered}
+use Rattle.wac_narrowing.specs.Imports.{Imports, ImportsStand, ImportsCovered, IsImportFor, ImportsFit, IsServed}
+use Rattle.wac_narrowing.specs.Narrows.{Narrows, KeepsStops, IsStep}
+use Rattle.wac_narrowing.specs.Standing.{StandsFor, IsCopy}
+use Rattle.wac_narrowing.specs.State.{State, Memo, AddsPair, IsKept, IsTrueOf, IsOneWith, Runs}
+use Rattle.wac_narrowing.proofs.Adding.{Narrows-refl, Narrows-trans, Narrows-all_stand, fits_if_same}
+use Rattle.wac_narrowing.proofs.Stopping.{KeepsStops-refl, KeepsStops-trans}
+
+-- a pair stays true
+pub StandsFor-Narrows : (f c d : Collection) (ss ts : List Key) (theirs own : Key) → Narrows c ss d ts → StandsFor f c theirs own → StandsFor f d theirs own
+StandsFor-Narrows f c d ss ts theirs own n h = record {
+  sort = h.sort;
+  theirs_stands = h.theirs_stands;
+  own_stands = n.standing own h.own_stands;
+  fits = λ k. Fits-trans (item_tree d (entry_item k own)) (item_tree c (entry_item k own)) (item_tree f (entry_item k theirs)) (n.fits (entry_item k own) (each_entry_item (Stands c) k own h.own_stands)) (h.fits k);
+}
+
+-- a copy stays one
+pub IsCopy-Narrows : (f c d : Collection) (ss ts : List Key) (theirs own : Key) → Narrows c ss d ts → IsCopy f c ss theirs own → IsCopy f d ts theirs own
+IsCopy-Narrows f c d ss ts theirs own n h = record {
+  sort = h.sort;
+  theirs_stands = h.theirs_stands;
+  own_stands = n.standing own h.own_stands;
+  apart = n.apart own h.own_stands h.apart;
+  same = λ k. n.same (entry_item k own) (each_entry_item (Stands c) k own h.own_stands) (each_entry_item (IsApart c ss) k own h.apart) ∙ h.same k;
+}
+
+-- a copy stands for what it is one of
+pub IsCopy-StandsFor : (f c : Collection) (ss : List Key) (theirs own : Key) → IsCopy f c ss theirs own → StandsFor f c theirs own
+IsCopy-StandsFor f c ss theirs own h = record {
+  sort = h.sort;
+  theirs_stands = h.theirs_stands;
+  own_stands = h.own_stands;
+  fits = λ k. fits_if_same (item_tree c (entry_item k own)) (item_tree f (entry_item k theirs)) (h.same k);
+}
+
+pub ImportsStand-Narrows : (c d : Collection) (ss ts : List Key) (is : Imports) → Narrows c ss d ts → ImportsStand c is → ImportsStand d is
+ImportsStand-Narrows c d ss ts is n h m x q = Narrows-all_stand c d ss ts n (item_keys x) (h m x q)
+
+pub ImportsFit-Narrows : (c d : Collection) (ss ts : List Key) (is : Imports) → Narrows c ss d ts → ImportsStand c is → ImportsFit c is d is
+ImportsFit-Narrows c d ss ts is n h m x q = record { import = x; is = q; fits = n.fits x (h m x q) }
+
+pub IsImportFor-trans : (c d e : Collection) (is js : Imports) (n : Text) (x : ItemKind) → ImportsFit d is e js → IsImportFor d (is n) c x → IsImportFor e (js n) c x
+IsImportFor-trans c d e is js n x fit h =
+    let r = fit n h.import h.is in
+    record { import = r.import; is = r.is; fits = Fits-trans (item_tree e r.import) (item_tree d h.import) (item_tree c x) r.fits h.fits }
+
+pub ImportsFit-trans : (c d e : Collection) (is js ks : Imports) → ImportsFit c is d js → ImportsFit d js e ks → ImportsFit c is e ks
+ImportsFit-trans c d e is js ks g h n x q = IsImportFor-trans c d e js ks n x h (g n x q)
+
+pub ImportsFit-refl : (c : Collection) (is : Imports) → ImportsFit c is c is
+ImportsFit-refl c is n x q = record { import = x; is = q; fits = Fits-refl (item_tree c x) }
+
+-- what holds of the new pair and of those before holds of all
+pub pair_or_before : (P : Key → Key → Type 0) (before now : Memo) (a b : Key) → AddsPair before now a b → P a b → ((theirs own : Key) → before theirs ≡ Some own → P theirs own) → (theirs own : Key) → now theirs ≡ Some own → P theirs own
+pair_or_before P before now a b adds new old theirs own is = elim (adds.only theirs own is) [
+  | inl same ↦ subst (λ (x : Key). P x own) (sym same.0) (subst (λ (y : Key). P a y) (sym same.1) new)
+  | inr stood ↦ old theirs own stood
+]
+
+-- all covered stay so
+all_covered_on : (c d : Collection) (ss ts : List Key) → KeepsStops c ss d ts → (ks : List Key) → AllStand c ks → Each (IsCovered c ss) ks → Each (IsCovered d ts) ks
+all_covered_on c d ss ts k ks st h = each_among (IsCovered d ts) ks (λ j m. k.covered j (among_each (Stands c) j ks m st) (among_each (IsCovered c ss) j ks m h))
+
+pub IsKept-step : (s : State) (d : Collection) (ts : List Key) → IsStep s.own s.shared d ts → IsKept s → IsKept (record s { own = d; shared = ts })
+IsKept-step s d ts step h = record {
+  good = step.good;
+  imports = ImportsStand-Narrows s.own d s.shared ts s.imports step.narrows h.imports;
+  imports_covered = λ n y q. all_covered_on s.own d s.shared ts step.stops (item_keys y) (h.imports n y q) (h.imports_covered n y q);
+  taken = λ theirs own p. let r = h.taken theirs own p in (step.narrows.standing own r.0, step.stops.covered own r.0 r.1);
+  copies = λ theirs own p. let r = h.copies theirs own p in (step.narrows.standing own r.0, step.narrows.apart own r.0 r.1);
+}
+
+-- a fact of a state in which one part changed, by one of the same with the other parts as they were
+pub changed_own : (P : State → Type 0) (s t : State) → t.imports ≡ s.imports → t.taken ≡ s.taken → t.copies ≡ s.copies → P (record s { own = t.own; shared = t.shared }) → P t
+changed_own P s t p q r = subst P (λ i. record { own = t.own; shared = t.shared; imports = sym p i; taken = sym q i; copies = sym r i })
+
+pub changed_taken : (P : State → Type 0) (s t : State) → t.own ≡ s.own → t.shared ≡ s.shared → t.imports ≡ s.imports → t.copies ≡ s.copies → P (record s { taken = t.taken }) → P t
+changed_taken P s t o h p r = subst P (λ i. record { own = sym o i; shared = sym h i; imports = sym p i; taken = t.taken; copies = sym r i })
+
+pub changed_copies : (P : State → Type 0) (s t : State) → t.own ≡ s.own → t.shared ≡ s.shared → t.imports ≡ s.imports → t.taken ≡ s.taken → P (record s { copies = t.copies }) → P t
+changed_copies P s t o h p q = subst P (λ i. record { own = sym o i; shared = sym h i; imports = sym p i; taken = sym q i; copies = t.copies })
+
+pub changed_imports : (P : State → Type 0) (s t : State) → t.own ≡ s.own → t.shared ≡ s.shared → t.taken ≡ s.taken → t.copies ≡ s.copies → P (record s { imports = t.imports }) → P t
+changed_imports P s t o h q r = subst P (λ i. record { own = sym o i; shared = sym h i; imports = t.imports; taken = sym q i; copies = sym r i })
+
+module _ (IsTrue : Collection → State → Type 0) (f : Collection) where
+  pub Runs-refl : (s : State) → Runs IsTrue f s s
+  Runs-refl s = record {
+    kept = λ h. h;
+    narrows = λ h. Narrows-refl s.own s.shared;
+    stops = λ h. KeepsStops-refl s.own s.shared;
+    imports = λ h. ImportsFit-refl s.own s.imports;
+    truly = λ h g one t. t;
+    taken = λ theirs own p. p;
+    copies = λ theirs own p. p;
+  }
+
+  pub Runs-trans : (s t u : State) → Runs IsTrue f s t → Runs IsTrue f t u → Runs IsTrue f s u
+  Runs-trans s t u g h = record {
+    kept = λ k. h.kept (g.kept k);
+    narrows = λ k. Narrows-trans s.own t.own u.own s.shared t.shared u.shared (g.narrows k) (h.narrows (g.kept k));
+    stops = λ k. KeepsStops-trans s.own t.own u.own s.shared t.shared u.shared (g.narrows k).standing (g.stops k) (h.stops (g.kept k));
+    imports = λ k. ImportsFit-trans s.own t.own u.own s.imports t.imports u.imports (g.imports k) (h.imports (g.kept k));
+    truly = λ k e one v. h.truly (g.kept k) e one (g.truly k e one v);
+    taken = λ theirs own p. h.taken theirs own (g.taken theirs own p);
+    copies = λ theirs own p. h.copies theirs own (g.copies theirs own p);
+  }
+
+  -- the own collection is changed by a step
+  pub Runs-step : (s : State) (d : Collection) (ts : List Key) → (IsKept s → IsStep s.own s.shared d ts)
+      → (IsKept s → (g : Collection) → IsTrue g s → IsTrue g (record s { own = d; shared = ts })) → Runs IsTrue f s (record s { own = d; shared = ts })
+  Runs-step s d ts step true = record {
+    kept = λ h. IsKept-step s d ts (step h) h;
+    narrows = λ h. (step h).narrows;
+    stops = λ h. (step h).stops;
+    imports = λ h. ImportsFit-Narrows s.own d s.shared ts s.imports (step h).narrows h.imports;
+    truly = λ h g one t. true h g t;
+    taken = λ theirs own p. p;
+    copies = λ theirs own p. p;
+  }
+
+  -- one more id was taken in
+  pub Runs-take : (s : State) (now : Memo) (a b : Key) → AddsPair s.taken now a b → (IsKept s → Stands s.own b × IsCovered s.own s.shared b)
+      → (IsKept s → (g : Collection) → IsOneWith f g → IsTrue g s → IsTrue g (record s { taken = now })) → Runs IsTrue f s (record s { taken = now })
+  Runs-take s now a b adds own true = record {
+    kept = λ h. record {
+      good = h.good;
+      imports = h.imports;
+      imports_covered = h.imports_covered;
+      taken = pair_or_before (λ _ z. Stands s.own z × IsCovered s.own s.shared z) s.taken now a b adds (own h) h.taken;
+      copies = h.copies;
+    };
+    narrows = λ h. Narrows-refl s.own s.shared;
+    stops = λ h. KeepsStops-refl s.own s.shared;
+    imports = λ h. ImportsFit-refl s.own s.imports;
+    truly = true;
+    taken = adds.kept;
+    copies = λ theirs own p. p;
+  }
+
+  -- one more was copied
+  pub Runs-copy : (s : State) (now : Memo) (a b : Key) → AddsPair s.copies now a b → (IsKept s → Stands s.own b × IsApart s.own s.shared b)
+      → (IsKept s → (g : Collection) → IsOneWith f g → IsTrue g s → IsTrue g (record s { copies = now })) → Runs IsTrue f s (record s { copies = now })
+  Runs-copy s now a b adds own true = record {
+    kept = λ h. record {
+      good = h.good;
+      imports = h.imports;
+      imports_covered = h.imports_covered;
+      taken = h.taken;
+      copies = pair_or_before (λ _ z. Stands s.own z × IsApart s.own s.shared z) s.copies now a b adds (own h) h.copies;
+    };
+    narrows = λ h. Narrows-refl s.own s.shared;
+    stops = λ h. KeepsStops-refl s.own s.shared;
+    imports = λ h. ImportsFit-refl s.own s.imports;
+    truly = true;
+    taken = λ theirs own p. p;
+    copies = adds.kept;
+  }
+
+  -- imports are added or narrow
+  pub Runs-import : (s : State) (is : Imports) → (IsKept s → ImportsStand s.own is) → (IsKept s → ImportsCovered s.own s.shared is) → (IsKept s → ImportsFit s.own s.imports s.own is) → ((g : Collection) → IsTrue g s → IsTrue g (record s { imports = is })) → Runs IsTrue f s (record s { imports = is })
+  Runs-import s is stand covered fit true = record {
+    kept = λ h. record { good = h.good; imports = stand h; imports_covered = covered h; taken = h.taken; copies = h.copies };
+    narrows = λ h. Narrows-refl s.own s.shared;
+    stops = λ h. KeepsStops-refl s.own s.shared;
+    imports = fit;
+    truly = λ h g one t. true g t;
+    taken = λ theirs own p. p;
+    copies = λ theirs own p. p;
+  }
+
+  -- what was served is so still
+  pub served_still : (g : Collection) (s t : State) (n : Text) (x : ItemKind) → IsKept s → Runs IsTrue f s t → IsServed s.own s.imports n g x → IsServed t.own t.imports n g x
+  served_still g s t n x h r served = IsImportFor-trans g s.own t.own s.imports t.imports n x (r.imports h) served
+
+-- that each pair stands for its id is kept
+pub IsTrueOf-step : (g : Collection) (s : State) (d : Collection) (ts : List Key) → Narrows s.own s.shared d ts → IsTrueOf g s → IsTrueOf g (record s { own = d; shared = ts })
+IsTrueOf-step g s d ts n t = record {
+  taken = λ theirs own p q. StandsFor-Narrows g s.own d s.shared ts theirs own n (t.taken theirs own p q);
+  copies = λ theirs own p q. IsCopy-Narrows g s.own d s.shared ts theirs own n (t.copies theirs own p q);
+}
+
+pub IsTrueOf-take : (f g : Collection) (s : State) (now : Memo) (a b : Key) → IsOneWith f g → a.id.number ≡ f.number → AddsPair s.taken now a b → StandsFor f s.own a b → IsTrueOf g s → IsTrueOf g (record s { taken = now })
+IsTrueOf-take f g s now a b one number adds new t = record {
+  taken = pair_or_before (λ x y. x.id.number ≡ g.number → StandsFor g s.own x y) s.taken now a b adds
+      (λ q. subst (λ (e : Collection). StandsFor e s.own a b) (sym (one (sym q ∙ number))) new) t.taken;
+  copies = t.copies;
+}
+
+pub IsTrueOf-copy : (f g : Collection) (s : State) (now : Memo) (a b : Key) → IsOneWith f g → a.id.number ≡ f.number → AddsPair s.copies now a b → IsCopy f s.own s.shared a b → IsTrueOf g s → IsTrueOf g (record s { copies = now })
+IsTrueOf-copy f g s now a b one number adds new t = record {
+  taken = t.taken;
+  copies = pair_or_before (λ x y. x.id.number ≡ g.number → IsCopy g s.own s.shared x y) s.copies now a b adds
+      (λ q. subst (λ (e : Collection). IsCopy e s.own s.shared a b) (sym (one (sym q ∙ number))) new) t.copies;
+}

@@ -1,0 +1,14 @@
+pub mod Identified
+pub mod Apart
+pub mod Narrows
+pub mod Standing
+pub mod Imports
+pub mod State
+pub mod Remembers
+pub mod Taking
+pub mod Last
+pub mod Entering
+pub mod Values
+pub mod Leaves
+pub mod Traced
+pub mod Laws

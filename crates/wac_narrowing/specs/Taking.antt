@@ -1,0 +1,53 @@
+-- What was taken in, and what was copied: ids, items, and named items one after another.
+use Rattle.std.specs.Prelude.{◌≡◌, List, [], ◌∷◌, Some}
+use Rattle.wac_model.specs.Text.{Text}
+use Rattle.wac_model.specs.ItemTree.{Kind}
+use Rattle.wac_model.specs.Order.{Fits}
+use Rattle.wac_component.specs.Collection.{Collection}
+use Rattle.wac_component.specs.Key.{Key, Each, AllStand, item_keys}
+use Rattle.wac_component.specs.Tree.{item_tree}
+use Rattle.wac_component.specs.declared.items.ItemKind.{ItemKind}
+use Rattle.wac_component.specs.Entries.{identifier_at}
+use Rattle.wac_component.specs.Open.{OpenReaches}
+use Rattle.wac_merge.specs.Items.{entry_item}
+use Rattle.wac_narrowing.specs.Apart.{AreApart}
+use Rattle.wac_narrowing.specs.Identified.{IsQuiet, IsCovered}
+use Rattle.wac_narrowing.specs.Remembers.{IsRememberedAs}
+use Rattle.wac_narrowing.specs.State.{State, Memo}
+
+-- the two entries have the same tree
+abbrev pub SameTree : Collection → Collection → Key → Key → Type 0
+SameTree f c theirs own = (k : Kind) → item_tree c (entry_item k own) ≡ item_tree f (entry_item k theirs)
+
+-- each identified interface to which the id openly leads was taken in
+abbrev pub IsClosedIn : Collection → Memo → Key → Type 0
+IsClosedIn f now theirs = (t : Key) (n : Text) → OpenReaches f theirs t → identifier_at f t ≡ Some n → (o : Key) × (now t ≡ Some o)
+
+-- the own entry is one that may be remembered for the id
+pub record IsTakenKey {T : Type 0} (track : Text → T) (f : Collection) (s : State) (theirs own : Key) : Type 0 where
+  pub remembered : IsRememberedAs track f s.own s.shared theirs own
+  pub covered : IsCovered s.own s.shared own
+  pub closed : IsClosedIn f s.taken theirs
+
+-- the same of two lists of ids, one by one
+pub data AreTakenKeys {T : Type 0} (track : Text → T) (f : Collection) (s : State) : List Key → List Key → Type 0 where
+  no_keys : AreTakenKeys track f s [] []
+  one_key : {i j : Key} {is js : List Key} → IsTakenKey track f s i j → AreTakenKeys track f s is js → AreTakenKeys track f s (i ∷ is) (j ∷ js)
+
+-- an own item that stands, fits where the foreign one is asked for, and names what may be remembered for what that names; it has the same tree where the foreign one openly leads to no identified interface
+pub record IsTakenItem {T : Type 0} (track : Text → T) (f : Collection) (s : State) (x y : ItemKind) : Type 0 where
+  pub stands : AllStand s.own (item_keys y)
+  pub fits : Fits (item_tree s.own y) (item_tree f x)
+  pub quiet : Each (IsQuiet f) (item_keys x) → item_tree s.own y ≡ item_tree f x
+  pub keys : AreTakenKeys track f s (item_keys x) (item_keys y)
+
+-- an own item that is a copy of the foreign one
+pub record IsCopiedItem (f : Collection) (s : State) (x y : ItemKind) : Type 0 where
+  pub stands : AllStand s.own (item_keys y)
+  pub apart : AreApart s.own s.shared (item_keys y)
+  pub same : item_tree s.own y ≡ item_tree f x
+
+-- the same names in the same order, each with two values of this relation
+pub data AreMapped {V W : Type 0} (R : V → W → Type 0) : List (Text × V) → List (Text × W) → Type 0 where
+  none : AreMapped R [] []
+  one : {n : Text} {x : V} {y : W} {xs : List (Text × V)} {ys : List (Text × W)} → R x y → AreMapped R xs ys → AreMapped R ((n, x) ∷ xs) ((n, y) ∷ ys)
