@@ -22,5 +22,5 @@ mod listed;
 mod modules;
 mod values;
 
-pub use core_words::extern_word;
+pub use core_words::push_extern;
 pub use items::item_text;

@@ -1,12 +1,12 @@
 //! The texts of core modules.
 
-use super::core_words::extern_word;
+use super::core_words::push_extern;
 use super::listed::listed_values;
 use indexmap::IndexMap;
 use std::alloc::{AllocError, Global};
 use std::collections::BTreeMap;
 use wac_core::{CoreExtern, ModuleType};
-use wac_script_syntax::name_word;
+use wac_script_syntax::push_name;
 
 // The text of a core module.
 pub(crate) fn module_text(alloc: Global, ty: &ModuleType) -> Result<String, AllocError> {
@@ -34,10 +34,13 @@ fn import_text(
     name: &(String, String),
     of: &CoreExtern,
 ) -> Result<String, AllocError> {
-    let module = name_word(alloc, &name.0)?;
-    let name = name_word(alloc, &name.1)?;
-    let word = extern_word(alloc, of)?;
-    format!(in alloc; "{module},{name}={word}")
+    let mut text = String::new(alloc);
+    push_name(&mut text, &name.0)?;
+    text.push_str(",")?;
+    push_name(&mut text, &name.1)?;
+    text.push_str("=")?;
+    push_extern(&mut text, of)?;
+    Ok(text)
 }
 
 // The exports of a core module in the order of their names, with a semicolon between them.
@@ -54,7 +57,9 @@ fn exports_text(
 
 // The text of an export.
 fn export_text(alloc: Global, name: &String, of: &CoreExtern) -> Result<String, AllocError> {
-    let name = name_word(alloc, name)?;
-    let word = extern_word(alloc, of)?;
-    format!(in alloc; "{name}={word}")
+    let mut text = String::new(alloc);
+    push_name(&mut text, name)?;
+    text.push_str("=")?;
+    push_extern(&mut text, of)?;
+    Ok(text)
 }

@@ -4,47 +4,51 @@ ghost use Rattle.std.specs.Prelude.{◌≡◌, OnErr};
 
 use super::contents::{func_of, interface_of, resource_of, world_of};
 use super::definitions::definition_of;
-use super::error::EntryError;
 use super::modules::module_of;
 use super::names::{
     find_defined, find_func, find_interface, find_module, find_resource, find_world,
 };
-use std::alloc::Global;
+use std::alloc::{AllocError, Global};
 use wac_component::{ReplaceError, Types};
-use wac_script_syntax::Content;
+use wac_script_syntax::{Content, EntryName, ScriptError, Sort};
 
 /// Puts the entry that a content describes last in the list of its sort. Refused, the collection is
-/// unchanged: `NoEntry` where an index in the content names no entry, `Memory` for want of memory.
-///
-/// Where a name stands twice in one map, the later one's value takes the place of the earlier one's.
-pub fn add(alloc: Global, types: &mut Types, content: Content) -> Result<(), EntryError>
+/// unchanged: `NoEntry` where an index in the content names no entry, `Memory` for want of memory, another
+/// error where the content's words are malformed.
+pub fn add<'a>(
+    alloc: Global,
+    types: &mut Types,
+    content: Content<'a>,
+) -> Result<(), ScriptError<'a>>
     ensures number { types.new.number ≡ types.old.number }
     ensures err { OnErr result (types.new ≡ types.old) }
 {
-    match content {
-        Content::Definition(definition) => {
-            let content = definition_of(alloc, types, definition)?;
-            let _ = types.add_defined_type(content)?;
+    let sort = content.sort;
+    let words = &content.words;
+    match sort {
+        Sort::DefinedType => {
+            let entry = definition_of(alloc, types, words)?;
+            let _ = types.add_defined_type(entry)?;
         }
-        Content::Resource(resource) => {
-            let content = resource_of(types, resource)?;
-            let _ = types.add_resource(content)?;
+        Sort::Resource => {
+            let entry = resource_of(alloc, types, words)?;
+            let _ = types.add_resource(entry)?;
         }
-        Content::Function(function) => {
-            let content = func_of(alloc, types, function)?;
-            let _ = types.add_func_type(content)?;
+        Sort::Func => {
+            let entry = func_of(alloc, types, words)?;
+            let _ = types.add_func_type(entry)?;
         }
-        Content::Interface(interface) => {
-            let content = interface_of(alloc, types, interface)?;
-            let _ = types.add_interface(content)?;
+        Sort::Interface => {
+            let entry = interface_of(alloc, types, words)?;
+            let _ = types.add_interface(entry)?;
         }
-        Content::World(world) => {
-            let content = world_of(alloc, types, world)?;
-            let _ = types.add_world(content)?;
+        Sort::World => {
+            let entry = world_of(alloc, types, words)?;
+            let _ = types.add_world(entry)?;
         }
-        Content::Module(module) => {
-            let content = module_of(alloc, module)?;
-            let _ = types.add_module_type(content)?;
+        Sort::Module => {
+            let entry = module_of(alloc, words)?;
+            let _ = types.add_module_type(entry)?;
         }
     }
     Ok(())
@@ -59,58 +63,59 @@ pub enum Replacement {
     Cycle,
 }
 
-/// Puts the entry that a content describes in the place of the one at an index in the list of its sort,
-/// unless it leads back to it: then, and where the call is refused, the collection is unchanged.
-/// `NoEntry` where an index names no entry, `Memory` for want of memory.
+/// Puts the entry of its sort that words describe in the place of the one of this name, unless it leads
+/// back to it: then, and where the call is refused, the collection is unchanged. `NoEntry` where a name
+/// names no entry, `Memory` for want of memory, another error where the words are malformed.
 ///
 /// Who replaces an entry empties each checker's cache that holds an item which leads to it.
-pub fn replace(
+pub fn replace<'a>(
     alloc: Global,
     types: &mut Types,
-    index: usize,
-    content: Content,
-) -> Result<Replacement, EntryError>
+    entry: EntryName,
+    words: &[&'a str],
+) -> Result<Replacement, ScriptError<'a>>
     ensures { types.new.number ≡ types.old.number }
 {
-    match content {
-        Content::Definition(definition) => {
+    let index = entry.index;
+    match entry.sort {
+        Sort::DefinedType => {
             let id = find_defined(types, index)?;
-            let content = definition_of(alloc, types, definition)?;
-            outcome(types.replace_defined_type(id, content))
+            let content = definition_of(alloc, types, words)?;
+            Ok(outcome(types.replace_defined_type(id, content))?)
         }
-        Content::Resource(resource) => {
+        Sort::Resource => {
             let id = find_resource(types, index)?;
-            let content = resource_of(types, resource)?;
-            outcome(types.replace_resource(id, content))
+            let content = resource_of(alloc, types, words)?;
+            Ok(outcome(types.replace_resource(id, content))?)
         }
-        Content::Function(function) => {
+        Sort::Func => {
             let id = find_func(types, index)?;
-            let content = func_of(alloc, types, function)?;
-            outcome(types.replace_func_type(id, content))
+            let content = func_of(alloc, types, words)?;
+            Ok(outcome(types.replace_func_type(id, content))?)
         }
-        Content::Interface(interface) => {
+        Sort::Interface => {
             let id = find_interface(types, index)?;
-            let content = interface_of(alloc, types, interface)?;
-            outcome(types.replace_interface(id, content))
+            let content = interface_of(alloc, types, words)?;
+            Ok(outcome(types.replace_interface(id, content))?)
         }
-        Content::World(world) => {
+        Sort::World => {
             let id = find_world(types, index)?;
-            let content = world_of(alloc, types, world)?;
-            outcome(types.replace_world(id, content))
+            let content = world_of(alloc, types, words)?;
+            Ok(outcome(types.replace_world(id, content))?)
         }
-        Content::Module(module) => {
+        Sort::Module => {
             let id = find_module(types, index)?;
-            let content = module_of(alloc, module)?;
-            outcome(types.replace_module_type(id, content))
+            let content = module_of(alloc, words)?;
+            Ok(outcome(types.replace_module_type(id, content))?)
         }
     }
 }
 
 // What a call that replaces an entry came to.
-fn outcome<T: Drop>(replaced: Result<(), ReplaceError<T>>) -> Result<Replacement, EntryError> {
+fn outcome<T: Drop>(replaced: Result<(), ReplaceError<T>>) -> Result<Replacement, AllocError> {
     match replaced {
         Ok(()) => Ok(Replacement::Done),
         Err(ReplaceError::Cycle(_)) => Ok(Replacement::Cycle),
-        Err(ReplaceError::Memory(_)) => Err(EntryError::Memory),
+        Err(ReplaceError::Memory(_)) => Err(AllocError),
     }
 }

@@ -1,151 +1,158 @@
-//! The contents of entries, with the ids of what they name.
+//! The contents of entries, as words describe them.
 
-ghost use Rattle.std.specs.Prelude.{◌∷◌, [], IfOk};
-ghost use Rattle.std.specs.Option.{option_map};
-ghost use Rattle.wac_component.specs.Content.{named, alias_content, use_content, resource_content, func_content, interface_content, world_content};
-ghost use Rattle.wac_component.specs.Key.{AllStand, value_keys, item_keys, use_keys, optional_keys, named_keys, interface_key, alias_keys, resource_keys, func_keys, interface_keys, world_keys};
+ghost use Rattle.std.specs.Prelude.{IfOk};
+ghost use Rattle.wac_component.specs.Content.{named, use_content, resource_content, func_content, interface_content, world_content};
+ghost use Rattle.wac_component.specs.Key.{AllStand, value_keys, item_keys, use_keys, named_keys, resource_keys, func_keys, interface_keys, world_keys};
 
-use super::error::EntryError;
-use super::names::{find_interface, find_item, find_resource, find_value};
+use super::names::{
+    find_interface, find_item, find_optional_interface, find_optional_value, find_resource,
+    find_value,
+};
 use indexmap::IndexMap;
 use std::alloc::Global;
 use wac_component::{
-    FuncType, Interface, InterfaceId, ItemKind, Resource, ResourceAlias, Types, UsedType,
-    ValueType, World,
+    FuncType, Interface, ItemKind, Resource, ResourceAlias, Types, UsedType, ValueType, World,
 };
-use wac_script_syntax::{Alias, Function, Item, Named, Value};
+use wac_script_syntax::{
+    ScriptError, read_interface, read_item, read_name, read_optional_interface, read_optional_name,
+    read_optional_value, read_resource, read_value, split_named, unexpected,
+};
 
-// A value type, if there is one.
-pub(crate) fn optional_value(
-    types: &Types,
-    value: Option<Value>,
-) -> Result<Option<ValueType>, EntryError>
-    ensures { IfOk result (λ ty. AllStand types.now (optional_keys value_keys ty)) }
-{
-    match value {
-        Some(value) => Ok(Some(find_value(types, value)?)),
-        None => Ok(None),
-    }
-}
-
-// The value types of parameters or fields.
-pub(crate) fn named_values(
+/// The value types of parameters or fields, which words `NAME=VALUE` name.
+pub(crate) fn named_values<'a>(
     alloc: Global,
     types: &Types,
-    values: Vec<Named<Value>>,
-) -> Result<IndexMap<String, ValueType>, EntryError>
+    words: &[&'a str],
+) -> Result<IndexMap<String, ValueType>, ScriptError<'a>>
     ensures { IfOk result (λ found. AllStand types.now (named_keys value_keys (named (λ t. t) found.entries))) }
 {
     let mut found = IndexMap::new(alloc);
-    for value in values {
-        let Named { name, of } = value;
-        found.insert(name, find_value(types, of)?)?;
+    for &word in words {
+        let (name, value) = split_named("`NAME=VALUE`", word)?;
+        let ty = find_value(types, read_value(value)?)?;
+        let key = read_name(alloc, name)?;
+        let before = found.insert(key, ty)?;
+        if before.is_some() {
+            return Err(ScriptError::Repeated(name));
+        }
     }
     Ok(found)
 }
 
-// The items of imports or exports.
-fn named_items(
+// The items of the members `NAME=ITEM` of one part, whose letter and colon each of them begins with.
+fn named_items<'a>(
     alloc: Global,
     types: &Types,
-    items: Vec<Named<Item>>,
-) -> Result<IndexMap<String, ItemKind>, EntryError>
+    part: &str,
+    members: &[&'a str],
+) -> Result<IndexMap<String, ItemKind>, ScriptError<'a>>
     ensures { IfOk result (λ kinds. AllStand types.now (named_keys item_keys (named (λ k. k) kinds.entries))) }
 {
     let mut kinds = IndexMap::new(alloc);
-    for item in items {
-        let Named { name, of } = item;
-        kinds.insert(name, find_item(types, of)?)?;
+    for &member in members {
+        let Some(word) = member.strip_prefix(part) else {
+            continue;
+        };
+        let (name, item) = split_named("`NAME=ITEM`", word)?;
+        let kind = find_item(types, read_item(item)?)?;
+        let key = read_name(alloc, name)?;
+        let before = kinds.insert(key, kind)?;
+        if before.is_some() {
+            return Err(ScriptError::Repeated(name));
+        }
     }
     Ok(kinds)
 }
 
-// Where types are used from.
-fn named_uses(
+// Where types are used from: the members `u:NAME=iN` and `u:NAME=iN=NAME`.
+fn named_uses<'a>(
     alloc: Global,
     types: &Types,
-    uses: Vec<Named<wac_script_syntax::UsedType>>,
-) -> Result<IndexMap<String, UsedType>, EntryError>
+    members: &[&'a str],
+) -> Result<IndexMap<String, UsedType>, ScriptError<'a>>
     ensures { IfOk result (λ found. AllStand types.now (named_keys use_keys (named use_content found.entries))) }
 {
     let mut found = IndexMap::new(alloc);
-    for used in uses {
-        let Named { name, of } = used;
-        found.insert(name, used_type(types, of)?)?;
+    for &member in members {
+        let Some(word) = member.strip_prefix("u:") else {
+            continue;
+        };
+        let (name, of) = split_named("`NAME=iN[=NAME]`", word)?;
+        let used = used_type(alloc, types, of)?;
+        let key = read_name(alloc, name)?;
+        let before = found.insert(key, used)?;
+        if before.is_some() {
+            return Err(ScriptError::Repeated(name));
+        }
     }
     Ok(found)
 }
 
-fn used_type(types: &Types, of: wac_script_syntax::UsedType) -> Result<UsedType, EntryError>
+// Where a type is used from: `iN`, or `iN=NAME` where it has another name there.
+fn used_type<'a>(alloc: Global, types: &Types, word: &'a str) -> Result<UsedType, ScriptError<'a>>
     ensures { IfOk result (λ used. AllStand types.now (use_keys (use_content used))) }
 {
-    let wac_script_syntax::UsedType {
-        interface,
-        original,
-    } = of;
+    let Some((interface, original)) = word.split_once('=') else {
+        return Ok(UsedType {
+            interface: find_interface(types, read_interface(word)?)?,
+            name: None,
+        });
+    };
+    let interface = find_interface(types, read_interface(interface)?)?;
     Ok(UsedType {
-        interface: find_interface(types, interface)?,
-        name: original,
+        interface,
+        name: Some(read_name(alloc, original)?),
     })
 }
 
-// The interface of an index, if there is one.
-fn optional_interface(
-    types: &Types,
-    index: Option<usize>,
-) -> Result<Option<InterfaceId>, EntryError>
-    ensures { IfOk result (λ id. AllStand types.now (optional_keys (λ i. interface_key i ∷ []) id)) }
-{
-    match index {
-        Some(index) => Ok(Some(find_interface(types, index)?)),
-        None => Ok(None),
-    }
-}
-
-fn resource_alias(types: &Types, alias: Alias) -> Result<ResourceAlias, EntryError>
-    ensures { IfOk result (λ found. AllStand types.now (alias_keys (alias_content found))) }
-{
-    let owner = optional_interface(types, alias.owner)?;
-    let source = find_resource(types, alias.source)?;
-    Ok(ResourceAlias { owner, source })
-}
-
-fn optional_alias(types: &Types, alias: Option<Alias>) -> Result<Option<ResourceAlias>, EntryError>
-    ensures { IfOk result (λ found. AllStand types.now (optional_keys alias_keys (option_map alias_content found))) }
-{
-    match alias {
-        Some(alias) => Ok(Some(resource_alias(types, alias)?)),
-        None => Ok(None),
-    }
-}
-
-// A resource.
-pub(crate) fn resource_of(
-    types: &Types,
-    resource: wac_script_syntax::Resource,
-) -> Result<Resource, EntryError>
-    ensures { IfOk result (λ r. AllStand types.now (resource_keys (resource_content r))) }
-{
-    let wac_script_syntax::Resource { name, alias } = resource;
-    let alias = optional_alias(types, alias)?;
-    Ok(Resource { name, alias })
-}
-
-// A function type.
-pub(crate) fn func_of(
+/// A resource: `NAME`, or `NAME rSOURCE iOWNER|-` for an alias.
+pub(crate) fn resource_of<'a>(
     alloc: Global,
     types: &Types,
-    function: Function,
-) -> Result<FuncType, EntryError>
+    words: &[&'a str],
+) -> Result<Resource, ScriptError<'a>>
+    ensures { IfOk result (λ r. AllStand types.now (resource_keys (resource_content r))) }
+{
+    match *words {
+        [name] => Ok(Resource {
+            name: read_name(alloc, name)?,
+            alias: None,
+        }),
+        [name, source, owner] => {
+            let source = find_resource(types, read_resource(source)?)?;
+            let owner = find_optional_interface(types, read_optional_interface(owner)?)?;
+            Ok(Resource {
+                name: read_name(alloc, name)?,
+                alias: Some(ResourceAlias { owner, source }),
+            })
+        }
+        _ => Err(ScriptError::Misused("res NAME [rSOURCE iOWNER|-]")),
+    }
+}
+
+// Whether a word says that a function is asynchronous.
+fn read_is_async(word: &str) -> Result<bool, ScriptError<'_>> {
+    match word {
+        "sync" => Ok(false),
+        "async" => Ok(true),
+        _ => Err(unexpected("`sync` or `async`", word)),
+    }
+}
+
+/// A function type: `sync|async RESULT|- (NAME=VALUE)*`.
+pub(crate) fn func_of<'a>(
+    alloc: Global,
+    types: &Types,
+    words: &[&'a str],
+) -> Result<FuncType, ScriptError<'a>>
     ensures { IfOk result (λ f. AllStand types.now (func_keys (func_content f))) }
 {
-    let Function {
-        is_async,
-        result,
-        params,
-    } = function;
+    let [kind, value, params @ ..] = words else {
+        return Err(ScriptError::Misused("func sync|async RESULT|- (NAME=VALUE)*"));
+    };
+    let is_async = read_is_async(kind)?;
+    let result = find_optional_value(types, read_optional_value(value)?)?;
     let params = named_values(alloc, types, params)?;
-    let result = optional_value(types, result)?;
     Ok(FuncType {
         params,
         result,
@@ -153,37 +160,57 @@ pub(crate) fn func_of(
     })
 }
 
-// An interface.
-pub(crate) fn interface_of(
+/// That each member is one of these parts, whose letters stand before a colon.
+pub(crate) fn check_parts<'a>(
+    parts: &[&str],
+    expected: &'static str,
+    members: &[&'a str],
+) -> Result<(), ScriptError<'a>> {
+    for &member in members {
+        match member.split_once(':') {
+            Some((part, _)) if (&*parts).contains(&part) => {}
+            _ => return Err(unexpected(expected, member)),
+        }
+    }
+    Ok(())
+}
+
+/// An interface: `ID|- (u:NAME=iN[=NAME])* (e:NAME=ITEM)*`.
+pub(crate) fn interface_of<'a>(
     alloc: Global,
     types: &Types,
-    interface: wac_script_syntax::Interface,
-) -> Result<Interface, EntryError>
+    words: &[&'a str],
+) -> Result<Interface, ScriptError<'a>>
     ensures { IfOk result (λ i. AllStand types.now (interface_keys (interface_content i))) }
 {
-    let wac_script_syntax::Interface { id, uses, exports } = interface;
-    let uses = named_uses(alloc, types, uses)?;
-    let exports = named_items(alloc, types, exports)?;
+    let Some((id, members)) = words.split_first() else {
+        return Err(ScriptError::Misused("iface ID|- (u:NAME=iN[=NAME])* (e:NAME=ITEM)*"));
+    };
+    check_parts(&["u", "e"], "`u:..` or `e:..`", members)?;
+    let uses = named_uses(alloc, types, members)?;
+    let exports = named_items(alloc, types, "e:", members)?;
+    let id = read_optional_name(alloc, id)?;
     Ok(Interface { id, uses, exports })
 }
 
-// A world.
-pub(crate) fn world_of(
+/// A world: `ID|- (u:NAME=iN[=NAME])* (m:NAME=ITEM)* (e:NAME=ITEM)*`.
+pub(crate) fn world_of<'a>(
     alloc: Global,
     types: &Types,
-    world: wac_script_syntax::World,
-) -> Result<World, EntryError>
+    words: &[&'a str],
+) -> Result<World, ScriptError<'a>>
     ensures { IfOk result (λ w. AllStand types.now (world_keys (world_content w))) }
 {
-    let wac_script_syntax::World {
-        id,
-        uses,
-        imports,
-        exports,
-    } = world;
-    let uses = named_uses(alloc, types, uses)?;
-    let imports = named_items(alloc, types, imports)?;
-    let exports = named_items(alloc, types, exports)?;
+    let Some((id, members)) = words.split_first() else {
+        return Err(ScriptError::Misused(
+            "world ID|- (u:NAME=iN[=NAME])* (m:NAME=ITEM)* (e:NAME=ITEM)*",
+        ));
+    };
+    check_parts(&["u", "m", "e"], "`u:..`, `m:..` or `e:..`", members)?;
+    let uses = named_uses(alloc, types, members)?;
+    let imports = named_items(alloc, types, "m:", members)?;
+    let exports = named_items(alloc, types, "e:", members)?;
+    let id = read_optional_name(alloc, id)?;
     Ok(World {
         id,
         uses,

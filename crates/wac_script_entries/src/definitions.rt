@@ -1,106 +1,166 @@
-//! The contents of defined types, with the ids of what they name.
+//! The contents of defined types, as words describe them.
 
 ghost use Rattle.std.specs.Prelude.{IfOk};
 ghost use Rattle.std.specs.List.{flat_map};
 ghost use Rattle.wac_component.specs.Content.{named, defined_content};
 ghost use Rattle.wac_component.specs.Key.{AllStand, value_keys, optional_keys, named_keys, defined_keys};
 
-use super::contents::{named_values, optional_value};
-use super::error::EntryError;
-use super::names::find_value;
+use super::contents::named_values;
+use super::names::{find_optional_value, find_value};
 use indexmap::{IndexMap, IndexSet};
 use std::alloc::Global;
 use wac_component::{DefinedType, Enum, Flags, Record, Types, ValueType, Variant};
-use wac_script_syntax::{Definition, Named, Value};
+use wac_script_syntax::{
+    ScriptError, Value, read_name, read_optional_value, read_small_number, read_value, split_named,
+    unexpected,
+};
 
 // The names of flags or of the cases of an enum.
-fn name_set(alloc: Global, names: Vec<String>) -> Result<IndexSet<String>, EntryError> {
-    let mut set = IndexSet::new(alloc);
-    for name in names {
-        set.insert(name)?;
+fn name_set<'a>(alloc: Global, words: &[&'a str]) -> Result<IndexSet<String>, ScriptError<'a>> {
+    let mut names = IndexSet::new(alloc);
+    for &word in words {
+        let name = read_name(alloc, word)?;
+        let is_new = names.insert(name)?;
+        if !is_new {
+            return Err(ScriptError::Repeated(word));
+        }
     }
-    Ok(set)
+    Ok(names)
 }
 
 // The value types of a tuple.
-fn value_types(
+fn value_types<'a>(
     alloc: Global,
     types: &Types,
-    values: Vec<Value>,
-) -> Result<Vec<ValueType>, EntryError>
+    words: &[&'a str],
+) -> Result<Vec<ValueType>, ScriptError<'a>>
     ensures { IfOk result (λ found. AllStand types.now (flat_map value_keys found.items)) }
 {
     let mut found = Vec::new(alloc);
-    for value in values {
-        found.push(find_value(types, value)?)?;
+    for &word in words {
+        let ty = find_value(types, read_value(word)?)?;
+        found.push(ty)?;
     }
     Ok(found)
 }
 
-// The cases of a variant.
-fn cases_of(
+// The cases of a variant, which words `NAME=VALUE` and `NAME=-` name.
+fn cases_of<'a>(
     alloc: Global,
     types: &Types,
-    values: Vec<Named<Option<Value>>>,
-) -> Result<IndexMap<String, Option<ValueType>>, EntryError>
+    words: &[&'a str],
+) -> Result<IndexMap<String, Option<ValueType>>, ScriptError<'a>>
     ensures { IfOk result (λ cases. AllStand types.now (named_keys (optional_keys value_keys) (named (λ t. t) cases.entries))) }
 {
     let mut cases = IndexMap::new(alloc);
-    for value in values {
-        let Named { name, of } = value;
-        cases.insert(name, optional_value(types, of)?)?;
+    for &word in words {
+        let (name, value) = split_named("`NAME=VALUE` or `NAME=-`", word)?;
+        let ty = find_optional_value(types, read_optional_value(value)?)?;
+        let key = read_name(alloc, name)?;
+        let before = cases.insert(key, ty)?;
+        if before.is_some() {
+            return Err(ScriptError::Repeated(name));
+        }
     }
     Ok(cases)
 }
 
-fn result_of(
-    types: &Types,
-    ok: Option<Value>,
-    err: Option<Value>,
-) -> Result<DefinedType, EntryError>
+// The word that stands alone after a kind, in this form.
+fn only_word<'a>(form: &'static str, words: &[&'a str]) -> Result<&'a str, ScriptError<'a>> {
+    match *words {
+        [word] => Ok(word),
+        _ => Err(ScriptError::Misused(form)),
+    }
+}
+
+// The value type that it names.
+fn only_value<'a>(form: &'static str, words: &[&'a str]) -> Result<Value, ScriptError<'a>> {
+    read_value(only_word(form, words)?)
+}
+
+// The value type that it names, or none for `-`.
+fn only_optional_value<'a>(
+    form: &'static str,
+    words: &[&'a str],
+) -> Result<Option<Value>, ScriptError<'a>> {
+    read_optional_value(only_word(form, words)?)
+}
+
+// A list of a fixed size.
+fn fixed_of<'a>(types: &Types, words: &[&'a str]) -> Result<DefinedType, ScriptError<'a>>
     ensures { IfOk result (λ ty. AllStand types.now (defined_keys (defined_content ty))) }
 {
-    let ok = optional_value(types, ok)?;
-    let err = optional_value(types, err)?;
+    let [item, size] = *words else {
+        return Err(ScriptError::Misused("def fixed VALUE SIZE"));
+    };
+    let item = find_value(types, read_value(item)?)?;
+    Ok(DefinedType::FixedSizeList(item, read_small_number(size)?))
+}
+
+fn result_of<'a>(types: &Types, words: &[&'a str]) -> Result<DefinedType, ScriptError<'a>>
+    ensures { IfOk result (λ ty. AllStand types.now (defined_keys (defined_content ty))) }
+{
+    let [ok, err] = *words else {
+        return Err(ScriptError::Misused("def result VALUE|- VALUE|-"));
+    };
+    let ok = find_optional_value(types, read_optional_value(ok)?)?;
+    let err = find_optional_value(types, read_optional_value(err)?)?;
     Ok(DefinedType::Result { ok, err })
 }
 
 // A record of these fields.
-fn record_of(
+fn record_of<'a>(
     alloc: Global,
     types: &Types,
-    fields: Vec<Named<Value>>,
-) -> Result<DefinedType, EntryError>
+    words: &[&'a str],
+) -> Result<DefinedType, ScriptError<'a>>
     ensures { IfOk result (λ ty. AllStand types.now (defined_keys (defined_content ty))) }
 {
-    let fields = named_values(alloc, types, fields)?;
+    let fields = named_values(alloc, types, words)?;
     Ok(DefinedType::Record(Record { fields }))
 }
 
-// A defined type.
-pub(crate) fn definition_of(
+/// A defined type, by its kind and the words after it.
+pub(crate) fn definition_of<'a>(
     alloc: Global,
     types: &Types,
-    definition: Definition,
-) -> Result<DefinedType, EntryError>
+    words: &[&'a str],
+) -> Result<DefinedType, ScriptError<'a>>
     ensures { IfOk result (λ ty. AllStand types.now (defined_keys (defined_content ty))) }
 {
-    match definition {
-        Definition::Tuple(values) => Ok(DefinedType::Tuple(value_types(alloc, types, values)?)),
-        Definition::List(value) => Ok(DefinedType::List(find_value(types, value)?)),
-        Definition::Option(value) => Ok(DefinedType::Option(find_value(types, value)?)),
-        Definition::Alias(value) => Ok(DefinedType::Alias(find_value(types, value)?)),
-        Definition::Fixed(value, size) => {
-            Ok(DefinedType::FixedSizeList(find_value(types, value)?, size))
+    let Some((&kind, words)) = words.split_first() else {
+        return Err(ScriptError::Misused("def KIND .."));
+    };
+    match kind {
+        "tuple" => Ok(DefinedType::Tuple(value_types(alloc, types, words)?)),
+        "list" => {
+            let value = only_value("def list VALUE", words)?;
+            Ok(DefinedType::List(find_value(types, value)?))
         }
-        Definition::Result { ok, err } => result_of(types, ok, err),
-        Definition::Stream(value) => Ok(DefinedType::Stream(optional_value(types, value)?)),
-        Definition::Future(value) => Ok(DefinedType::Future(optional_value(types, value)?)),
-        Definition::Variant(cases) => Ok(DefinedType::Variant(Variant {
-            cases: cases_of(alloc, types, cases)?,
+        "option" => {
+            let value = only_value("def option VALUE", words)?;
+            Ok(DefinedType::Option(find_value(types, value)?))
+        }
+        "alias" => {
+            let value = only_value("def alias VALUE", words)?;
+            Ok(DefinedType::Alias(find_value(types, value)?))
+        }
+        "fixed" => fixed_of(types, words),
+        "result" => result_of(types, words),
+        "stream" => {
+            let value = only_optional_value("def stream VALUE|-", words)?;
+            Ok(DefinedType::Stream(find_optional_value(types, value)?))
+        }
+        "future" => {
+            let value = only_optional_value("def future VALUE|-", words)?;
+            Ok(DefinedType::Future(find_optional_value(types, value)?))
+        }
+        "variant" => Ok(DefinedType::Variant(Variant {
+            cases: cases_of(alloc, types, words)?,
         })),
-        Definition::Record(fields) => record_of(alloc, types, fields),
-        Definition::Flags(names) => Ok(DefinedType::Flags(Flags(name_set(alloc, names)?))),
-        Definition::Enum(names) => Ok(DefinedType::Enum(Enum(name_set(alloc, names)?))),
+        "record" => record_of(alloc, types, words),
+        "flags" => Ok(DefinedType::Flags(Flags(name_set(alloc, words)?))),
+        "enum" => Ok(DefinedType::Enum(Enum(name_set(alloc, words)?))),
+        _ => Err(unexpected("a kind of defined type", kind)),
     }
 }

@@ -4,17 +4,15 @@
 mod adding;
 mod contents;
 mod definitions;
-mod error;
 mod lines;
 mod modules;
 mod names;
 mod words;
 
 pub use adding::{Replacement, add, replace};
-pub use error::{EntryError, EntryName, Sort};
 pub use lines::entry_line;
 pub use names::{
-    find_defined, find_func, find_interface, find_item, find_module, find_resource, find_type,
-    find_value, find_world,
+    find_defined, find_entry, find_func, find_interface, find_item, find_module, find_resource,
+    find_type, find_value, find_world,
 };
 pub use words::{item_word, type_word, value_word};

@@ -1,226 +1,224 @@
 //! The lines of a script that build the entries of a collection.
 
-use super::error::EntryError;
-use super::names::{
-    find_defined, find_func, find_interface, find_module, find_resource, find_world,
-};
-use super::words::{item_word, value_word};
+ghost use Rattle.wac_component.specs.Key.{AllStand, value_keys, type_keys};
+
+use super::words::{push_item, push_value};
 use indexmap::{IndexMap, IndexSet};
 use std::alloc::{AllocError, Global};
 use wac_component::{
-    DefinedType, FuncType, Interface, ItemKind, Resource, Types, UsedType, ValueType, World,
+    DefinedType, FuncType, Interface, ItemKind, Resource, Type, Types, UsedType, ValueType, World,
 };
 use wac_core::ModuleType;
-use wac_item_text::extern_word;
-use wac_script_syntax::{EntryWord, name_word};
+use wac_item_text::push_extern;
+use wac_script_syntax::push_name;
 
-/// The line that builds an entry, with its names in their order. `NoEntry`, with its name, comes exactly
-/// where there is none.
-pub fn entry_line(alloc: Global, types: &Types, entry: EntryWord) -> Result<String, EntryError> {
-    let line = match entry {
-        EntryWord::Defined(index) => definition_line(alloc, &types[find_defined(types, index)?])?,
-        EntryWord::Resource(index) => resource_line(alloc, &types[find_resource(types, index)?])?,
-        EntryWord::Func(index) => func_line(alloc, &types[find_func(types, index)?])?,
-        EntryWord::Interface(index) => {
-            interface_line(alloc, &types[find_interface(types, index)?])?
-        }
-        EntryWord::World(index) => world_line(alloc, &types[find_world(types, index)?])?,
-        EntryWord::Module(index) => module_line(alloc, &types[find_module(types, index)?])?,
-    };
+/// The line that builds an entry, with its names in their order; of a value type that is no entry, its
+/// word.
+pub fn entry_line(alloc: Global, types: &Types, entry: Type) -> Result<String, AllocError>
+    requires { AllStand types.now (type_keys entry) }
+{
+    let mut line = String::new(alloc);
+    push_entry(&mut line, types, entry)?;
     Ok(line)
 }
 
-// Puts a space and a word last.
-fn push_word(line: &mut String, word: &str) -> Result<(), AllocError> {
-    line.push_str(" ")?;
-    line.push_str(word)?;
+fn push_entry(line: &mut String, types: &Types, entry: Type) -> Result<(), AllocError>
+    requires { AllStand types.now (type_keys entry) }
+{
+    match entry {
+        Type::Value(ty) => push_value_type(line, types, ty),
+        Type::Resource(id) => push_resource(line, &types[id]),
+        Type::Func(id) => push_func(line, &types[id]),
+        Type::Interface(id) => push_interface(line, &types[id]),
+        Type::World(id) => push_world(line, &types[id]),
+        Type::Module(id) => push_module(line, &types[id]),
+    }
+}
+
+fn push_value_type(line: &mut String, types: &Types, ty: ValueType) -> Result<(), AllocError>
+    requires { AllStand types.now (value_keys ty) }
+{
+    let ValueType::Defined(id) = ty else {
+        return push_value(line, ty);
+    };
+    push_definition(line, &types[id])
+}
+
+// Puts a text last, and then a value type, or `-` where there is none.
+fn push_optional(line: &mut String, text: &str, ty: Option<ValueType>) -> Result<(), AllocError> {
+    line.push_str(text)?;
+    match ty {
+        Some(ty) => push_value(line, ty),
+        None => line.push_str("-"),
+    }
+}
+
+// Puts a text last, and then a name and `=`.
+fn push_key(line: &mut String, text: &str, name: &str) -> Result<(), AllocError> {
+    line.push_str(text)?;
+    push_name(line, name)?;
+    line.push_str("=")
+}
+
+fn push_definition(line: &mut String, ty: &DefinedType) -> Result<(), AllocError> {
+    match ty {
+        DefinedType::Tuple(items) => push_tuple(line, items),
+        DefinedType::List(ty) => push_optional(line, "def list ", Some(*ty)),
+        DefinedType::FixedSizeList(ty, size) => {
+            push_optional(line, "def fixed ", Some(*ty))?;
+            write!(line, " {size}")
+        }
+        DefinedType::Option(ty) => push_optional(line, "def option ", Some(*ty)),
+        DefinedType::Result { ok, err } => {
+            push_optional(line, "def result ", *ok)?;
+            push_optional(line, " ", *err)
+        }
+        DefinedType::Variant(variant) => push_cases(line, &variant.cases),
+        DefinedType::Record(record) => {
+            line.push_str("def record")?;
+            push_fields(line, &record.fields)
+        }
+        DefinedType::Flags(flags) => push_names(line, "def flags", &flags.0),
+        DefinedType::Enum(cases) => push_names(line, "def enum", &cases.0),
+        DefinedType::Alias(ty) => push_optional(line, "def alias ", Some(*ty)),
+        DefinedType::Stream(ty) => push_optional(line, "def stream ", *ty),
+        DefinedType::Future(ty) => push_optional(line, "def future ", *ty),
+    }
+}
+
+fn push_tuple(line: &mut String, items: &[ValueType]) -> Result<(), AllocError> {
+    line.push_str("def tuple")?;
+    for ty in items {
+        push_optional(line, " ", Some(*ty))?;
+    }
     Ok(())
 }
 
-// The word of a value type, if there is one.
-fn optional_word(alloc: Global, ty: Option<ValueType>) -> Result<String, AllocError> {
-    match ty {
-        Some(ty) => value_word(alloc, ty),
-        None => String::from_str(alloc, "-"),
-    }
-}
-
-fn definition_line(alloc: Global, ty: &DefinedType) -> Result<String, AllocError> {
-    match ty {
-        DefinedType::Tuple(items) => tuple_line(alloc, items),
-        DefinedType::List(ty) => format!(in alloc; "def list {}", value_word(alloc, *ty)?),
-        DefinedType::FixedSizeList(ty, size) => fixed_line(alloc, *ty, *size),
-        DefinedType::Option(ty) => format!(in alloc; "def option {}", value_word(alloc, *ty)?),
-        DefinedType::Result { ok, err } => result_line(alloc, *ok, *err),
-        DefinedType::Variant(variant) => variant_line(alloc, &variant.cases),
-        DefinedType::Record(record) => fields_line(alloc, "def record", &record.fields),
-        DefinedType::Flags(flags) => names_line(alloc, "def flags", &flags.0),
-        DefinedType::Enum(cases) => names_line(alloc, "def enum", &cases.0),
-        DefinedType::Alias(ty) => format!(in alloc; "def alias {}", value_word(alloc, *ty)?),
-        DefinedType::Stream(ty) => format!(in alloc; "def stream {}", optional_word(alloc, *ty)?),
-        DefinedType::Future(ty) => format!(in alloc; "def future {}", optional_word(alloc, *ty)?),
-    }
-}
-
-fn fixed_line(alloc: Global, ty: ValueType, size: u32) -> Result<String, AllocError> {
-    let word = value_word(alloc, ty)?;
-    format!(in alloc; "def fixed {word} {size}")
-}
-
-fn result_line(
-    alloc: Global,
-    ok: Option<ValueType>,
-    err: Option<ValueType>,
-) -> Result<String, AllocError> {
-    let ok = optional_word(alloc, ok)?;
-    let err = optional_word(alloc, err)?;
-    format!(in alloc; "def result {ok} {err}")
-}
-
-fn tuple_line(alloc: Global, items: &[ValueType]) -> Result<String, AllocError> {
-    let mut line = String::from_str(alloc, "def tuple")?;
-    for ty in items {
-        push_word(&mut line, &value_word(alloc, *ty)?)?;
-    }
-    Ok(line)
-}
-
-fn variant_line(
-    alloc: Global,
+fn push_cases(
+    line: &mut String,
     cases: &IndexMap<String, Option<ValueType>>,
-) -> Result<String, AllocError> {
-    let mut line = String::from_str(alloc, "def variant")?;
+) -> Result<(), AllocError> {
+    line.push_str("def variant")?;
     for (name, ty) in cases {
-        let name = name_word(alloc, name)?;
-        let ty = optional_word(alloc, *ty)?;
-        push_word(&mut line, &format!(in alloc; "{name}={ty}")?)?;
+        push_key(line, " ", name)?;
+        push_optional(line, "", *ty)?;
     }
-    Ok(line)
+    Ok(())
 }
 
-// What a line begins with, and then fields or parameters.
-fn fields_line(
-    alloc: Global,
-    begin: &str,
-    fields: &IndexMap<String, ValueType>,
-) -> Result<String, AllocError> {
-    let mut line = String::from_str(alloc, begin)?;
+// Puts fields or parameters last.
+fn push_fields(line: &mut String, fields: &IndexMap<String, ValueType>) -> Result<(), AllocError> {
     for (name, ty) in fields {
-        let name = name_word(alloc, name)?;
-        let ty = value_word(alloc, *ty)?;
-        push_word(&mut line, &format!(in alloc; "{name}={ty}")?)?;
+        push_key(line, " ", name)?;
+        push_value(line, *ty)?;
     }
-    Ok(line)
+    Ok(())
 }
 
-fn names_line(alloc: Global, begin: &str, names: &IndexSet<String>) -> Result<String, AllocError> {
-    let mut line = String::from_str(alloc, begin)?;
+// Puts a text last, and then names.
+fn push_names(line: &mut String, text: &str, names: &IndexSet<String>) -> Result<(), AllocError> {
+    line.push_str(text)?;
     for name in names {
-        push_word(&mut line, &name_word(alloc, name)?)?;
+        line.push_str(" ")?;
+        push_name(line, name)?;
     }
-    Ok(line)
+    Ok(())
 }
 
-fn resource_line(alloc: Global, resource: &Resource) -> Result<String, AllocError> {
-    let name = name_word(alloc, &resource.name)?;
+fn push_resource(line: &mut String, resource: &Resource) -> Result<(), AllocError> {
+    line.push_str("res ")?;
+    push_name(line, &resource.name)?;
     let Some(alias) = resource.alias else {
-        return format!(in alloc; "res {name}");
+        return Ok(());
     };
     let source = alias.source;
     match alias.owner {
-        Some(owner) => format!(in alloc; "res {name} r{source} i{owner}"),
-        None => format!(in alloc; "res {name} r{source} -"),
+        Some(owner) => write!(line, " r{source} i{owner}"),
+        None => write!(line, " r{source} -"),
     }
 }
 
-fn func_line(alloc: Global, func: &FuncType) -> Result<String, AllocError> {
-    let kind = if func.is_async { "async" } else { "sync" };
-    let result = optional_word(alloc, func.result)?;
-    let begin = format!(in alloc; "func {kind} {result}")?;
-    fields_line(alloc, &begin, &func.params)
+fn push_func(line: &mut String, func: &FuncType) -> Result<(), AllocError> {
+    let begin = if func.is_async {
+        "func async "
+    } else {
+        "func sync "
+    };
+    push_optional(line, begin, func.result)?;
+    push_fields(line, &func.params)
 }
 
-// The identifier of an interface or a world, if it has one.
-fn identifier_word(alloc: Global, id: &Option<String>) -> Result<String, AllocError> {
+// Puts a text last, and then the identifier of an interface or a world, or `-` where it has none.
+fn push_identifier(line: &mut String, text: &str, id: &Option<String>) -> Result<(), AllocError> {
+    line.push_str(text)?;
     match id {
-        Some(id) => name_word(alloc, id),
-        None => String::from_str(alloc, "-"),
+        Some(id) => push_name(line, id),
+        None => line.push_str("-"),
     }
 }
 
-fn interface_line(alloc: Global, interface: &Interface) -> Result<String, AllocError> {
-    let id = identifier_word(alloc, &interface.id)?;
-    let mut line = format!(in alloc; "iface {id}")?;
-    push_uses(alloc, &mut line, &interface.uses)?;
-    push_items(alloc, &mut line, "e", &interface.exports)?;
-    Ok(line)
+fn push_interface(line: &mut String, interface: &Interface) -> Result<(), AllocError> {
+    push_identifier(line, "iface ", &interface.id)?;
+    push_uses(line, &interface.uses)?;
+    push_items(line, " e:", &interface.exports)
 }
 
-fn world_line(alloc: Global, world: &World) -> Result<String, AllocError> {
-    let id = identifier_word(alloc, &world.id)?;
-    let mut line = format!(in alloc; "world {id}")?;
-    push_uses(alloc, &mut line, &world.uses)?;
-    push_items(alloc, &mut line, "m", &world.imports)?;
-    push_items(alloc, &mut line, "e", &world.exports)?;
-    Ok(line)
+fn push_world(line: &mut String, world: &World) -> Result<(), AllocError> {
+    push_identifier(line, "world ", &world.id)?;
+    push_uses(line, &world.uses)?;
+    push_items(line, " m:", &world.imports)?;
+    push_items(line, " e:", &world.exports)
 }
 
-fn push_uses(
-    alloc: Global,
-    line: &mut String,
-    uses: &IndexMap<String, UsedType>,
-) -> Result<(), AllocError> {
+fn push_uses(line: &mut String, uses: &IndexMap<String, UsedType>) -> Result<(), AllocError> {
     for (name, used) in uses {
-        push_word(line, &use_word(alloc, name, used)?)?;
+        push_key(line, " u:", name)?;
+        push_used_type(line, used)?;
     }
     Ok(())
 }
 
-fn use_word(alloc: Global, name: &str, used: &UsedType) -> Result<String, AllocError> {
-    let name = name_word(alloc, name)?;
+fn push_used_type(line: &mut String, used: &UsedType) -> Result<(), AllocError> {
     let interface = used.interface;
+    write!(line, "i{interface}")?;
     match &used.name {
         Some(original) => {
-            let original = name_word(alloc, original)?;
-            format!(in alloc; "u:{name}=i{interface}={original}")
+            line.push_str("=")?;
+            push_name(line, original)
         }
-        None => format!(in alloc; "u:{name}=i{interface}"),
+        None => Ok(()),
     }
 }
 
-// Puts imports, as `m`, or exports, as `e`, last.
+// Puts imports or exports last, each after this text.
 fn push_items(
-    alloc: Global,
     line: &mut String,
-    part: &str,
+    text: &str,
     items: &IndexMap<String, ItemKind>,
 ) -> Result<(), AllocError> {
     for (name, item) in items {
-        let name = name_word(alloc, name)?;
-        let item = item_word(alloc, *item)?;
-        push_word(line, &format!(in alloc; "{part}:{name}={item}")?)?;
+        push_key(line, text, name)?;
+        push_item(line, *item)?;
     }
     Ok(())
 }
 
-fn module_line(alloc: Global, ty: &ModuleType) -> Result<String, AllocError> {
-    let mut line = String::from_str(alloc, "module")?;
+fn push_module(line: &mut String, ty: &ModuleType) -> Result<(), AllocError> {
+    line.push_str("module")?;
     for (key, of) in &ty.imports {
         let (source, name) = key;
-        let source = name_word(alloc, source)?;
-        let name = name_word(alloc, name)?;
-        let of = extern_word(alloc, of)?;
-        push_word(&mut line, &format!(in alloc; "m:{source},{name}={of}")?)?;
+        line.push_str(" m:")?;
+        push_name(line, source)?;
+        push_key(line, ",", name)?;
+        push_extern(line, of)?;
     }
-    push_core_exports(alloc, &mut line, ty)?;
-    Ok(line)
+    push_core_exports(line, ty)
 }
 
-fn push_core_exports(alloc: Global, line: &mut String, ty: &ModuleType) -> Result<(), AllocError> {
+fn push_core_exports(line: &mut String, ty: &ModuleType) -> Result<(), AllocError> {
     for (name, of) in &ty.exports {
-        let name = name_word(alloc, name)?;
-        let of = extern_word(alloc, of)?;
-        push_word(line, &format!(in alloc; "e:{name}={of}")?)?;
+        push_key(line, " e:", name)?;
+        push_extern(line, of)?;
     }
     Ok(())
 }

@@ -1,41 +1,62 @@
-//! The contents of core modules.
+//! The contents of core modules, as words describe them.
 
-use super::error::EntryError;
+use super::contents::check_parts;
 use indexmap::IndexMap;
 use std::alloc::Global;
 use wac_core::{CoreExtern, ModuleType};
-use wac_script_syntax::{CoreImport, Module, Named};
+use wac_script_syntax::{ScriptError, read_extern, read_name, split_named, unexpected};
 
-// The imports of a core module.
-fn imports_of(
+// The imports of a core module: the members `m:NAME,NAME=EXTERN`.
+fn imports_of<'a>(
     alloc: Global,
-    imports: Vec<CoreImport>,
-) -> Result<IndexMap<(String, String), CoreExtern>, EntryError> {
-    let mut map = IndexMap::new(alloc);
-    for import in imports {
-        let CoreImport { source, name, of } = import;
-        map.insert((source, name), of)?;
+    members: &[&'a str],
+) -> Result<IndexMap<(String, String), CoreExtern>, ScriptError<'a>> {
+    let mut imports = IndexMap::new(alloc);
+    for &member in members {
+        let Some(word) = member.strip_prefix("m:") else {
+            continue;
+        };
+        let (names, of) = split_named("`NAME,NAME=EXTERN`", word)?;
+        let Some((source, name)) = names.split_once(',') else {
+            return Err(unexpected("`NAME,NAME=EXTERN`", word));
+        };
+        let key = (read_name(alloc, source)?, read_name(alloc, name)?);
+        let before = imports.insert(key, read_extern(alloc, of)?)?;
+        if before.is_some() {
+            return Err(ScriptError::Repeated(names));
+        }
     }
-    Ok(map)
+    Ok(imports)
 }
 
-// The exports of a core module.
-fn exports_of(
+// The exports of a core module: the members `e:NAME=EXTERN`.
+fn exports_of<'a>(
     alloc: Global,
-    exports: Vec<Named<CoreExtern>>,
-) -> Result<IndexMap<String, CoreExtern>, EntryError> {
-    let mut map = IndexMap::new(alloc);
-    for export in exports {
-        let Named { name, of } = export;
-        map.insert(name, of)?;
+    members: &[&'a str],
+) -> Result<IndexMap<String, CoreExtern>, ScriptError<'a>> {
+    let mut exports = IndexMap::new(alloc);
+    for &member in members {
+        let Some(word) = member.strip_prefix("e:") else {
+            continue;
+        };
+        let (name, of) = split_named("`NAME=EXTERN`", word)?;
+        let of = read_extern(alloc, of)?;
+        let key = read_name(alloc, name)?;
+        let before = exports.insert(key, of)?;
+        if before.is_some() {
+            return Err(ScriptError::Repeated(name));
+        }
     }
-    Ok(map)
+    Ok(exports)
 }
 
-// A core module type.
-pub(crate) fn module_of(alloc: Global, ty: Module) -> Result<ModuleType, EntryError> {
-    let Module { imports, exports } = ty;
-    let imports = imports_of(alloc, imports)?;
-    let exports = exports_of(alloc, exports)?;
+/// A core module type: `(m:NAME,NAME=EXTERN)* (e:NAME=EXTERN)*`.
+pub(crate) fn module_of<'a>(
+    alloc: Global,
+    members: &[&'a str],
+) -> Result<ModuleType, ScriptError<'a>> {
+    check_parts(&["m", "e"], "`m:..` or `e:..`", members)?;
+    let imports = imports_of(alloc, members)?;
+    let exports = exports_of(alloc, members)?;
     Ok(ModuleType { imports, exports })
 }

@@ -3,42 +3,63 @@
 use std::alloc::{AllocError, Global};
 use wac_component::{ItemKind, Type, ValueType};
 
+/// Puts the word that names a value type last.
+pub(crate) fn push_value(text: &mut String, value: ValueType) -> Result<(), AllocError> {
+    match value {
+        ValueType::Primitive(primitive) => text.push_str(primitive.desc()),
+        ValueType::Own(id) => write!(text, "own:r{id}"),
+        ValueType::Borrow(id) => write!(text, "borrow:r{id}"),
+        ValueType::Defined(id) => write!(text, "d{id}"),
+    }
+}
+
+// Puts the word that names a type last.
+fn push_type(text: &mut String, ty: Type) -> Result<(), AllocError> {
+    match ty {
+        Type::Resource(id) => write!(text, "r{id}"),
+        Type::Func(id) => write!(text, "fn{id}"),
+        Type::Interface(id) => write!(text, "i{id}"),
+        Type::World(id) => write!(text, "w{id}"),
+        Type::Module(id) => write!(text, "m{id}"),
+        Type::Value(value) => push_value(text, value),
+    }
+}
+
+/// Puts the word that names an item last.
+pub(crate) fn push_item(text: &mut String, item: ItemKind) -> Result<(), AllocError> {
+    match item {
+        ItemKind::Type(ty) => {
+            text.push_str("T:")?;
+            push_type(text, ty)
+        }
+        ItemKind::Func(id) => write!(text, "F:fn{id}"),
+        ItemKind::Instance(id) => write!(text, "I:i{id}"),
+        ItemKind::Component(id) => write!(text, "C:w{id}"),
+        ItemKind::Module(id) => write!(text, "M:m{id}"),
+        ItemKind::Value(value) => {
+            text.push_str("V:")?;
+            push_value(text, value)
+        }
+    }
+}
+
 /// The word that names a value type, as `u8`, `own:r0` or `d0`.
 pub fn value_word(alloc: Global, value: ValueType) -> Result<String, AllocError> {
-    match value {
-        ValueType::Primitive(primitive) => String::from_str(alloc, primitive.desc()),
-        ValueType::Own(id) => format!(in alloc; "own:r{id}"),
-        ValueType::Borrow(id) => format!(in alloc; "borrow:r{id}"),
-        ValueType::Defined(id) => format!(in alloc; "d{id}"),
-    }
+    let mut word = String::new(alloc);
+    push_value(&mut word, value)?;
+    Ok(word)
 }
 
 /// The word that names a type, as `fn0` or `u8`.
 pub fn type_word(alloc: Global, ty: Type) -> Result<String, AllocError> {
-    match ty {
-        Type::Resource(id) => format!(in alloc; "r{id}"),
-        Type::Func(id) => format!(in alloc; "fn{id}"),
-        Type::Interface(id) => format!(in alloc; "i{id}"),
-        Type::World(id) => format!(in alloc; "w{id}"),
-        Type::Module(id) => format!(in alloc; "m{id}"),
-        Type::Value(value) => value_word(alloc, value),
-    }
+    let mut word = String::new(alloc);
+    push_type(&mut word, ty)?;
+    Ok(word)
 }
 
 /// The word that names an item, as `T:r0`, `F:fn0`, `I:i0`, `C:w0`, `M:m0` or `V:u8`.
 pub fn item_word(alloc: Global, item: ItemKind) -> Result<String, AllocError> {
-    match item {
-        ItemKind::Type(ty) => {
-            let word = type_word(alloc, ty)?;
-            format!(in alloc; "T:{word}")
-        }
-        ItemKind::Func(id) => format!(in alloc; "F:fn{id}"),
-        ItemKind::Instance(id) => format!(in alloc; "I:i{id}"),
-        ItemKind::Component(id) => format!(in alloc; "C:w{id}"),
-        ItemKind::Module(id) => format!(in alloc; "M:m{id}"),
-        ItemKind::Value(value) => {
-            let word = value_word(alloc, value)?;
-            format!(in alloc; "V:{word}")
-        }
-    }
+    let mut word = String::new(alloc);
+    push_item(&mut word, item)?;
+    Ok(word)
 }

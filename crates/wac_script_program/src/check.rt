@@ -43,14 +43,14 @@ impl Check {
     }
 
     // Takes the line of this number.
-    fn take<W: Write>(
+    fn take<'a, W: Write>(
         &mut self,
         alloc: Global,
         name: &str,
         number: usize,
-        line: &str,
+        line: &'a str,
         out: &mut W,
-    ) -> Result<(), Failure> {
+    ) -> Result<(), Failure<'a>> {
         self.line = number;
         if let Some(answer) = line.strip_prefix("= ") {
             return self.expect(alloc, answer);
@@ -61,7 +61,7 @@ impl Check {
     }
 
     // Puts a line of an expected answer beside the question before it.
-    fn expect(&mut self, alloc: Global, answer: &str) -> Result<(), Failure> {
+    fn expect<'a>(&mut self, alloc: Global, answer: &'a str) -> Result<(), Failure<'a>> {
         let Some(asked) = &mut self.asked else {
             return Err(Failure::NoQuestion);
         };
@@ -74,7 +74,7 @@ impl Check {
     }
 
     // Compares the answer to the question before with the one that is expected.
-    fn settle<W: Write>(&mut self, name: &str, out: &mut W) -> Result<(), Failure> {
+    fn settle<'a, W: Write>(&mut self, name: &str, out: &mut W) -> Result<(), Failure<'a>> {
         let Some(asked) = self.asked.take() else {
             return Ok(());
         };
@@ -87,7 +87,7 @@ impl Check {
     }
 
     // Carries out a line, and notes the answer to a question.
-    fn ask(&mut self, alloc: Global, line: &str) -> Result<(), Failure> {
+    fn ask<'a>(&mut self, alloc: Global, line: &'a str) -> Result<(), Failure<'a>> {
         let Some(command) = read_line(alloc, line)? else {
             return Ok(());
         };
@@ -117,7 +117,11 @@ fn asked_at(alloc: Global, line: usize, question: &str, text: &str) -> Result<As
 }
 
 // Whether the answer is the one that is expected; what differs is printed.
-fn is_as_expected<W: Write>(name: &str, asked: &Asked, out: &mut W) -> Result<bool, Failure> {
+fn is_as_expected<'a, W: Write>(
+    name: &str,
+    asked: &Asked,
+    out: &mut W,
+) -> Result<bool, Failure<'a>> {
     let Some(expected) = &asked.expected else {
         return Err(Failure::NoAnswer);
     };
@@ -134,13 +138,13 @@ fn is_as_expected<W: Write>(name: &str, asked: &Asked, out: &mut W) -> Result<bo
 }
 
 // Checks each line, and the last question.
-fn check_lines<W: Write>(
+fn check_lines<'a, W: Write>(
     alloc: Global,
     check: &mut Check,
     name: &str,
-    text: &str,
+    text: &'a str,
     out: &mut W,
-) -> Result<(), Failure> {
+) -> Result<(), Failure<'a>> {
     for (i, line) in text.lines().enumerate() {
         check.take(alloc, name, i.saturating_add(1), line, out)?;
     }

@@ -2,18 +2,15 @@
 
 use std::alloc::AllocError;
 use std::{fmt, io};
-use wac_script_session::RunError;
-use wac_script_syntax::ReadError;
+use wac_script_syntax::ScriptError;
 
 /// Why a script was not read to its end.
-#[derive(Drop)]
-pub(crate) enum Failure {
+#[derive(Clone, Copy)]
+pub(crate) enum Failure<'a> {
     /// A line is no text in UTF-8.
     NoText,
-    /// A line is malformed.
-    Malformed(String),
     /// A line is no command that can be carried out.
-    Refused(RunError),
+    Refused(ScriptError<'a>),
     /// An answer stands where there is no question.
     NoQuestion,
     /// A question has no answer beside it.
@@ -22,41 +19,31 @@ pub(crate) enum Failure {
     Other,
 }
 
-impl From<AllocError> for Failure {
-    fn from(_error: AllocError) -> Failure {
+impl From<AllocError> for Failure<'_> {
+    fn from(_error: AllocError) -> Self {
         Failure::Other
     }
 }
 
-impl From<io::Error> for Failure {
-    fn from(_error: io::Error) -> Failure {
+impl From<io::Error> for Failure<'_> {
+    fn from(_error: io::Error) -> Self {
         Failure::Other
     }
 }
 
-impl From<ReadError> for Failure {
-    fn from(error: ReadError) -> Failure {
+impl<'a> From<ScriptError<'a>> for Failure<'a> {
+    fn from(error: ScriptError<'a>) -> Self {
         match error {
-            ReadError::Malformed(text) => Failure::Malformed(text),
-            ReadError::Memory => Failure::Other,
-        }
-    }
-}
-
-impl From<RunError> for Failure {
-    fn from(error: RunError) -> Failure {
-        match error {
-            RunError::Memory => Failure::Other,
+            ScriptError::Memory => Failure::Other,
             error => Failure::Refused(error),
         }
     }
 }
 
-impl fmt::Display for Failure {
+impl fmt::Display for Failure<'_> {
     fn fmt<W: fmt::Write>(&self, f: &mut fmt::Formatter<W>) -> fmt::Result {
         match self {
             Failure::NoText => write!(f, "expected text in UTF-8"),
-            Failure::Malformed(text) => write!(f, "{text}"),
             Failure::Refused(error) => write!(f, "{error}"),
             Failure::NoQuestion => write!(f, "expected a question before an answer"),
             Failure::NoAnswer => write!(f, "expected an answer after the question"),

@@ -21,28 +21,43 @@ pub fn replay<R: BufRead + Drop, W: Write, E: Write>(
 ) -> u8 {
     let mut session = Session::new(alloc);
     for (i, line) in reader.lines(alloc).enumerate() {
-        match carry_out(alloc, &mut session, line, out) {
-            Ok(()) => (),
-            Err(Failure::Other) => return FAILED,
-            Err(failure) => return refuse(err, i, &failure),
+        match take(alloc, &mut session, i, &line, out, err) {
+            DONE => {}
+            status => return status,
         }
     }
     DONE
 }
 
-// Carries out what a line says.
-fn carry_out<W: Write>(
+// Carries out the line at this index, and answers the status.
+fn take<W: Write, E: Write>(
     alloc: Global,
     session: &mut Session,
-    line: io::Result<String>,
+    index: usize,
+    line: &io::Result<String>,
     out: &mut W,
-) -> Result<(), Failure> {
-    let line = match line {
-        Ok(line) => line,
-        Err(e) if e.kind() == io::ErrorKind::InvalidData => return Err(Failure::NoText),
-        Err(e) => return Err(Failure::from(e)),
+    err: &mut E,
+) -> u8 {
+    let outcome = match line {
+        Ok(line) => carry_out(alloc, session, line.as_str(), out),
+        Err(e) if e.kind() == io::ErrorKind::InvalidData => Err(Failure::NoText),
+        Err(_) => Err(Failure::Other),
     };
-    let Some(command) = read_line(alloc, &line)? else {
+    match outcome {
+        Ok(()) => DONE,
+        Err(Failure::Other) => FAILED,
+        Err(failure) => refuse(err, index, &failure),
+    }
+}
+
+// Carries out what a line says.
+fn carry_out<'a, W: Write>(
+    alloc: Global,
+    session: &mut Session,
+    line: &'a str,
+    out: &mut W,
+) -> Result<(), Failure<'a>> {
+    let Some(command) = read_line(alloc, line)? else {
         return Ok(());
     };
     if let Some(text) = session.run(alloc, command)? {
@@ -52,7 +67,7 @@ fn carry_out<W: Write>(
 }
 
 // Says what is wrong with the line at this index, and answers the status.
-fn refuse<E: Write>(err: &mut E, index: usize, failure: &Failure) -> u8 {
+fn refuse<E: Write>(err: &mut E, index: usize, failure: &Failure<'_>) -> u8 {
     let number = index.saturating_add(1);
     status_of(MALFORMED, writeln!(err, "line {number}: {failure}"))
 }

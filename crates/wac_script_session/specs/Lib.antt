@@ -1,2 +1,1 @@
 pub mod Collections
-pub mod Queries

@@ -3,14 +3,23 @@
 ghost use Rattle.std.specs.Prelude.{◌≡◌, Some, IfOk};
 ghost use Rattle.wac_script_session.specs.Collections.{collection_at};
 
-use super::error::RunError;
 use super::growth::{Growth, grow};
 use indexmap::IndexMap;
-use std::alloc::Global;
+use std::alloc::{AllocError, Global};
 use std::marker::Model;
 use wac_component::Types;
 use wac_script_entries::{Replacement, add, replace};
-use wac_script_syntax::Content;
+use wac_script_syntax::{Content, EntryName, ScriptError};
+
+/// That no collection of this number has been begun.
+#[derive(Clone, Copy)]
+pub(crate) struct NoCollection(u64);
+
+impl From<NoCollection> for ScriptError<'_> {
+    fn from(missing: NoCollection) -> Self {
+        ScriptError::NoCollection(missing.0)
+    }
+}
 
 /// Collections, each under its own number.
 #[derive(Drop)]
@@ -37,18 +46,18 @@ impl Collections {
     }
 
     /// The collection of this number. `NoCollection` comes exactly where there is none.
-    pub(crate) fn get(&self, number: u64) -> Result<&Types, RunError>
+    pub(crate) fn get(&self, number: u64) -> Result<&Types, NoCollection>
         ensures found { IfOk result (λ types. collection_at self.now number ≡ Some types.now) }
         ensures numbered { IfOk result (λ types. types.now.number ≡ number) }
     {
         match self.by_number.get(&number) {
             Some(types) => Ok(types),
-            None => Err(RunError::NoCollection(number)),
+            None => Err(NoCollection(number)),
         }
     }
 
     /// Begins an empty collection of this number, unless one is there.
-    pub(crate) fn begin(&mut self, alloc: Global, number: u64) -> Result<(), RunError> {
+    pub(crate) fn begin(&mut self, alloc: Global, number: u64) -> Result<(), AllocError> {
         if self.by_number.contains_key(&number) {
             return Ok(());
         }
@@ -57,44 +66,43 @@ impl Collections {
     }
 
     /// Adds an entry to the collection of this number.
-    pub(crate) fn add(
+    pub(crate) fn add<'a>(
         &mut self,
         alloc: Global,
         number: u64,
-        content: Content,
-    ) -> Result<(), RunError> {
+        content: Content<'a>,
+    ) -> Result<(), ScriptError<'a>> {
         let Some(types) = self.by_number.get_mut(&number) else {
-            return Err(RunError::NoCollection(number));
+            return Err(ScriptError::NoCollection(number));
         };
-        add(alloc, types, content)?;
-        Ok(())
+        add(alloc, types, content)
     }
 
     /// Replaces an entry of the collection of this number, unless that closes a cycle.
-    pub(crate) fn replace(
+    pub(crate) fn replace<'a>(
         &mut self,
         alloc: Global,
         number: u64,
-        index: usize,
-        content: Content,
-    ) -> Result<Replacement, RunError> {
+        entry: EntryName,
+        words: &[&'a str],
+    ) -> Result<Replacement, ScriptError<'a>> {
         let Some(types) = self.by_number.get_mut(&number) else {
-            return Err(RunError::NoCollection(number));
+            return Err(ScriptError::NoCollection(number));
         };
-        let replacement = replace(alloc, types, index, content)?;
-        Ok(replacement)
+        replace(alloc, types, entry, words)
     }
 
-    /// Adds to the collection of this number what a query makes, and gives the answer.
-    pub(crate) fn grow(
+    /// Adds to the collection of this number what is made of what the words name, and gives the answer.
+    pub(crate) fn grow<'a>(
         &mut self,
         alloc: Global,
         number: u64,
         growth: Growth,
-    ) -> Result<String, RunError> {
+        words: &[&'a str],
+    ) -> Result<String, ScriptError<'a>> {
         let Some(types) = self.by_number.get_mut(&number) else {
-            return Err(RunError::NoCollection(number));
+            return Err(ScriptError::NoCollection(number));
         };
-        grow(alloc, types, growth)
+        grow(alloc, types, growth, words)
     }
 }

@@ -4,44 +4,50 @@ ghost use Rattle.std.specs.Prelude.{◌≡◌};
 ghost use Rattle.wac_component.specs.Key.{AllStand, item_keys};
 
 use super::collections::Collections;
-use super::error::RunError;
-use std::alloc::Global;
+use std::alloc::{AllocError, Global};
 use std::collections::HashSet;
 use wac_checker::SubtypeChecker;
 use wac_component::{ItemKind, Types};
 use wac_mismatch::SubtypeError;
 use wac_script_entries::find_item;
-use wac_script_syntax::{ItemIn, Variance};
+use wac_script_syntax::{ScriptError, read_item, read_number, unexpected};
 
 /// The pairs that a checker believes.
 pub(crate) type Cache = HashSet<(ItemKind, ItemKind)>;
 
-/// Whether the left item fits where the right one is asked for: `yes`, or `no: ` and the texts of the
-/// frames and of the fault, asked of a new checker with this cache.
-pub(crate) fn compare(
-    alloc: Global,
-    collections: &Collections,
-    cache: &mut Cache,
-    left: &ItemIn,
-    right: &ItemIn,
-    variance: Variance,
-) -> Result<String, RunError> {
-    let at = collections.get(left.collection)?;
-    let bt = collections.get(right.collection)?;
-    let mut checker = checker_for(cache, variance);
-    match (find_item(at, left.item), find_item(bt, right.item)) {
-        (Ok(a), Ok(b)) => ask(alloc, &mut checker, &a, at, &b, bt),
-        (Err(error), _) | (_, Err(error)) => Err(RunError::from(error)),
+// Whether a checker is inverted once before it is asked.
+fn read_is_inverted(word: &str) -> Result<bool, ScriptError<'_>> {
+    match word {
+        "co" => Ok(false),
+        "contra" => Ok(true),
+        _ => Err(unexpected("`co` or `contra`", word)),
     }
 }
 
-// A checker that begins in this direction.
-fn checker_for(cache: &mut Cache, variance: Variance) -> SubtypeChecker<'_> {
+/// The answer to `subtype`: `yes`, or `no: ` and the texts of the frames and of the fault, asked of a new
+/// checker with this cache.
+pub(crate) fn subtype<'a>(
+    alloc: Global,
+    collections: &Collections,
+    cache: &mut Cache,
+    words: &[&'a str],
+) -> Result<String, ScriptError<'a>> {
+    let [left, left_item, right, right_item, variance] = *words else {
+        return Err(ScriptError::Misused("subtype COLL ITEM COLL ITEM co|contra"));
+    };
+    let (left, left_item) = (read_number(left)?, read_item(left_item)?);
+    let (right, right_item) = (read_number(right)?, read_item(right_item)?);
+    let is_inverted = read_is_inverted(variance)?;
+    let at = collections.get(left)?;
+    let bt = collections.get(right)?;
     let mut checker = SubtypeChecker::new(cache);
-    if variance == Variance::Contravariant {
+    if is_inverted {
         checker.invert();
     }
-    checker
+    match (find_item(at, left_item), find_item(bt, right_item)) {
+        (Ok(a), Ok(b)) => Ok(ask(alloc, &mut checker, &a, at, &b, bt)?),
+        (Err(missing), _) | (_, Err(missing)) => Err(ScriptError::NoEntry(missing)),
+    }
 }
 
 fn ask(
@@ -51,17 +57,17 @@ fn ask(
     at: &Types,
     b: &ItemKind,
     bt: &Types,
-) -> Result<String, RunError>
+) -> Result<String, AllocError>
     requires left { AllStand at.now (item_keys a.now) }
     requires right { AllStand bt.now (item_keys b.now) }
     requires one { at.now.number ≡ bt.now.number → at.now ≡ bt.now }
 {
     match checker.is_subtype(alloc, *a, at, *b, bt) {
-        Ok(()) => Ok(String::from_str(alloc, "yes")?),
-        Err(SubtypeError::Memory) => Err(RunError::Memory),
+        Ok(()) => String::from_str(alloc, "yes"),
+        Err(SubtypeError::Memory) => Err(AllocError),
         Err(error) => {
             let path = error.path();
-            Ok(format!(in alloc; "no: {path}")?)
+            format!(in alloc; "no: {path}")
         }
     }
 }

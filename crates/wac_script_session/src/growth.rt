@@ -3,38 +3,51 @@
 ghost use Rattle.std.specs.Prelude.{◌≡◌, IfOk, IfSome};
 ghost use Rattle.wac_component.specs.Key.{AllStand, item_keys};
 
-use super::error::RunError;
 use std::alloc::{AllocError, Global};
 use wac_component::{ItemKind, Types};
 use wac_item_text::item_text;
 use wac_merge::{join, meet};
 use wac_package::Package;
 use wac_script_entries::{find_item, find_world, item_word};
-use wac_script_syntax::{Item, name_word};
-
-/// One of the two bounds of items.
-#[derive(Clone, Copy)]
-pub(crate) enum Bound {
-    Meet,
-    Join,
-}
+use wac_script_syntax::{ScriptError, name_word, read_item, read_world};
 
 /// What is made of entries of a collection.
-#[derive(Drop)]
+#[derive(Clone, Copy)]
 pub(crate) enum Growth {
-    /// The meet or the join of two items.
-    Bound(Bound, Item, Item),
+    /// The meet of two items.
+    Meet,
+    /// The join of two items.
+    Join,
     /// A package of a world.
-    Package(usize),
+    Package,
 }
 
-/// Adds what is to be made to the collection, and gives the answer.
-pub(crate) fn grow(alloc: Global, types: &mut Types, growth: Growth) -> Result<String, RunError>
+impl Growth {
+    /// The form of the query.
+    pub(crate) fn form(self) -> &'static str {
+        match self {
+            Growth::Meet => "meet COLL ITEM ITEM",
+            Growth::Join => "join COLL ITEM ITEM",
+            Growth::Package => "package COLL wN",
+        }
+    }
+}
+
+/// Adds to a collection what is made of what the words name, and gives the answer.
+pub(crate) fn grow<'a>(
+    alloc: Global,
+    types: &mut Types,
+    growth: Growth,
+    words: &[&'a str],
+) -> Result<String, ScriptError<'a>>
     ensures { types.new.number ≡ types.old.number }
 {
-    match growth {
-        Growth::Bound(of, left, right) => bound_answer(alloc, types, of, left, right),
-        Growth::Package(world) => definitions_answer(alloc, types, world),
+    match (growth, words) {
+        (Growth::Meet | Growth::Join, [left, right]) => {
+            bound_answer(alloc, types, growth, left, right)
+        }
+        (Growth::Package, [world]) => definitions_answer(alloc, types, world),
+        _ => Err(ScriptError::Misused(growth.form())),
     }
 }
 
@@ -56,29 +69,32 @@ fn entry_count(types: &Types) -> usize {
 }
 
 // A bound of two items: its word, its canonical tree, and how many entries were added.
-fn bound_answer(
+fn bound_answer<'a>(
     alloc: Global,
     types: &mut Types,
-    of: Bound,
-    left: Item,
-    right: Item,
-) -> Result<String, RunError>
+    growth: Growth,
+    left: &'a str,
+    right: &'a str,
+) -> Result<String, ScriptError<'a>>
     ensures { types.new.number ≡ types.old.number }
 {
     let before = entry_count(types);
+    let left = read_item(left)?;
+    let right = read_item(right)?;
     match (find_item(types, left), find_item(types, right)) {
-        (Ok(a), Ok(b)) => match bound_of(alloc, types, of, a, b) {
-            Ok(bound) => Ok(bound_text(alloc, types, &bound, before)?),
-            Err(error) => Err(RunError::from(error)),
-        },
-        (Err(error), _) | (_, Err(error)) => Err(RunError::from(error)),
+        (Ok(a), Ok(b)) => {
+            let bound = bound_of(alloc, types, growth, a, b)?;
+            Ok(bound_text(alloc, types, &bound, before)?)
+        }
+        (Err(missing), _) | (_, Err(missing)) => Err(ScriptError::NoEntry(missing)),
     }
 }
 
+// The join of two items for `join`, else their meet.
 fn bound_of(
     alloc: Global,
     types: &mut Types,
-    of: Bound,
+    growth: Growth,
     a: ItemKind,
     b: ItemKind,
 ) -> Result<Option<ItemKind>, AllocError>
@@ -87,9 +103,9 @@ fn bound_of(
     ensures standing { IfOk result (λ bound. IfSome bound (λ item. AllStand types.new (item_keys item))) }
     ensures number { types.new.number ≡ types.old.number }
 {
-    match of {
-        Bound::Meet => meet(alloc, types, a, b),
-        Bound::Join => join(alloc, types, a, b),
+    match growth {
+        Growth::Join => join(alloc, types, a, b),
+        _ => meet(alloc, types, a, b),
     }
 }
 
@@ -123,10 +139,14 @@ fn item_line(
 }
 
 // A package that is made of a world: the interface that is added, and the definitions in order.
-fn definitions_answer(alloc: Global, types: &mut Types, world: usize) -> Result<String, RunError>
+fn definitions_answer<'a>(
+    alloc: Global,
+    types: &mut Types,
+    world: &'a str,
+) -> Result<String, ScriptError<'a>>
     ensures { types.new.number ≡ types.old.number }
 {
-    let world = find_world(types, world)?;
+    let world = find_world(types, read_world(world)?)?;
     let package = Package::from_world(alloc, "package", None, Vec::new(alloc), types, world)?;
     Ok(definitions_text(alloc, &package)?)
 }

@@ -7,7 +7,7 @@ use std::hash::Hash;
 use std::mem;
 use wac_interners::Numbers;
 use wac_names::{NameError, NameMap, NameMapIntern, NameMapNoIntern};
-use wac_script_syntax::{NameKeys, NameMapOperation, NameMapScript, Named, name_word};
+use wac_script_syntax::{ScriptError, name_word, read_name, read_number, split_named, unexpected};
 
 // A key that can be written.
 trait KeyWord {
@@ -35,17 +35,34 @@ fn value_word(alloc: Global, value: Option<u64>) -> Result<String, AllocError> {
     }
 }
 
+// A name, and the value that it is to have.
+#[derive(Drop)]
+struct Entry {
+    name: String,
+    value: u64,
+}
+
+// Reads `NAME=N`.
+fn read_entry(alloc: Global, word: &str) -> Result<Entry, ScriptError<'_>> {
+    let (name, value) = split_named("`NAME=N`", word)?;
+    let value = read_number(value)?;
+    Ok(Entry {
+        name: read_name(alloc, name)?,
+        value,
+    })
+}
+
 // Inserts a value: its key, or `twice`.
 fn insert<K: Clone + Eq + Hash + Drop + KeyWord, I: NameMapIntern<Key = K>>(
     alloc: Global,
     map: &mut NameMap<K, u64>,
     cx: &mut I,
-    entry: &Named<u64>,
+    entry: &Entry,
     allow_shadowing: bool,
 ) -> Result<String, AllocError>
     requires { (j k : K) → K.is_clone j k → K.eq j k ≡ true }
 {
-    match map.insert(entry.name.as_str(), cx, allow_shadowing, entry.of) {
+    match map.insert(entry.name.as_str(), cx, allow_shadowing, entry.value) {
         Ok(key) => key.key_word(alloc),
         Err(NameError::Twice { name: _ }) => String::from_str(alloc, "twice"),
         Err(NameError::Memory) => Err(AllocError),
@@ -54,11 +71,12 @@ fn insert<K: Clone + Eq + Hash + Drop + KeyWord, I: NameMapIntern<Key = K>>(
 
 // The value of a name, or of the greatest version on its track.
 fn get<K: Eq + Hash + Drop, I: NameMapIntern<Key = K>>(
+    alloc: Global,
     map: &NameMap<K, u64>,
     cx: &I,
     name: &str,
-) -> Result<Option<u64>, AllocError> {
-    Ok(map.get(name, cx)?.copied())
+) -> Result<String, AllocError> {
+    value_word(alloc, map.get(name, cx)?.copied())
 }
 
 // Writes a value at the key of a name: the value before.
@@ -66,14 +84,14 @@ fn write<K: Eq + Hash + Drop, I: NameMapIntern<Key = K>>(
     alloc: Global,
     map: &mut NameMap<K, u64>,
     cx: &I,
-    entry: &Named<u64>,
-) -> Result<Option<u64>, AllocError> {
+    entry: &Entry,
+) -> Result<String, AllocError> {
     let Some(key) = cx.lookup(alloc, entry.name.as_str())? else {
-        return Ok(None);
+        return value_word(alloc, None);
     };
     match map.raw_get_mut(&key) {
-        Some(value) => Ok(Some(mem::replace(value, entry.of))),
-        None => Ok(None),
+        Some(value) => value_word(alloc, Some(mem::replace(value, entry.value))),
+        None => value_word(alloc, None),
     }
 }
 
@@ -90,22 +108,27 @@ fn look_up<K: Eq + Drop + KeyWord, I: NameMapIntern<Key = K>>(
 }
 
 // Carries out an operation, and answers it.
-fn carry_out<K: Clone + Eq + Hash + Drop + KeyWord, I: NameMapIntern<Key = K>>(
+fn carry_out<'a, K: Clone + Eq + Hash + Drop + KeyWord, I: NameMapIntern<Key = K>>(
     alloc: Global,
     map: &mut NameMap<K, u64>,
     cx: &mut I,
-    operation: &NameMapOperation,
-) -> Result<String, AllocError>
+    operation: &'a str,
+) -> Result<String, ScriptError<'a>>
     requires { (j k : K) → K.is_clone j k → K.eq j k ≡ true }
 {
-    match operation {
-        NameMapOperation::Insert(entry) => insert(alloc, map, cx, entry, false),
-        NameMapOperation::Shadow(entry) => insert(alloc, map, cx, entry, true),
-        NameMapOperation::Get(name) => value_word(alloc, get(map, cx, name.as_str())?),
-        NameMapOperation::Write(entry) => value_word(alloc, write(alloc, map, cx, entry)?),
-        NameMapOperation::Intern(name) => cx.intern(alloc, name.as_str())?.key_word(alloc),
-        NameMapOperation::LookUp(name) => look_up(alloc, cx, name.as_str()),
-    }
+    let Some((kind, of)) = operation.split_once(':') else {
+        return Err(unexpected("an operation", operation));
+    };
+    let answer = match kind {
+        "i" => insert(alloc, map, cx, &read_entry(alloc, of)?, false)?,
+        "s" => insert(alloc, map, cx, &read_entry(alloc, of)?, true)?,
+        "g" => get(alloc, map, cx, &read_name(alloc, of)?)?,
+        "w" => write(alloc, map, cx, &read_entry(alloc, of)?)?,
+        "n" => cx.intern(alloc, &read_name(alloc, of)?)?.key_word(alloc)?,
+        "l" => look_up(alloc, cx, &read_name(alloc, of)?)?,
+        _ => return Err(unexpected("an operation", operation)),
+    };
+    Ok(answer)
 }
 
 // The words of the entries of a map, in order.
@@ -122,46 +145,49 @@ fn entry_words<K: Eq + Hash + KeyWord>(
 }
 
 // Carries out the operations on a map, and answers them.
-fn carry_out_all<K: Clone + Eq + Hash + Drop + KeyWord, I: NameMapIntern<Key = K>>(
+fn carry_out_all<'a, K: Clone + Eq + Hash + Drop + KeyWord, I: NameMapIntern<Key = K>>(
     alloc: Global,
     map: &mut NameMap<K, u64>,
     cx: &mut I,
-    operations: &[NameMapOperation],
-) -> Result<Vec<String>, AllocError>
+    operations: &[&'a str],
+) -> Result<Vec<String>, ScriptError<'a>>
     requires { (j k : K) → K.is_clone j k → K.eq j k ≡ true }
 {
     let mut answers = Vec::new(alloc);
-    for operation in operations {
+    for &operation in operations {
         answers.push(carry_out(alloc, map, cx, operation)?)?;
     }
     Ok(answers)
 }
 
 // The answers of the operations on a new map, and its entries.
-fn answer_all<K: Clone + Eq + Hash + Drop + KeyWord, I: NameMapIntern<Key = K>>(
+fn answer_all<'a, K: Clone + Eq + Hash + Drop + KeyWord, I: NameMapIntern<Key = K>>(
     alloc: Global,
     cx: &mut I,
-    operations: &[NameMapOperation],
-) -> Result<String, AllocError>
+    operations: &[&'a str],
+) -> Result<String, ScriptError<'a>>
     requires { (j k : K) → K.is_clone j k → K.eq j k ≡ true }
 {
     let mut map = NameMap::new(alloc);
     let answers = carry_out_all(alloc, &mut map, cx, operations)?;
-    let entries = entry_words(alloc, &map)?;
     let answers = answers.join(alloc, " ")?;
-    let entries = entries.join(alloc, " ")?;
+    let entries = entry_words(alloc, &map)?.join(alloc, " ")?;
     let text = format!(in alloc; "{answers} | {entries}")?;
     Ok(text)
 }
 
 /// The answer to `namemap`: the answers of the operations, ` | `, and the entries of the map in order,
-/// each as `KEY=N`. `Err` is want of memory.
+/// each as `KEY=N`. Keys are kept as texts, `str`, or as numbers from 0 in the order in which texts are
+/// first interned, `num`.
 ///
-/// An insertion answers the key, or `twice` where the name is there; a write the value before; the
-/// others what they look for, or `none`.
-pub(crate) fn name_map_answer(alloc: Global, script: &NameMapScript) -> Result<String, AllocError> {
-    match script.keys {
-        NameKeys::Texts => answer_all(alloc, &mut NameMapNoIntern, &script.operations),
-        NameKeys::Numbers => answer_all(alloc, &mut Numbers::new(alloc), &script.operations),
+/// An insertion, `i:NAME=N`, or one that may shadow, `s:NAME=N`, answers the key, or `twice` where the name
+/// is there; a write, `w:NAME=N`, the value before; the others what they look for, or `none`: the value of
+/// a name or of its track, `g:NAME`, the key of a name that is interned, `n:NAME`, or looked up, `l:NAME`.
+pub(crate) fn name_map<'a>(alloc: Global, words: &[&'a str]) -> Result<String, ScriptError<'a>> {
+    match words {
+        ["str", operations @ ..] => answer_all(alloc, &mut NameMapNoIntern, operations),
+        ["num", operations @ ..] => answer_all(alloc, &mut Numbers::new(alloc), operations),
+        [keys, ..] => Err(unexpected("`str` or `num`", keys)),
+        [] => Err(ScriptError::Misused("namemap str|num OPERATION*")),
     }
 }

@@ -2,13 +2,12 @@
 
 use super::answers::answer;
 use super::collections::Collections;
-use super::comparisons::{Cache, compare};
-use super::error::RunError;
-use super::growth::{Bound, Growth};
-use std::alloc::Global;
+use super::comparisons::{Cache, subtype};
+use super::growth::Growth;
+use std::alloc::{AllocError, Global};
 use std::collections::HashSet;
 use wac_script_entries::Replacement;
-use wac_script_syntax::{Command, Content, ItemIn, Query, Variance, name_word};
+use wac_script_syntax::{Command, Content, Query, ScriptError, read_entry, read_number};
 
 /// The collections that a script has built so far, and what its questions share.
 #[derive(Drop)]
@@ -37,12 +36,15 @@ impl Session {
     /// after the last.
     ///
     /// `NoneAtHand`, `NoCollection` and `NoEntry` come where the command names a collection or an entry
-    /// that isn't there, `NoVersion` where a version is no version of SemVer 2.0.0, and `Memory` is want
-    /// of memory.
-    pub fn run(&mut self, alloc: Global, command: Command) -> Result<Option<String>, RunError> {
+    /// that isn't there, and `Memory` is want of memory. Refused, a command builds nothing and takes no number.
+    pub fn run<'a>(
+        &mut self,
+        alloc: Global,
+        command: Command<'a>,
+    ) -> Result<Option<String>, ScriptError<'a>> {
         match command {
-            Command::Script(name) => return Ok(Some(self.restart(alloc, &name)?)),
-            Command::Query(query) => return Ok(Some(self.answer(alloc, query)?)),
+            Command::Script(name) => return Ok(Some(self.restart(alloc, name)?)),
+            Command::Query(query) => return Ok(Some(self.answer(alloc, &query)?)),
             Command::Collection(number) => self.begin(alloc, number)?,
             Command::Add(content) => self.add(alloc, content)?,
             Command::KeepCache => self.keep_cache(alloc),
@@ -52,15 +54,13 @@ impl Session {
     }
 
     // Forgets everything, and gives the line that says which script begins.
-    fn restart(&mut self, alloc: Global, name: &str) -> Result<String, RunError> {
+    fn restart(&mut self, alloc: Global, name: &str) -> Result<String, AllocError> {
         *self = Session::new(alloc);
-        let name = name_word(alloc, name)?;
-        let line = format!(in alloc; "script {name}")?;
-        Ok(line)
+        format!(in alloc; "script {name}")
     }
 
     // Begins the collection of this number, or goes back to it.
-    fn begin(&mut self, alloc: Global, number: u64) -> Result<(), RunError> {
+    fn begin(&mut self, alloc: Global, number: u64) -> Result<(), AllocError> {
         self.collections.begin(alloc, number)?;
         self.at_hand = Some(number);
         Ok(())
@@ -73,87 +73,77 @@ impl Session {
         }
     }
 
-    fn number_at_hand(&self) -> Result<u64, RunError> {
-        match self.at_hand {
-            Some(number) => Ok(number),
-            None => Err(RunError::NoneAtHand),
-        }
-    }
-
-    fn add(&mut self, alloc: Global, content: Content) -> Result<(), RunError> {
-        let number = self.number_at_hand()?;
+    fn add<'a>(&mut self, alloc: Global, content: Content<'a>) -> Result<(), ScriptError<'a>> {
+        let Some(number) = self.at_hand else {
+            return Err(ScriptError::NoneAtHand);
+        };
         self.collections.add(alloc, number, content)
     }
 
     // The number of the query in the script, and the answer.
-    fn answer(&mut self, alloc: Global, query: Query) -> Result<String, RunError> {
-        let answer = self.answer_of(alloc, query)?;
+    fn answer<'a>(&mut self, alloc: Global, query: &Query<'a>) -> Result<String, ScriptError<'a>> {
+        let answer = self.answer_of(alloc, query.command, &query.words)?;
         self.answered = self.answered.saturating_add(1);
         let number = self.answered;
         let line = format!(in alloc; "{number} {answer}")?;
         Ok(line)
     }
 
-    fn answer_of(&mut self, alloc: Global, query: Query) -> Result<String, RunError> {
-        match query {
-            Query::Subtype {
-                left,
-                right,
-                variance,
-            } => self.subtype(alloc, &left, &right, variance),
-            Query::Replace { index, content } => self.replace(alloc, index, content),
-            Query::Meet {
-                collection,
-                left,
-                right,
-            } => self.grow(alloc, collection, Growth::Bound(Bound::Meet, left, right)),
-            Query::Join {
-                collection,
-                left,
-                right,
-            } => self.grow(alloc, collection, Growth::Bound(Bound::Join, left, right)),
-            Query::Definitions { collection, world } => {
-                self.grow(alloc, collection, Growth::Package(world))
-            }
-            query => answer(alloc, &self.collections, &query),
+    fn answer_of<'a>(
+        &mut self,
+        alloc: Global,
+        command: &'a str,
+        words: &[&'a str],
+    ) -> Result<String, ScriptError<'a>> {
+        match command {
+            "subtype" => self.subtype(alloc, words),
+            "replace" => self.replace(alloc, words),
+            "meet" => self.grow(alloc, Growth::Meet, words),
+            "join" => self.grow(alloc, Growth::Join, words),
+            "package" => self.grow(alloc, Growth::Package, words),
+            _ => answer(alloc, &self.collections, command, words),
         }
     }
 
     // Adds to a collection what a query makes.
-    fn grow(&mut self, alloc: Global, number: u64, growth: Growth) -> Result<String, RunError> {
-        self.collections.grow(alloc, number, growth)
+    fn grow<'a>(
+        &mut self,
+        alloc: Global,
+        growth: Growth,
+        words: &[&'a str],
+    ) -> Result<String, ScriptError<'a>> {
+        let Some((number, words)) = words.split_first() else {
+            return Err(ScriptError::Misused(growth.form()));
+        };
+        let number = read_number(number)?;
+        self.collections.grow(alloc, number, growth, words)
     }
 
     // Asks with the cache that is kept, or with an empty one.
-    fn subtype(
-        &mut self,
-        alloc: Global,
-        left: &ItemIn,
-        right: &ItemIn,
-        variance: Variance,
-    ) -> Result<String, RunError> {
+    fn subtype<'a>(&mut self, alloc: Global, words: &[&'a str]) -> Result<String, ScriptError<'a>> {
         match &mut self.cache {
-            Some(cache) => compare(alloc, &self.collections, cache, left, right, variance),
+            Some(cache) => subtype(alloc, &self.collections, cache, words),
             None => {
                 let mut cache = HashSet::new(alloc);
-                compare(alloc, &self.collections, &mut cache, left, right, variance)
+                subtype(alloc, &self.collections, &mut cache, words)
             }
         }
     }
 
     // Replaces an entry of the collection at hand. A cache that is kept is emptied, since what it holds
     // of the entry need not be true any longer.
-    fn replace(
-        &mut self,
-        alloc: Global,
-        index: usize,
-        content: Content,
-    ) -> Result<String, RunError> {
-        let number = self.number_at_hand()?;
+    fn replace<'a>(&mut self, alloc: Global, words: &[&'a str]) -> Result<String, ScriptError<'a>> {
+        let Some((entry, words)) = words.split_first() else {
+            return Err(ScriptError::Misused("replace ENTRY CONTENT"));
+        };
+        let entry = read_entry(entry)?;
+        let Some(number) = self.at_hand else {
+            return Err(ScriptError::NoneAtHand);
+        };
         if let Some(cache) = &mut self.cache {
             cache.clear();
         }
-        let answer = match self.collections.replace(alloc, number, index, content)? {
+        let answer = match self.collections.replace(alloc, number, entry, words)? {
             Replacement::Done => "ok",
             Replacement::Cycle => "cycle",
         };

@@ -1,43 +1,60 @@
 //! Components and target worlds.
 
-use super::error::RunError;
+ghost use Rattle.wac_component.specs.Key.{Stands, world_key};
+
+use super::collections::Collections;
 use super::lines::one_line;
 use indexmap::IndexMap;
 use std::alloc::{AllocError, Global};
-use wac_component::{ExternKind, ItemKind, Types};
+use wac_component::{ExternKind, ItemKind, Types, WorldId};
 use wac_script_entries::{find_world, item_word};
-use wac_script_syntax::name_word;
+use wac_script_syntax::{ScriptError, name_word, read_number, read_world};
 use wac_targets::{ItemText, TargetError, TargetValidationReport, validate_target};
 
 // The answer where a target world can't be read, since an interface that it uses has no identifier.
-fn refusal(alloc: Global, error: TargetError) -> Result<String, RunError> {
+fn refusal(alloc: Global, error: TargetError) -> Result<String, AllocError> {
     match error {
-        TargetError::Memory => Err(RunError::Memory),
-        error => {
-            let text = format!(in alloc; "refused: {error}")?;
-            Ok(text)
-        }
+        TargetError::Memory => Err(AllocError),
+        error => format!(in alloc; "refused: {error}"),
     }
 }
 
-/// Whether a component fits a target world, and if not, each part of the report in its order.
-pub(crate) fn validate(
+/// The answer to `validate`: whether a component fits a target world, and if not, each part of the report
+/// in its order.
+pub(crate) fn validate<'a>(
     alloc: Global,
-    types: &Types,
-    target: usize,
-    component: usize,
-) -> Result<String, RunError> {
+    collections: &Collections,
+    words: &[&'a str],
+) -> Result<String, ScriptError<'a>> {
+    let [collection, target, component] = *words else {
+        return Err(ScriptError::Misused("validate COLL wTARGET wCOMPONENT"));
+    };
+    let number = read_number(collection)?;
+    let (target, component) = (read_world(target)?, read_world(component)?);
+    let types = collections.get(number)?;
     let target = find_world(types, target)?;
     let component = find_world(types, component)?;
+    Ok(validation(alloc, types, target, component)?)
+}
+
+fn validation(
+    alloc: Global,
+    types: &Types,
+    target: WorldId,
+    component: WorldId,
+) -> Result<String, AllocError>
+    requires target { Stands types.now (world_key target) }
+    requires component { Stands types.now (world_key component) }
+{
     match validate_target(alloc, types, target, component) {
-        Ok(Ok(())) => Ok(String::from_str(alloc, "ok")?),
+        Ok(Ok(())) => String::from_str(alloc, "ok"),
         Ok(Err(report)) => report_text(alloc, &report),
         Err(error) => refusal(alloc, error),
     }
 }
 
 // `no`, and the lines of a report.
-fn report_text(alloc: Global, report: &TargetValidationReport) -> Result<String, RunError> {
+fn report_text(alloc: Global, report: &TargetValidationReport) -> Result<String, AllocError> {
     let mut lines = String::new(alloc);
     push_imports(alloc, &mut lines, report)?;
     push_missing(alloc, &mut lines, report)?;
@@ -45,8 +62,7 @@ fn report_text(alloc: Global, report: &TargetValidationReport) -> Result<String,
     let whole = format!(in alloc; "{report}")?;
     let whole = one_line(alloc, &whole)?;
     push_line(alloc, &mut lines, &format!(in alloc; "text {whole}")?)?;
-    let text = format!(in alloc; "no{lines}")?;
-    Ok(text)
+    format!(in alloc; "no{lines}")
 }
 
 // Puts a line that belongs to an answer last.
@@ -106,18 +122,29 @@ fn push_mismatched(
     Ok(())
 }
 
-/// The interfaces from which a world and its imports use types, as instances under their identifiers.
-pub(crate) fn implicit_imports(
+/// The answer to `implicit`: the interfaces from which a world and its imports use types, as instances
+/// under their identifiers.
+pub(crate) fn implicit_imports<'a>(
     alloc: Global,
-    types: &Types,
-    world: usize,
-) -> Result<String, RunError> {
+    collections: &Collections,
+    words: &[&'a str],
+) -> Result<String, ScriptError<'a>> {
+    let [collection, world] = *words else {
+        return Err(ScriptError::Misused("implicit COLL wN"));
+    };
+    let (number, world) = (read_number(collection)?, read_world(world)?);
+    let types = collections.get(number)?;
     let world = find_world(types, world)?;
+    Ok(imports_text(alloc, types, world)?)
+}
+
+fn imports_text(alloc: Global, types: &Types, world: WorldId) -> Result<String, AllocError>
+    requires { Stands types.now (world_key world) }
+{
     match types[world].implicit_imported_interfaces(alloc, types) {
         Ok(imports) => {
             let words = import_words(alloc, &imports)?;
-            let text = format!(in alloc; "ok{words}")?;
-            Ok(text)
+            format!(in alloc; "ok{words}")
         }
         Err(error) => refusal(alloc, error),
     }

@@ -2,11 +2,11 @@
 
 ghost use Rattle.wac_component.specs.Key.{AllStand, type_keys};
 
-use super::error::RunError;
+use super::collections::Collections;
 use std::alloc::{AllocError, AllocFailed, Global};
 use wac_component::{DefinedTypeId, Type, Types};
 use wac_script_entries::find_type;
-use wac_script_syntax::TypeWord;
+use wac_script_syntax::{ScriptError, read_number, read_type};
 
 // Why a visitor stopped.
 #[derive(Drop)]
@@ -42,17 +42,22 @@ impl Calls {
     }
 }
 
-/// Visits the defined types that a type refers to, with a visitor that fails at this call, from 1, or
-/// at none for 0.
-pub(crate) fn visit(
+/// The answer to `visit`: visits the defined types that a type refers to, with a visitor that fails at a
+/// call, from 1, or at none for 0.
+pub(crate) fn visit<'a>(
     alloc: Global,
-    types: &Types,
-    ty: TypeWord,
-    fails_at: u64,
-) -> Result<String, RunError> {
+    collections: &Collections,
+    words: &[&'a str],
+) -> Result<String, ScriptError<'a>> {
+    let [collection, ty, fails_at] = *words else {
+        return Err(ScriptError::Misused("visit COLL TYPE K"));
+    };
+    let (number, ty) = (read_number(collection)?, read_type(ty)?);
+    let fails_at = read_number(fails_at)?;
+    let types = collections.get(number)?;
     match find_type(types, ty) {
-        Ok(ty) => visit_type(alloc, types, ty, fails_at),
-        Err(error) => Err(RunError::from(error)),
+        Ok(ty) => Ok(visit_type(alloc, types, ty, fails_at)?),
+        Err(missing) => Err(ScriptError::NoEntry(missing)),
     }
 }
 
@@ -64,17 +69,16 @@ struct Outcome {
     ids: Vec<DefinedTypeId>,
 }
 
-fn visit_type(alloc: Global, types: &Types, ty: Type, fails_at: u64) -> Result<String, RunError>
+fn visit_type(alloc: Global, types: &Types, ty: Type, fails_at: u64) -> Result<String, AllocError>
     requires { AllStand types.now (type_keys ty) }
 {
     let visited = carry_out(alloc, types, ty, fails_at)?;
     let outcome = if visited.stopped { "err" } else { "ok" };
     let words = index_words(alloc, &visited.ids)?;
-    let text = format!(in alloc; "{outcome}{words}")?;
-    Ok(text)
+    format!(in alloc; "{outcome}{words}")
 }
 
-fn carry_out(alloc: Global, types: &Types, ty: Type, fails_at: u64) -> Result<Outcome, RunError>
+fn carry_out(alloc: Global, types: &Types, ty: Type, fails_at: u64) -> Result<Outcome, AllocError>
     requires { AllStand types.now (type_keys ty) }
 {
     let mut calls = Calls {
@@ -85,7 +89,7 @@ fn carry_out(alloc: Global, types: &Types, ty: Type, fails_at: u64) -> Result<Ou
     let stopped = match ty.visit_defined_types(types, &mut visitor) {
         Ok(()) => false,
         Err(Stop::Asked) => true,
-        Err(Stop::Memory) => return Err(RunError::Memory),
+        Err(Stop::Memory) => return Err(AllocError),
     };
     Ok(Outcome {
         stopped,

@@ -3,89 +3,107 @@
 ghost use Rattle.std.specs.Prelude.{◌≡◌, Ok, None, IsNone, IfOk};
 ghost use Rattle.wac_script_syntax.specs.Lines.{HasNoCommand};
 
-use super::contents::{Content, read_content};
-use super::error::{ReadError, misused, unexpected};
+use super::entries::{Sort, sort_added_by};
+use super::error::{ScriptError, unexpected};
 use super::names::read_name;
 use super::numbers::read_number;
-use super::queries::Query;
-use super::query_lines::read_query;
 use std::alloc::Global;
 
 /// What a line asks for.
 #[derive(Drop)]
-pub enum Command {
-    /// `script NAME`: forgets everything, and begins a script of this name.
-    Script(String),
+pub enum Command<'a> {
+    /// `script NAME`: forgets everything, and begins a script of the name that this word writes.
+    Script(&'a str),
     /// `coll N`: begins the collection of this number, or goes back to it.
     Collection(u64),
     /// Adds an entry to the collection at hand.
-    Add(Content),
+    Add(Content<'a>),
     /// `cache keep`: the questions of the script share one cache from now on.
     KeepCache,
     /// `cache drop`: each question has an empty cache from now on.
     DropCache,
     /// Asks for an answer.
-    Query(Query),
+    Query(Query<'a>),
 }
 
-fn read_script(alloc: Global, words: &[&str]) -> Result<Command, ReadError> {
-    let [name] = *words else {
-        return Err(misused(alloc, "script NAME"));
+/// The content of an entry, as words describe it.
+#[derive(Drop)]
+pub struct Content<'a> {
+    /// The sort of the entry.
+    pub sort: Sort,
+    /// The words after the command.
+    pub words: Vec<&'a str>,
+}
+
+/// A command that is answered, or that no command has the word of.
+#[derive(Drop)]
+pub struct Query<'a> {
+    /// Its first word.
+    pub command: &'a str,
+    /// The words after it.
+    pub words: Vec<&'a str>,
+}
+
+fn read_script<'a>(alloc: Global, words: &[&'a str]) -> Result<Command<'a>, ScriptError<'a>> {
+    let [word] = *words else {
+        return Err(ScriptError::Misused("script NAME"));
     };
-    Ok(Command::Script(read_name(alloc, name)?))
+    let _ = read_name(alloc, word)?;
+    Ok(Command::Script(word))
 }
 
-fn read_collection(alloc: Global, words: &[&str]) -> Result<Command, ReadError> {
+fn read_collection<'a>(words: &[&'a str]) -> Result<Command<'a>, ScriptError<'a>> {
     let [number] = *words else {
-        return Err(misused(alloc, "coll N"));
+        return Err(ScriptError::Misused("coll N"));
     };
-    Ok(Command::Collection(read_number(alloc, number)?))
+    Ok(Command::Collection(read_number(number)?))
 }
 
-fn read_cache(alloc: Global, words: &[&str]) -> Result<Command, ReadError> {
+fn read_cache<'a>(words: &[&'a str]) -> Result<Command<'a>, ScriptError<'a>> {
     match *words {
         ["keep"] => Ok(Command::KeepCache),
         ["drop"] => Ok(Command::DropCache),
-        _ => Err(misused(alloc, "cache keep|drop")),
+        _ => Err(ScriptError::Misused("cache keep|drop")),
     }
 }
 
-// Reads an entry or a query.
-fn read_other(alloc: Global, command: &str, words: &[&str]) -> Result<Command, ReadError> {
-    if let Some(content) = read_content(alloc, command, words)? {
-        return Ok(Command::Add(content));
-    }
-    match read_query(alloc, command, words)? {
-        Some(query) => Ok(Command::Query(query)),
-        None => Err(unexpected(alloc, "a command", command)),
+// An entry that is added, or else a query.
+fn adding_or_query<'a>(command: &'a str, words: Vec<&'a str>) -> Command<'a> {
+    match sort_added_by(command) {
+        Some(sort) => Command::Add(Content { sort, words }),
+        None => Command::Query(Query { command, words }),
     }
 }
 
 // Reads a command from its first word and the words after it.
-fn read_command(alloc: Global, command: &str, words: &[&str]) -> Result<Command, ReadError> {
+fn read_command<'a>(
+    alloc: Global,
+    command: &'a str,
+    words: Vec<&'a str>,
+) -> Result<Command<'a>, ScriptError<'a>> {
     match command {
-        "script" => read_script(alloc, words),
-        "coll" => read_collection(alloc, words),
-        "cache" => read_cache(alloc, words),
-        _ => read_other(alloc, command, words),
+        "script" => read_script(alloc, &words),
+        "coll" => read_collection(&words),
+        "cache" => read_cache(&words),
+        _ => Ok(adding_or_query(command, words)),
     }
 }
 
-/// Reads a line of a script. An empty line, and one that begins with `#`, holds no command; every
-/// other line is read as a command or refused. No name stands twice in a map of what is read.
-pub fn read_line(alloc: Global, line: &str) -> Result<Option<Command>, ReadError>
+/// Reads a line of a script. An empty line, and one that begins with `#`, holds no command. Of every other
+/// line the command is read and its words are told apart; what the words of an entry or a query say is for
+/// who carries it out to read.
+pub fn read_line(alloc: Global, line: &str) -> Result<Option<Command<'_>>, ScriptError<'_>>
     ensures no_command { HasNoCommand line.now → result ≡ Ok None }
     ensures command { IfOk result (λ read. IsNone read → HasNoCommand line.now) }
 {
     if line.is_empty() || line.starts_with('#') {
         return Ok(None);
     }
-    let words: Vec<&str> = line.split(' ').collect(alloc)?;
-    if words.contains(&"") {
-        return Err(unexpected(alloc, "single spaces between words", line));
+    let mut words = line.split(' ');
+    let command = words.next().unwrap_or("");
+    let words: Vec<&str> = words.collect(alloc)?;
+    if command.is_empty() || words.contains(&"") {
+        return Err(unexpected("single spaces between words", line));
     }
-    let Some((command, words)) = words.split_first() else {
-        return Err(unexpected(alloc, "a command", line));
-    };
     Ok(Some(read_command(alloc, command, words)?))
 }

@@ -1,80 +1,73 @@
-//! Why a line was not read.
+//! Why a line was not carried out.
 
-ghost use Rattle.std.specs.Prelude.{◌++◌, codes, MatchResult, ◌≡◌};
-ghost use Rattle.wac_script_syntax.specs.declared.error.ReadError.TheVariants.{Malformed, Memory};
-ghost use Rattle.wac_script_syntax.specs.ErrorText.{Says};
-
-use std::alloc::{AllocError, AllocFailed, Global};
+use super::entries::EntryName;
+use std::alloc::{AllocError, AllocFailed};
 use std::{error, fmt};
 
-/// Why a line was not read.
-#[derive(Debug, Drop)]
-pub enum ReadError {
-    /// The line is no command: what was expected, and the word that was found.
-    Malformed(String),
+/// Why a line was not read, or not carried out. Words are those of the line.
+#[derive(Clone, Copy, Debug)]
+pub enum ScriptError<'a> {
+    /// A word stands where another is expected.
+    Unexpected {
+        /// What is expected.
+        expected: &'static str,
+        /// The word that was found.
+        found: &'a str,
+    },
+    /// A command is not followed by the words of its form, which this is.
+    Misused(&'static str),
+    /// The name that this word writes, or these words, stands twice in one map.
+    Repeated(&'a str),
+    /// No collection has been begun.
+    NoneAtHand,
+    /// No collection of this number has been begun.
+    NoCollection(u64),
+    /// The line names an entry that isn't there.
+    NoEntry(EntryName),
+    /// Two keys of packages are equal as they are and not through `dyn BorrowedKey`, or the other way round.
+    Keys,
     /// There was no memory.
     Memory,
 }
 
-impl From<AllocError> for ReadError {
-    ghost from_gives = { λ _ r. r ≡ Memory };
-
-    fn from(_error: AllocError) -> ReadError {
-        ReadError::Memory
+impl From<AllocError> for ScriptError<'_> {
+    fn from(_error: AllocError) -> Self {
+        ScriptError::Memory
     }
 }
 
-impl<T: Drop> From<AllocFailed<T>> for ReadError {
-    ghost from_gives = { λ _ r. r ≡ Memory };
-
-    fn from(_error: AllocFailed<T>) -> ReadError {
-        ReadError::Memory
+impl<T: Drop> From<AllocFailed<T>> for ScriptError<'_> {
+    fn from(_error: AllocFailed<T>) -> Self {
+        ScriptError::Memory
     }
 }
 
-impl error::Error for ReadError {}
+impl From<EntryName> for ScriptError<'_> {
+    fn from(entry: EntryName) -> Self {
+        ScriptError::NoEntry(entry)
+    }
+}
 
-impl fmt::Display for ReadError {
-    ghost use Rattle.std.specs.Prelude.{Some};
-    ghost use Rattle.wac_script_syntax.specs.ErrorText.{read_error_text};
+impl error::Error for ScriptError<'_> {}
 
-    ghost output = { λ e. Some (read_error_text e) };
-
+impl fmt::Display for ScriptError<'_> {
     fn fmt<W: fmt::Write>(&self, f: &mut fmt::Formatter<W>) -> fmt::Result {
         match self {
-            ReadError::Malformed(text) => write!(f, "{text}"),
-            ReadError::Memory => write!(f, "out of memory"),
+            ScriptError::Unexpected { expected, found } => {
+                write!(f, "expected {expected}, found `{found}`")
+            }
+            ScriptError::Misused(form) => write!(f, "expected `{form}`"),
+            ScriptError::Repeated(name) => write!(f, "the name `{name}` stands twice"),
+            ScriptError::NoneAtHand => write!(f, "no collection has been begun"),
+            ScriptError::NoCollection(number) => write!(f, "there is no collection {number}"),
+            ScriptError::NoEntry(name) => write!(f, "there is no entry {name}"),
+            ScriptError::Keys => write!(f, "two calls disagree on whether two keys are equal"),
+            ScriptError::Memory => write!(f, "out of memory"),
         }
     }
 }
 
-// The error with a text that may have found no memory.
-fn malformed(text: Result<String, AllocError>) -> ReadError
-    ensures { MatchResult text (λ t. result ≡ Malformed t) (λ _. result ≡ Memory) }
-{
-    match text {
-        Ok(text) => ReadError::Malformed(text),
-        Err(_) => ReadError::Memory,
-    }
-}
-
 /// The error for a word that stands where another is expected.
-pub(crate) fn unexpected(alloc: Global, expected: &str, found: &str) -> ReadError
-    ensures { Says result (codes "expected " ++ expected.now ++ codes ", found `" ++ found.now ++ codes "`") }
-{
-    malformed(format!(in alloc; "expected {expected}, found `{found}`"))
-}
-
-/// The error for a command that is not followed by the words of its form.
-pub(crate) fn misused(alloc: Global, form: &str) -> ReadError
-    ensures { Says result (codes "expected `" ++ form.now ++ codes "`") }
-{
-    malformed(format!(in alloc; "expected `{form}`"))
-}
-
-/// The error for a name that stands twice in one map.
-pub(crate) fn repeated(alloc: Global, name: &str) -> ReadError
-    ensures { Says result (codes "the name `" ++ name.now ++ codes "` stands twice") }
-{
-    malformed(format!(in alloc; "the name `{name}` stands twice"))
+pub fn unexpected<'a>(expected: &'static str, found: &'a str) -> ScriptError<'a> {
+    ScriptError::Unexpected { expected, found }
 }

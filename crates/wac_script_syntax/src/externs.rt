@@ -1,12 +1,12 @@
 //! What core modules import and export, as words write it.
 
-use super::error::{ReadError, unexpected};
+use super::error::{ScriptError, unexpected};
 use super::numbers::{flag_of, limit_of, number_of, small_number_of};
 use std::alloc::Global;
 use wac_core::{CoreExtern, CoreFuncType, CoreRefType, CoreType, HeapType};
 
 // The words of the abstract heap types.
-const HEAP_TYPES: [(&str, HeapType); 14] = [
+static HEAP_TYPES: [(&str, HeapType); 14] = [
     ("func", HeapType::Func),
     ("extern", HeapType::Extern),
     ("any", HeapType::Any),
@@ -23,11 +23,15 @@ const HEAP_TYPES: [(&str, HeapType); 14] = [
     ("nocont", HeapType::NoCont),
 ];
 
+fn heap_types() -> &'static [(&'static str, HeapType)] {
+    &HEAP_TYPES
+}
+
 // The heap type that a word names: an abstract one, or that of the type at an index.
 fn heap_type_of(word: &str) -> Option<HeapType> {
-    for (name, heap_type) in HEAP_TYPES {
-        if name == word {
-            return Some(heap_type);
+    for (name, heap_type) in heap_types() {
+        if *name == word {
+            return Some(*heap_type);
         }
     }
     Some(HeapType::Concrete(small_number_of(word)?))
@@ -60,14 +64,14 @@ fn core_type_of(word: &str) -> Option<CoreType> {
 }
 
 // Reads core types with commas between them.
-fn read_core_types(alloc: Global, list: &str) -> Result<Vec<CoreType>, ReadError> {
+fn read_core_types(alloc: Global, list: &str) -> Result<Vec<CoreType>, ScriptError<'_>> {
     let mut types = Vec::new(alloc);
     if list.is_empty() {
         return Ok(types);
     }
     for word in list.split(',') {
         let Some(ty) = core_type_of(word) else {
-            return Err(unexpected(alloc, "a core type", word));
+            return Err(unexpected("a core type", word));
         };
         types.push(ty)?;
     }
@@ -75,24 +79,14 @@ fn read_core_types(alloc: Global, list: &str) -> Result<Vec<CoreType>, ReadError
 }
 
 // Reads the type of a function from its parameters and its results.
-fn read_core_func(alloc: Global, params: &str, results: &str) -> Result<CoreFuncType, ReadError> {
+fn read_core_func<'a>(
+    alloc: Global,
+    params: &'a str,
+    results: &'a str,
+) -> Result<CoreFuncType, ScriptError<'a>> {
     Ok(CoreFuncType {
         params: read_core_types(alloc, params)?,
         results: read_core_types(alloc, results)?,
-    })
-}
-
-// The table of the fields after `table`.
-fn table_of(fields: &[&str]) -> Option<CoreExtern> {
-    let [element_type, initial, maximum, table64, shared] = *fields else {
-        return None;
-    };
-    Some(CoreExtern::Table {
-        element_type: ref_type_of(element_type)?,
-        initial: number_of(initial)?,
-        maximum: limit_of(maximum)?,
-        table64: flag_of(table64)?,
-        shared: flag_of(shared)?,
     })
 }
 
@@ -104,60 +98,38 @@ fn page_size_of(word: &str) -> Option<Option<u32>> {
     Some(Some(small_number_of(word)?))
 }
 
-// The memory of the fields after `mem`.
-fn memory_of(fields: &[&str]) -> Option<CoreExtern> {
-    let [initial, maximum, memory64, shared, page_size] = *fields else {
-        return None;
-    };
-    Some(CoreExtern::Memory {
-        memory64: flag_of(memory64)?,
-        shared: flag_of(shared)?,
-        initial: number_of(initial)?,
-        maximum: limit_of(maximum)?,
-        page_size_log2: page_size_of(page_size)?,
-    })
-}
-
-// The global of the fields after `global`.
-fn global_of(fields: &[&str]) -> Option<CoreExtern> {
-    let [val_type, mutable, shared] = *fields else {
-        return None;
-    };
-    Some(CoreExtern::Global {
-        val_type: core_type_of(val_type)?,
-        mutable: flag_of(mutable)?,
-        shared: flag_of(shared)?,
-    })
-}
-
-// The table, the memory or the global of a kind and its fields.
-fn plain_extern_of(kind: &str, fields: &[&str]) -> Option<CoreExtern> {
-    match kind {
-        "table" => table_of(fields),
-        "mem" => memory_of(fields),
-        "global" => global_of(fields),
+// The table, the memory or the global of these fields.
+fn plain_extern_of(fields: &[&str]) -> Option<CoreExtern> {
+    match *fields {
+        ["table", element_type, initial, maximum, table64, shared] => Some(CoreExtern::Table {
+            element_type: ref_type_of(element_type)?,
+            initial: number_of(initial)?,
+            maximum: limit_of(maximum)?,
+            table64: flag_of(table64)?,
+            shared: flag_of(shared)?,
+        }),
+        ["mem", initial, maximum, memory64, shared, page_size] => Some(CoreExtern::Memory {
+            memory64: flag_of(memory64)?,
+            shared: flag_of(shared)?,
+            initial: number_of(initial)?,
+            maximum: limit_of(maximum)?,
+            page_size_log2: page_size_of(page_size)?,
+        }),
+        ["global", val_type, mutable, shared] => Some(CoreExtern::Global {
+            val_type: core_type_of(val_type)?,
+            mutable: flag_of(mutable)?,
+            shared: flag_of(shared)?,
+        }),
         _ => None,
     }
 }
 
 /// Reads a core extern.
-pub(crate) fn read_extern(alloc: Global, word: &str) -> Result<CoreExtern, ReadError> {
+pub fn read_extern(alloc: Global, word: &str) -> Result<CoreExtern, ScriptError<'_>> {
     let fields: Vec<&str> = word.split(':').collect(alloc)?;
     match *fields {
         ["func", params, results] => Ok(CoreExtern::Func(read_core_func(alloc, params, results)?)),
         ["tag", params, results] => Ok(CoreExtern::Tag(read_core_func(alloc, params, results)?)),
-        _ => read_plain_extern(alloc, word, &fields),
-    }
-}
-
-// Reads a table, a memory or a global from the fields of a word.
-fn read_plain_extern(alloc: Global, word: &str, fields: &[&str]) -> Result<CoreExtern, ReadError> {
-    let read = match fields.split_first() {
-        Some((kind, fields)) => plain_extern_of(kind, fields),
-        None => None,
-    };
-    match read {
-        Some(found) => Ok(found),
-        None => Err(unexpected(alloc, "a core extern", word)),
+        _ => plain_extern_of(&fields).ok_or(unexpected("a core extern", word)),
     }
 }

@@ -1,7 +1,8 @@
 //! Reads the lines of a script, one command each, that builds collections of types and asks questions.
 //!
-//! [`read_line`] reads a line and looks at nothing else: whether an index names an entry that stands, and
-//! what a command answers, is the caller's to say.
+//! [`read_line`] reads which command a line is, and tells its words apart; the other readers read words.
+//! None looks at anything else: whether an index names an entry that stands, and what a command answers, is
+//! the caller's to say. What is read borrows from the line, and so does a [`ScriptError`].
 //!
 //! # Lines
 //!
@@ -32,32 +33,29 @@
 //! | `world NAME\|- MEMBER*` | adds a world: also imports `m:NAME=ITEM` |
 //! | `module MEMBER*` | adds a core module: imports `m:NAME,NAME=EXTERN` and exports `e:NAME=EXTERN` |
 //! | `cache keep`, `cache drop` | shares one cache among questions, or gives each an empty one |
-//! | a query | an answer: the variants of [`Query`] |
+//! | a query | an answer: the table of `wac_script_session` |
 #![tactic(auto)]
 
 mod commands;
-mod contents;
-mod definitions;
+mod entries;
 mod error;
 mod externs;
-mod interfaces;
-mod maps;
-mod modules;
-mod name_maps;
 mod names;
 mod numbers;
-mod queries;
-mod query_lines;
 mod values;
+mod writing;
 
-pub use commands::{Command, read_line};
-pub use contents::{Alias, Content, Function, Resource};
-pub use definitions::Definition;
-pub use error::ReadError;
-pub use interfaces::{Interface, UsedType, World};
-pub use maps::Named;
-pub use modules::{CoreImport, Module};
-pub use name_maps::{NameKeys, NameMapOperation, NameMapScript};
-pub use names::name_word;
-pub use queries::{ItemIn, PackageName, Query, Resolvable, Variance};
-pub use values::{EntryWord, Item, TypeWord, Value};
+pub use commands::{Command, Content, Query, read_line};
+pub use entries::{EntryName, Sort};
+pub use error::{ScriptError, unexpected};
+pub use externs::read_extern;
+pub use names::{read_name, read_optional_name, split_named};
+pub use numbers::{
+    read_interface, read_number, read_optional_interface, read_resource, read_small_number,
+    read_world,
+};
+pub use values::{
+    Item, TypeWord, Value, read_entry, read_item, read_optional_value, read_resolvable, read_type,
+    read_value,
+};
+pub use writing::{name_word, push_name};

@@ -1,7 +1,6 @@
 //! Numbers, flags and indices.
 
-use super::error::{ReadError, unexpected};
-use std::alloc::Global;
+use super::error::{ScriptError, unexpected};
 
 /// The number below 2^64 that a word writes in decimal digits, with no sign.
 pub(crate) fn number_of(word: &str) -> Option<u64> {
@@ -40,30 +39,34 @@ pub(crate) fn flag_of(word: &str) -> Option<bool> {
 }
 
 /// Reads a number.
-pub(crate) fn read_number(alloc: Global, word: &str) -> Result<u64, ReadError> {
-    match number_of(word) {
-        Some(number) => Ok(number),
-        None => Err(unexpected(alloc, "a number", word)),
-    }
-}
-
-/// Reads the index of an entry, whose list has these letters.
-pub(crate) fn read_index(
-    alloc: Global,
-    letters: &str,
-    expected: &str,
-    word: &str,
-) -> Result<usize, ReadError> {
-    match index_after(letters, word) {
-        Some(index) => Ok(index),
-        None => Err(unexpected(alloc, expected, word)),
-    }
+pub fn read_number(word: &str) -> Result<u64, ScriptError<'_>> {
+    number_of(word).ok_or(unexpected("a number", word))
 }
 
 /// Reads a number below 2^32.
-pub(crate) fn read_small_number(alloc: Global, word: &str) -> Result<u32, ReadError> {
-    match small_number_of(word) {
-        Some(number) => Ok(number),
-        None => Err(unexpected(alloc, "a number below 2^32", word)),
+pub fn read_small_number(word: &str) -> Result<u32, ScriptError<'_>> {
+    small_number_of(word).ok_or(unexpected("a number below 2^32", word))
+}
+
+/// Reads the index of a resource.
+pub fn read_resource(word: &str) -> Result<usize, ScriptError<'_>> {
+    index_after("r", word).ok_or(unexpected("a resource", word))
+}
+
+/// Reads the index of an interface.
+pub fn read_interface(word: &str) -> Result<usize, ScriptError<'_>> {
+    index_after("i", word).ok_or(unexpected("an interface", word))
+}
+
+/// Reads the index of an interface, or none from `-`.
+pub fn read_optional_interface(word: &str) -> Result<Option<usize>, ScriptError<'_>> {
+    if word == "-" {
+        return Ok(None);
     }
+    Ok(Some(read_interface(word)?))
+}
+
+/// Reads the index of a world.
+pub fn read_world(word: &str) -> Result<usize, ScriptError<'_>> {
+    index_after("w", word).ok_or(unexpected("a world", word))
 }

@@ -1,8 +1,8 @@
 //! Value types, types and items, as words name them.
 
-use super::error::{ReadError, unexpected};
+use super::entries::{EntryName, Sort, entry_of};
+use super::error::{ScriptError, unexpected};
 use super::numbers::index_after;
-use std::alloc::Global;
 use wac_model::PrimitiveType;
 
 /// A value type. Entries are named by their index in the list of their sort.
@@ -21,17 +21,9 @@ pub enum Value {
 /// A type.
 #[derive(Clone, Copy)]
 pub enum TypeWord {
-    /// A resource, as `r0`.
-    Resource(usize),
-    /// A function, as `fn0`.
-    Func(usize),
-    /// An interface, as `i0`.
-    Interface(usize),
-    /// A world, as `w0`.
-    World(usize),
-    /// A core module, as `m0`.
-    Module(usize),
-    /// A value type.
+    /// An entry, as `fn0`, `r0` or `d0`.
+    Entry(EntryName),
+    /// A value type that is no entry.
     Value(Value),
 }
 
@@ -52,25 +44,8 @@ pub enum Item {
     Value(Value),
 }
 
-/// An entry, by its index in the list of its sort.
-#[derive(Clone, Copy)]
-pub enum EntryWord {
-    /// A defined type, as `d0`.
-    Defined(usize),
-    /// A resource, as `r0`.
-    Resource(usize),
-    /// A function, as `fn0`.
-    Func(usize),
-    /// An interface, as `i0`.
-    Interface(usize),
-    /// A world, as `w0`.
-    World(usize),
-    /// A core module, as `m0`.
-    Module(usize),
-}
-
 // The primitive types.
-const PRIMITIVES: [PrimitiveType; 14] = [
+static PRIMITIVES: [PrimitiveType; 14] = [
     PrimitiveType::U8,
     PrimitiveType::S8,
     PrimitiveType::U16,
@@ -87,40 +62,24 @@ const PRIMITIVES: [PrimitiveType; 14] = [
     PrimitiveType::ErrorContext,
 ];
 
+fn primitives() -> &'static [PrimitiveType] {
+    &PRIMITIVES
+}
+
 // The primitive type of this name.
 fn primitive_of(word: &str) -> Option<PrimitiveType> {
-    for primitive in PRIMITIVES {
+    for primitive in primitives() {
         if primitive.desc() == word {
-            return Some(primitive);
+            return Some(*primitive);
         }
     }
     None
 }
 
-/// The entry that a word names.
-pub(crate) fn entry_of(word: &str) -> Option<EntryWord> {
+// The value type that a word names.
+fn value_of(word: &str) -> Option<Value> {
     if let Some(index) = index_after("d", word) {
-        return Some(EntryWord::Defined(index));
-    }
-    if let Some(index) = index_after("r", word) {
-        return Some(EntryWord::Resource(index));
-    }
-    if let Some(index) = index_after("fn", word) {
-        return Some(EntryWord::Func(index));
-    }
-    if let Some(index) = index_after("i", word) {
-        return Some(EntryWord::Interface(index));
-    }
-    if let Some(index) = index_after("w", word) {
-        return Some(EntryWord::World(index));
-    }
-    Some(EntryWord::Module(index_after("m", word)?))
-}
-
-/// The value type that a word names.
-pub(crate) fn value_of(word: &str) -> Option<Value> {
-    if let Some(primitive) = primitive_of(word) {
-        return Some(Value::Primitive(primitive));
+        return Some(Value::Defined(index));
     }
     if let Some(index) = index_after("own:r", word) {
         return Some(Value::Own(index));
@@ -128,25 +87,13 @@ pub(crate) fn value_of(word: &str) -> Option<Value> {
     if let Some(index) = index_after("borrow:r", word) {
         return Some(Value::Borrow(index));
     }
-    Some(Value::Defined(index_after("d", word)?))
+    Some(Value::Primitive(primitive_of(word)?))
 }
 
 // The type that a word names.
 fn type_of(word: &str) -> Option<TypeWord> {
-    if let Some(index) = index_after("r", word) {
-        return Some(TypeWord::Resource(index));
-    }
-    if let Some(index) = index_after("fn", word) {
-        return Some(TypeWord::Func(index));
-    }
-    if let Some(index) = index_after("i", word) {
-        return Some(TypeWord::Interface(index));
-    }
-    if let Some(index) = index_after("w", word) {
-        return Some(TypeWord::World(index));
-    }
-    if let Some(index) = index_after("m", word) {
-        return Some(TypeWord::Module(index));
+    if let Some(entry) = entry_of(word) {
+        return Some(TypeWord::Entry(entry));
     }
     Some(TypeWord::Value(value_of(word)?))
 }
@@ -166,33 +113,41 @@ fn item_of(word: &str) -> Option<Item> {
 }
 
 /// Reads a value type.
-pub(crate) fn read_value(alloc: Global, word: &str) -> Result<Value, ReadError> {
-    match value_of(word) {
-        Some(value) => Ok(value),
-        None => Err(unexpected(alloc, "a value type", word)),
-    }
+pub fn read_value(word: &str) -> Result<Value, ScriptError<'_>> {
+    value_of(word).ok_or(unexpected("a value type", word))
 }
 
 /// Reads a value type, or none from `-`.
-pub(crate) fn read_optional_value(alloc: Global, word: &str) -> Result<Option<Value>, ReadError> {
+pub fn read_optional_value(word: &str) -> Result<Option<Value>, ScriptError<'_>> {
     if word == "-" {
         return Ok(None);
     }
-    Ok(Some(read_value(alloc, word)?))
+    Ok(Some(read_value(word)?))
 }
 
 /// Reads a type.
-pub(crate) fn read_type(alloc: Global, word: &str) -> Result<TypeWord, ReadError> {
-    match type_of(word) {
-        Some(ty) => Ok(ty),
-        None => Err(unexpected(alloc, "a type", word)),
+pub fn read_type(word: &str) -> Result<TypeWord, ScriptError<'_>> {
+    type_of(word).ok_or(unexpected("a type", word))
+}
+
+/// Reads a value type or a resource.
+pub fn read_resolvable(word: &str) -> Result<TypeWord, ScriptError<'_>> {
+    if let Some(index) = index_after("r", word) {
+        let sort = Sort::Resource;
+        return Ok(TypeWord::Entry(EntryName { sort, index }));
+    }
+    match value_of(word) {
+        Some(value) => Ok(TypeWord::Value(value)),
+        None => Err(unexpected("a value type or a resource", word)),
     }
 }
 
 /// Reads an item.
-pub(crate) fn read_item(alloc: Global, word: &str) -> Result<Item, ReadError> {
-    match item_of(word) {
-        Some(item) => Ok(item),
-        None => Err(unexpected(alloc, "an item", word)),
-    }
+pub fn read_item(word: &str) -> Result<Item, ScriptError<'_>> {
+    item_of(word).ok_or(unexpected("an item", word))
+}
+
+/// Reads the name of an entry.
+pub fn read_entry(word: &str) -> Result<EntryName, ScriptError<'_>> {
+    entry_of(word).ok_or(unexpected("an entry", word))
 }

@@ -2,11 +2,10 @@
 
 use std::alloc::{AllocError, AllocFailed};
 use std::{error, fmt, io};
-use wac_script_entries::EntryError;
-use wac_script_syntax::ReadError;
+use wac_script_syntax::ScriptError;
 
 /// Why nothing was measured.
-#[derive(Debug, Drop)]
+#[derive(Clone, Copy, Debug)]
 pub enum BenchError {
     /// The work gave an answer that is not its answer.
     Answer,
@@ -30,20 +29,11 @@ impl<T: Drop> From<AllocFailed<T>> for BenchError {
     }
 }
 
-impl From<ReadError> for BenchError {
-    fn from(error: ReadError) -> BenchError {
+impl From<ScriptError<'_>> for BenchError {
+    fn from(error: ScriptError<'_>) -> BenchError {
         match error {
-            ReadError::Malformed(_) => BenchError::Input,
-            ReadError::Memory => BenchError::Memory,
-        }
-    }
-}
-
-impl From<EntryError> for BenchError {
-    fn from(error: EntryError) -> BenchError {
-        match error {
-            EntryError::NoEntry(_) => BenchError::Input,
-            EntryError::Memory => BenchError::Memory,
+            ScriptError::Memory => BenchError::Memory,
+            _ => BenchError::Input,
         }
     }
 }

@@ -2,5 +2,5 @@ use Rattle.wac_component.specs.Content.{named}
 use Rattle.wac_component.specs.Key.{AllStand, named_keys, item_keys}
 use Rattle.wac_script_entries.proofs.contents.named_items.Given as goal
 
-abbrev pub invariant-loop-item : goal.invariant-loop-item
-invariant-loop-item l = AllStand l.types (named_keys item_keys (named (λ k. k) l.kinds.entries))
+abbrev pub invariant-loop-member : goal.invariant-loop-member
+invariant-loop-member l = AllStand l.types (named_keys item_keys (named (λ k. k) l.kinds.entries))
