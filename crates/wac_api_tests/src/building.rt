@@ -7,11 +7,7 @@ use std::alloc::Global;
 use std::test::Fail;
 use wac_script_entries::add;
 use wac_script_syntax::{Command, read_line};
-use wac_types::{DefinedTypeId, InterfaceId, PrimitiveType, Types, ValueType, WorldId};
-
-pub(crate) const BYTE: ValueType = ValueType::Primitive(PrimitiveType::U8);
-
-pub(crate) const ELSEWHERE: &str = "an id stands in another collection";
+use wac_types::{DefinedTypeId, InterfaceId, Types, WorldId};
 
 // Adds the entry that a line describes.
 fn add_line(alloc: Global, types: &mut Types, line: &str) -> Result<(), Fail> {
@@ -25,9 +21,9 @@ fn add_line(alloc: Global, types: &mut Types, line: &str) -> Result<(), Fail> {
 }
 
 // A collection of the entries that these lines describe.
-pub(crate) fn built(alloc: Global, number: u64, lines: &[&str]) -> Result<Types, Fail> {
+pub(crate) fn built(alloc: Global, number: u64, lines: &str) -> Result<Types, Fail> {
     let mut types = Types::new(alloc, number);
-    for line in lines {
+    for line in lines.lines() {
         add_line(alloc, &mut types, line)?;
     }
     Ok(types)

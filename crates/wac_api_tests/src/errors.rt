@@ -3,13 +3,19 @@
 ghost use Rattle.wac_component.specs.Key.{Stands, defined_key};
 
 use super::building::{built, defined};
-use super::showing::{assert_debug, assert_shows};
+use super::showing::{debugs, shows};
 use std::alloc::Global;
 use std::collections::HashSet;
 use std::test::Fail;
 use wac_types::{
-    DefinedTypeId, Fault, Frame, ItemKind, SubtypeChecker, SubtypeError, Types, ValueType,
+    DefinedTypeId, Fault, Frame, ItemKind, NameError, SubtypeChecker, SubtypeError, TargetError,
+    Types, ValueType,
 };
+
+const LISTS: &str = "def option u8
+def list d0
+def option s8
+def list d2";
 
 // Why a value of one defined type doesn't fit where one of another is asked for.
 fn refusal(
@@ -24,8 +30,7 @@ fn refusal(
     let a = ItemKind::Value(ValueType::Defined(a));
     let b = ItemKind::Value(ValueType::Defined(b));
     let mut cache = HashSet::new(alloc);
-    let mut checker = SubtypeChecker::new(&mut cache);
-    match checker.is_subtype(alloc, a, types, b, types) {
+    match SubtypeChecker::new(&mut cache).is_subtype(alloc, a, types, b, types) {
         Ok(()) => Err(Fail::new("the item fits")),
         Err(error) => Ok(error),
     }
@@ -33,37 +38,44 @@ fn refusal(
 
 #[test]
 fn frames_lead_from_the_outermost_place_to_the_fault(rt: HostRuntime) -> Result<(), Fail> {
-    let alloc = rt.alloc();
-    let lines = [
-        "def option u8",
-        "def list d0",
-        "def option s8",
-        "def list d2",
-    ];
-    let types = built(alloc, 1, &lines)?;
-    let error = refusal(alloc, &types, defined(&types, 1)?, defined(&types, 3)?)?;
-    let (expected, found) = ("s8", "u8");
-    assert!(&rt; error.frames() == [Frame::ListElement, Frame::Option].as_slice());
-    assert!(&rt; error.fault() == Some(&Fault::Kind { expected, found }));
-    assert_shows(&rt, alloc, &error, "mismatched type for list element")?;
+    let types = built(rt.alloc(), 1, LISTS)?;
+    let (a, b) = (defined(&types, 1)?, defined(&types, 3)?);
+    let error = refusal(rt.alloc(), &types, a, b)?;
+    assert!(&rt; debugs(&error.frames(), "[ListElement, Option]"));
+    assert!(&rt;
+        debugs(
+            &error.fault(),
+            "Some(Kind { expected: \"s8\", found: \"u8\" })"
+        )
+    );
+    assert!(&rt; shows(&error, "mismatched type for list element"));
     let shown =
         "Mismatch { frames: [ListElement, Option], fault: Kind { expected: \"s8\", found: \"u8\" } }";
-    assert_debug(&rt, alloc, &error, shown)
+    assert!(&rt; debugs(&error, shown));
+    Ok(())
 }
 
 #[test]
-fn without_frames_an_error_shows_its_fault_and_without_memory_neither(
-    rt: HostRuntime,
-) -> Result<(), Fail> {
-    let alloc = rt.alloc();
+fn without_frames_an_error_shows_its_fault(rt: HostRuntime) {
     let error = SubtypeError::Mismatch {
-        frames: Vec::new(alloc),
+        frames: Vec::new(rt.alloc()),
         fault: Fault::Payload { expected: true },
     };
-    assert_shows(&rt, alloc, &error, "expected a type payload, found none")?;
     assert!(&rt; error.fault() != Some(&Fault::Payload { expected: false }));
-    assert!(&rt; Frame::Field(String::new(alloc)) != Frame::Case(String::new(alloc)));
+    assert!(&rt; shows(&error, "expected a type payload, found none"));
+}
+
+#[test]
+fn frames_of_two_kinds_differ(rt: HostRuntime) {
+    let (field, case) = (String::new(rt.alloc()), String::new(rt.alloc()));
+    assert!(&rt; Frame::Field(field) != Frame::Case(case));
+}
+
+#[test]
+fn without_memory_an_error_says_so_and_has_neither_frames_nor_fault(rt: HostRuntime) {
     let error = SubtypeError::Memory;
     assert!(&rt; error.frames().is_empty() && error.fault().is_none());
-    assert_shows(&rt, alloc, &error, "out of memory")
+    assert!(&rt; shows(&error, "out of memory"));
+    assert!(&rt; shows(&NameError::Memory, "out of memory"));
+    assert!(&rt; shows(&TargetError::Memory, "out of memory"));
 }

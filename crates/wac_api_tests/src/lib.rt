@@ -7,8 +7,6 @@ mod building;
 #[cfg(test)]
 mod checking;
 #[cfg(test)]
-mod checks;
-#[cfg(test)]
 mod collections;
 #[cfg(test)]
 mod errors;
@@ -19,13 +17,13 @@ mod ids;
 #[cfg(test)]
 mod name_maps;
 #[cfg(test)]
-mod package_keys;
-#[cfg(test)]
 mod packages;
 #[cfg(test)]
 mod programs;
 #[cfg(test)]
 mod replacing;
+#[cfg(test)]
+mod replays;
 #[cfg(test)]
 mod reports;
 #[cfg(test)]
@@ -34,3 +32,5 @@ mod scripts;
 mod showing;
 #[cfg(test)]
 mod visits;
+#[cfg(test)]
+mod writers;

@@ -1,43 +1,53 @@
-//! Maps of names over interners of a caller's own: two maps of one interner, what is lent, and clones.
+//! Maps of names over interners of a caller's own: two maps of one interner, what is lent, and clones; and how
+//! versions of names are ordered.
 
-use super::showing::assert_shows;
+use super::showing::{debugs, shows};
 use std::alloc::Global;
-use std::process::Abort;
+use std::cmp::Ordering;
 use std::test::Fail;
 use wac_interners::{Countdown, Numbers};
+use wac_names::version_cmp;
 use wac_types::{NameError, NameMap, NameMapIntern};
 
 type Map = NameMap<usize, u32>;
 
-fn assert_gets<R: Abort, I: NameMapIntern<Key = usize>>(
-    rt: &R,
-    map: &Map,
-    cx: &I,
-    name: &str,
-    wanted: Option<u32>,
-) -> Result<(), Fail> {
-    assert_eq!(rt; map.get(name, cx)?.copied(), wanted, "{name}");
-    Ok(())
+// The value under a name, 0 where it can't be told.
+fn value<I: NameMapIntern<Key = usize>>(map: &Map, cx: &I, name: &str) -> Option<u32> {
+    match map.get(name, cx) {
+        Ok(value) => value.copied(),
+        Err(_) => Some(0),
+    }
 }
 
-// A name that is on the track of another, and has the other's track key as its own name, stands alone.
-fn check_track<R: Abort>(rt: &R, alloc: Global, cx: &mut Countdown) -> Result<(), Fail> {
+// The key under which a name is put, 0 where it can't be.
+fn put(map: &mut Map, cx: &mut Countdown, name: &str, value: u32) -> usize {
+    match map.insert(name, cx, false, value) {
+        Ok(key) => key,
+        Err(_) => 0,
+    }
+}
+
+// Whether in a new map a name that is on the track of another, and has the other's track key as its own name,
+// stands alone.
+fn stands_alone(alloc: Global, cx: &mut Countdown) -> bool {
     let mut map: Map = NameMap::new(alloc);
-    assert_gets(rt, &map, cx, "a:b/c@1.0.0", None)?;
-    assert_eq!(rt; map.insert("a:b/c@1", cx, false, 5)?, 1000);
-    assert_gets(rt, &map, cx, "a:b/c@1.0.0", None)?;
-    assert_eq!(rt; map.insert("a:b/c@1.2.0", cx, false, 6)?, 999);
-    assert_gets(rt, &map, cx, "a:b/c@1.0.0", Some(6))?;
-    assert_gets(rt, &map, cx, "a:b/c@1", Some(5))
+    let before = value(&map, cx, "a:b/c@1.0.0");
+    let alone = put(&mut map, cx, "a:b/c@1", 5);
+    let between = value(&map, cx, "a:b/c@1.0.0");
+    let tracked = put(&mut map, cx, "a:b/c@1.2.0", 6);
+    let after = value(&map, cx, "a:b/c@1.0.0");
+    let itself = value(&map, cx, "a:b/c@1");
+    (alone, tracked) == (1000, 999)
+        && [before, between, after, itself] == [None, None, Some(6), Some(5)]
 }
 
 #[test]
 fn two_maps_of_one_interner_know_nothing_of_each_other(rt: HostRuntime) -> Result<(), Fail> {
-    let alloc = rt.alloc();
-    let mut cx = Countdown::new(alloc);
-    assert_eq!(&rt; cx.intern(alloc, "a:b/c@1")?, 1000);
-    check_track(&rt, alloc, &mut cx)?;
-    check_track(&rt, alloc, &mut cx)
+    let mut cx = Countdown::new(rt.alloc());
+    assert_eq!(&rt; cx.intern(rt.alloc(), "a:b/c@1")?, 1000);
+    assert!(&rt; stands_alone(rt.alloc(), &mut cx));
+    assert!(&rt; stands_alone(rt.alloc(), &mut cx));
+    Ok(())
 }
 
 fn filled(alloc: Global, cx: &mut Numbers) -> Result<Map, NameError> {
@@ -48,6 +58,15 @@ fn filled(alloc: Global, cx: &mut Numbers) -> Result<Map, NameError> {
     Ok(map)
 }
 
+// Whether a map has these two entries, in this order.
+fn lists(map: &Map, first: (usize, u32), second: (usize, u32)) -> bool {
+    let mut entries = map.raw_iter();
+    let (Some(a), Some(b), None) = (entries.next(), entries.next(), entries.next()) else {
+        return false;
+    };
+    (*a.0, *a.1) == first && (*b.0, *b.1) == second
+}
+
 #[test]
 fn values_are_listed_in_order_written_in_place_and_cloned(rt: HostRuntime) -> Result<(), Fail> {
     let mut map = filled(rt.alloc(), &mut Numbers::new(rt.alloc()))?;
@@ -56,23 +75,49 @@ fn values_are_listed_in_order_written_in_place_and_cloned(rt: HostRuntime) -> Re
         Some(value) => *value = 9,
         None => assert!(&rt; false),
     }
-    assert!(&rt; map.raw_iter().map(|entry| *entry.0).eq([0, 1]));
-    assert!(&rt; map.raw_iter().map(|entry| *entry.1).eq([3, 9]));
-    assert!(&rt; copy.raw_iter().map(|entry| *entry.1).eq([3, 2]));
     assert!(&rt; map.raw_get_mut(&7).is_none());
+    assert!(&rt; lists(&map, (0, 3), (1, 9)) && lists(&copy, (0, 3), (1, 2)));
     Ok(())
 }
 
 #[test]
 fn a_name_that_is_there_is_handed_back_in_the_error(rt: HostRuntime) -> Result<(), Fail> {
-    let alloc = rt.alloc();
-    let mut cx = Numbers::new(alloc);
-    let mut map = filled(alloc, &mut cx)?;
-    let Err(error) = map.insert("b", &mut cx, false, 4) else {
+    let mut cx = Numbers::new(rt.alloc());
+    let mut map = filled(rt.alloc(), &mut cx)?;
+    let answer = map.insert("b", &mut cx, false, 4);
+    assert!(&rt; debugs(&answer, "Err(Twice { name: \"b\" })"));
+    let Err(error) = answer else {
         return Err(Fail::new("the name is there twice"));
     };
-    assert_shows(&rt, alloc, &error, "map entry `b` defined twice")?;
-    assert!(&rt; matches!(&error, NameError::Twice { name } if name.as_str() == "b"));
-    assert_gets(&rt, &map, &cx, "b", Some(2))?;
-    assert_shows(&rt, alloc, &NameError::Memory, "out of memory")
+    assert!(&rt; shows(&error, "map entry `b` defined twice"));
+    assert_eq!(&rt; value(&map, &cx, "b"), Some(2));
+    Ok(())
+}
+
+#[test]
+fn versions_on_one_track_are_ordered(rt: HostRuntime) -> Result<(), Fail> {
+    for (a, b, wanted) in [
+        ("a:b/c@1.2.3", "a:b/c@1.2.3", Some(Ordering::Equal)),
+        ("a:b/c@1.9.0", "a:b/c@1.10.0", Some(Ordering::Less)),
+        ("a:b/c@0.2.1", "a:b/c@0.2.0", Some(Ordering::Greater)),
+        // build metadata come last
+        ("a:b/c@1.2.3", "a:b/c@1.2.3+a", Some(Ordering::Less)),
+        ("a:b/c@1.2.3+b", "a:b/c@1.2.3+a", Some(Ordering::Greater)),
+        ("a:b/c@1.2.3+b", "a:b/c@1.2.4+a", Some(Ordering::Less)),
+        // a pre-release has no track
+        ("a:b/c@1.2.3-rc.1", "a:b/c@1.2.3", None),
+        ("a:b/c@1.2.3-rc.1", "a:b/c@1.2.3-rc.1", None),
+        // two tracks
+        ("a:b/c@1.2.3", "a:b/c@2.2.3", None),
+        ("a:b/c@0.1.0", "a:b/c@0.2.0", None),
+        ("a:b/c@1.2.3", "a:b/d@1.2.3", None),
+        // no version, or none that has a track
+        ("a:b/c", "a:b/c", None),
+        ("a:b/c", "a:b/c@1.2.3", None),
+        ("a", "a", None),
+        ("a:b/c@0.0.1", "a:b/c@0.0.1", None),
+    ] {
+        assert_eq!(&rt; version_cmp(rt.alloc(), a, b)?, wanted, "{a} {b}");
+    }
+    Ok(())
 }

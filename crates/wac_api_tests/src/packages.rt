@@ -1,96 +1,128 @@
-//! What a package holds, and what is added for it.
+//! What a package and its keys hold and show, hashed, owned and borrowed.
 
-use super::building::{ELSEWHERE, built, world};
-use super::package_keys::version;
-use super::showing::assert_debug;
+use super::building::{built, world};
+use super::showing::{debugs, shows};
 use semver::Version;
-use std::alloc::Global;
+use std::alloc::{AllocError, Global};
+use std::collections::HashSet;
 use std::process::Abort;
 use std::test::Fail;
-use wac_types::{
-    BorrowedKey, BorrowedPackageKey, ItemKind, Package, PackageKey, Type, Types, WorldId, same_key,
-};
+use wac_types::{BorrowedKey, BorrowedPackageKey, Package, PackageKey, same_key};
 
 // A world that imports an instance as `in` and exports it as `out`, and exports the type of a world that
 // exports it under the name of an interface as `d`.
-const PLUG: [&str; 4] = [
-    "func sync -",
-    "iface - e:f=F:fn0",
-    "world - e:wasi:http/types=I:i0",
-    "world - m:in=I:i0 e:out=I:i0 e:d=T:w0",
-];
+const PLUG: &str = "func sync -
+iface - e:f=F:fn0
+world - e:wasi:http/types=I:i0
+world - m:in=I:i0 e:out=I:i0 e:d=T:w0";
 
-// A package of three bytes, and what it was made of.
-#[derive(Drop)]
-struct Made {
-    types: Types,
-    world: WorldId,
-    package: Package,
-}
-
-fn make_package(alloc: Global, version: Option<&Version>) -> Result<Made, Fail> {
-    let mut types = built(alloc, 1, &PLUG)?;
+// A package of three bytes.
+fn package(alloc: Global, version: Option<&Version>) -> Result<Package, Fail> {
+    let mut types = built(alloc, 1, PLUG)?;
     let world = world(&types, 1)?;
     let bytes = vec![in alloc; 0, 97, 115]?;
-    let package = Package::from_world(alloc, "a:b", version, bytes, &mut types, world)?;
-    Ok(Made {
-        types,
-        world,
-        package,
-    })
+    Ok(Package::from_world(alloc, "a:b", version, bytes, &mut types, world)?)
 }
 
-fn check_getters<R: Abort>(rt: &R, package: &Package, two: &Version, world: &WorldId) {
-    assert_eq!(rt; package.name(), "a:b");
-    assert_eq!(rt; package.version(), Some(two));
-    assert_eq!(rt; package.bytes(), [0, 97, 115].as_slice());
-    assert_eq!(rt; package.ty(), *world);
-    assert_eq!(rt; package.instance_type().index(), 1);
-    assert_eq!(rt; package.definitions().len(), 1);
-    match package.definitions().get_index(0) {
-        Some((name, ItemKind::Type(Type::Interface(id)))) => {
-            assert_eq!(rt; name.as_str(), "d");
-            assert_eq!(rt; id.index(), 0);
-        }
-        _ => assert!(rt; false, "no interface is defined"),
-    }
+// Whether a package holds what it was made of.
+fn holds(package: &Package, version: &Version) -> bool {
+    let named = package.name() == "a:b" && package.version() == Some(version);
+    let ids = package.ty().index() == 1 && package.instance_type().index() == 1;
+    let defined = "{\"d\": Type(Interface(InterfaceId { number: 1, index: 0 }))}";
+    named
+        && ids
+        && package.bytes() == [0, 97, 115].as_slice()
+        && debugs(package.definitions(), defined)
 }
 
 #[test]
 fn a_package_holds_what_it_is_made_of_and_its_clone_does(rt: HostRuntime) -> Result<(), Fail> {
-    let two = version(rt.alloc(), "0.2.0")?;
-    let made = make_package(rt.alloc(), Some(&two))?;
-    check_getters(&rt, &made.package, &two, &made.world);
-    check_getters(&rt, &made.package.clone()?, &two, &made.world);
+    let two = Version::new(0, 2, 0);
+    let package = package(rt.alloc(), Some(&two))?;
+    assert!(&rt; holds(&package, &two) && holds(&package.clone()?, &two));
     Ok(())
 }
-
-#[test]
-fn keys_of_a_package_have_its_name_and_version(rt: HostRuntime) -> Result<(), Fail> {
-    let two = version(rt.alloc(), "0.2.0")?;
-    let made = make_package(rt.alloc(), Some(&two))?;
-    let owned = PackageKey::new(rt.alloc(), &made.package)?;
-    assert!(&rt; same_key(&owned, &BorrowedPackageKey::new(&made.package)));
-    assert!(&rt; made.package.key() == owned.borrowed_key());
-    Ok(())
-}
-
-const ADDED: &str =
-    "Interface { id: None, uses: {}, exports: {\"out\": Instance(InterfaceId { number: 1, index: 0 }), \"d\": Type(World(WorldId { number: 1, index: 0 }))} }";
 
 const SHOWN: &str =
     "Package { name: \"a:b\", version: None, bytes: \"...\", ty: WorldId { number: 1, index: 1 }, instance_type: InterfaceId { number: 1, index: 1 }, definitions: {\"d\": Type(Interface(InterfaceId { number: 1, index: 0 }))} }";
 
 #[test]
-fn one_interface_is_added_for_a_package_and_its_bytes_are_not_shown(
+fn the_bytes_of_a_package_are_not_shown(rt: HostRuntime) -> Result<(), Fail> {
+    let package = package(rt.alloc(), None)?;
+    assert!(&rt; debugs(&package, SHOWN));
+    Ok(())
+}
+
+#[test]
+fn keys_of_a_package_have_its_name_and_version(rt: HostRuntime) -> Result<(), Fail> {
+    let two = Version::new(0, 2, 0);
+    let package = package(rt.alloc(), Some(&two))?;
+    let owned = PackageKey::new(rt.alloc(), &package)?;
+    assert!(&rt; same_key(&owned, &BorrowedPackageKey::new(&package)));
+    assert!(&rt; package.key() == owned.borrowed_key());
+    Ok(())
+}
+
+// The key of a package of this name and version.
+fn key(alloc: Global, name: &str, version: Option<&Version>) -> Result<PackageKey, AllocError> {
+    BorrowedPackageKey::from_name_and_version(name, version).into_owned(alloc)
+}
+
+#[test]
+fn an_equal_key_is_found_in_a_set(rt: HostRuntime) -> Result<(), Fail> {
+    let two = Version::new(0, 2, 0);
+    let mut keys = HashSet::new(rt.alloc());
+    keys.insert(key(rt.alloc(), "wasi:http", Some(&two))?)?;
+    assert!(&rt; keys.contains(&key(rt.alloc(), "wasi:http", Some(&two))?));
+    assert!(&rt; !keys.contains(&key(rt.alloc(), "wasi:http", None)?));
+    Ok(())
+}
+
+#[test]
+fn an_equal_borrowed_key_is_found_in_a_set(rt: HostRuntime) -> Result<(), Fail> {
+    let two = Version::new(0, 2, 0);
+    let same = BorrowedPackageKey::from_name_and_version("wasi:http", Some(&two));
+    let other = BorrowedPackageKey::from_name_and_version("wasi:io", Some(&two));
+    let mut keys = HashSet::new(rt.alloc());
+    keys.insert(same)?;
+    assert!(&rt; keys.contains(&same) && !keys.contains(&other));
+    Ok(())
+}
+
+fn assert_same<R: Abort>(rt: &R, a: &dyn BorrowedKey, b: &dyn BorrowedKey, wanted: bool) {
+    assert_eq!(rt; same_key(a, b), wanted);
+    assert_eq!(rt; same_key(b, a), wanted);
+}
+
+#[test]
+fn owned_and_borrowed_keys_of_one_name_and_version_are_the_same(
     rt: HostRuntime,
 ) -> Result<(), Fail> {
-    let Made { types, package, .. } = make_package(rt.alloc(), None)?;
-    assert!(&rt; types.interfaces().len() == 2 && types.worlds().len() == 2);
-    let id = package.instance_type();
-    if !types.contains(Type::Interface(id)) {
-        return Err(Fail::new(ELSEWHERE));
-    }
-    assert_debug(&rt, rt.alloc(), &types[id], ADDED)?;
-    assert_debug(&rt, rt.alloc(), &package, SHOWN)
+    let two = Version::new(0, 2, 0);
+    let owned = key(rt.alloc(), "wasi:http", Some(&two))?;
+    let borrowed = BorrowedPackageKey::from_name_and_version("wasi:http", Some(&two));
+    let plain = BorrowedPackageKey::from_name_and_version("wasi:http", None);
+    assert_same(&rt, &owned, &borrowed, true);
+    assert_same(&rt, &owned, &owned.clone()?, true);
+    assert_same(&rt, &owned, &plain, false);
+    assert_same(
+        &rt,
+        &borrowed,
+        &key(rt.alloc(), "wasi:io", Some(&two))?,
+        false,
+    );
+    Ok(())
+}
+
+#[test]
+fn keys_show_their_name_and_version(rt: HostRuntime) -> Result<(), Fail> {
+    let two = Version::new(0, 2, 0);
+    let owned = key(rt.alloc(), "wasi:http", Some(&two))?.clone()?;
+    assert!(&rt; owned.name() == "wasi:http" && owned.version() == Some(&two));
+    let borrowed = owned.borrowed_key();
+    assert!(&rt; borrowed.name == "wasi:http" && borrowed.version == Some(&two));
+    let plain = key(rt.alloc(), "a", None)?;
+    assert!(&rt; shows(&owned, "wasi:http@0.2.0") && shows(&borrowed, "wasi:http@0.2.0"));
+    assert!(&rt; shows(&plain, "a") && debugs(&plain, "PackageKey { name: \"a\", version: None }"));
+    Ok(())
 }

@@ -1,8 +1,7 @@
-//! The command lines of `wac-vectors`, over writers in memory and over one that fails.
+//! The command lines of `wac-vectors`, over writers in memory and over writers that fail.
 
+use super::writers::Expecting;
 use std::alloc::Global;
-use std::io;
-use std::io::Write;
 use std::process::Abort;
 use wac_vectors_program::run;
 
@@ -51,56 +50,24 @@ fn lines() -> &'static [Line] {
     &LINES
 }
 
-// A writer whose write of this number fails, and what it was given before.
-#[derive(Drop)]
-struct Failing {
-    number: u32,
-    writes: u32,
-    text: Vec<u8>,
-}
-
-impl Failing {
-    fn at(alloc: Global, number: u32) -> Failing {
-        Failing {
-            number,
-            writes: 0,
-            text: Vec::new(alloc),
-        }
-    }
-}
-
-impl Write for Failing {
-    fn write(&mut self, buf: &[u8]) -> io::Result<usize> {
-        self.writes = self.writes.saturating_add(1);
-        if self.writes == self.number {
-            return Err(io::Error::from(io::ErrorKind::Other));
-        }
-        self.text.extend_from_slice(buf)?;
-        Ok(buf.len())
-    }
-
-    fn flush(&mut self) -> io::Result<()> {
-        Ok(())
-    }
-}
-
 // Runs a command line over writers whose writes of this number fail; whether one did. Then the status is 1,
 // nothing more is written, and what was written is the front of what the line prints.
 fn fails<R: Abort>(rt: &R, alloc: Global, line: &Line, number: u32) -> bool {
     let (words, text, error, status) = line;
-    let mut out = Failing::at(alloc, number);
-    let mut err = Failing::at(alloc, number);
+    let mut out = Expecting::failing_at(text, number);
+    let mut err = Expecting::failing_at(error, number);
     let answer = run(alloc, words, &mut out, &mut err);
-    if out.writes < number && err.writes < number {
-        assert_eq!(rt; answer, *status);
-        assert_eq!(rt; out.text.as_slice(), text.as_bytes());
-        assert_eq!(rt; err.text.as_slice(), error.as_bytes());
+    if !out.has_failed() && !err.has_failed() {
+        assert!(rt;
+            answer == *status && out.has_all() && err.has_all(),
+            "{number}"
+        );
         return false;
     }
-    assert_eq!(rt; answer, 1);
-    assert!(rt; out.writes <= number && err.writes <= number);
-    assert!(rt; text.as_bytes().starts_with(&out.text));
-    assert!(rt; error.as_bytes().starts_with(&err.text));
+    assert!(rt;
+        answer == 1 && out.has_front() && err.has_front(),
+        "{number}"
+    );
     true
 }
 

@@ -1,46 +1,18 @@
-//! Asserts what values show.
+//! What values show.
 
-use std::alloc::Global;
-use std::fmt::{Debug, Display};
-use std::process::Abort;
-use std::slice;
-use std::test::Fail;
+use super::writers::Expecting;
+use std::fmt::{Debug, Display, Write};
 
-// Asserts that a value prints as this text.
-pub(crate) fn assert_shows<R: Abort, D: Display>(
-    rt: &R,
-    alloc: Global,
-    value: &D,
-    wanted: &str,
-) -> Result<(), Fail> {
-    let shown = format!(in alloc; "{value}")?;
-    assert_eq!(rt; shown.as_str(), wanted);
-    Ok(())
+// Whether a value prints as this text.
+pub(crate) fn shows<D: Display>(value: &D, wanted: &str) -> bool {
+    let mut out = Expecting::of(wanted);
+    let written = write!(out, "{value}");
+    written.is_ok() && out.has_all()
 }
 
-// Asserts that a value has this debug text.
-pub(crate) fn assert_debug<R: Abort, D: Debug>(
-    rt: &R,
-    alloc: Global,
-    value: &D,
-    wanted: &str,
-) -> Result<(), Fail> {
-    let shown = format!(in alloc; "{value:?}")?;
-    assert_eq!(rt; shown.as_str(), wanted);
-    Ok(())
-}
-
-// Asserts that the entries of a list and their clones have these debug texts, in order.
-pub(crate) fn assert_lists<R: Abort, T: Clone + Debug>(
-    rt: &R,
-    alloc: Global,
-    entries: slice::Iter<'_, T>,
-    wanted: &[&str],
-) -> Result<(), Fail> {
-    assert_eq!(rt; entries.len(), wanted.len());
-    for (entry, text) in entries.zip(wanted.iter()) {
-        assert_debug(rt, alloc, entry, text)?;
-        assert_debug(rt, alloc, &entry.clone()?, text)?;
-    }
-    Ok(())
+// Whether a value has this debug text.
+pub(crate) fn debugs<D: Debug>(value: &D, wanted: &str) -> bool {
+    let mut out = Expecting::of(wanted);
+    let written = write!(out, "{value:?}");
+    written.is_ok() && out.has_all()
 }
