@@ -28,5 +28,6 @@ pub mod ReplacedTrees
 pub mod Search
 pub mod Seen
 pub mod DistinctNames
+pub mod Roots
 pub mod StandingLemmas
 pub mod PartLemmas

@@ -1,7 +1,7 @@
 -- Visits of one list after another.
-use Rattle.std.proofs.Common.{◌≡◌, inl, inr, ℕ, suc, zero, ◌+◌, add-one, List, [], ◌∷◌, ◌++◌, drop, slice_get, length, arith, ◌≤◌, Option, Some, None, Result, Ok, Err, refl, ap, sym, ◌∙◌, subst}
+use Rattle.std.proofs.Common.{◌≡◌, inl, inr, ℕ, suc, zero, ◌+◌, add-one, List, [], ◌∷◌, ◌++◌, drop, slice_get, length, map, arith, ◌≤◌, Option, Some, None, Result, Ok, Err, refl, ap, sym, ◌∙◌, subst}
 use denote.Param.Always.{always_mut, mut_next}
-use Rattle.std.specs.Fn.{Mut}
+use Rattle.std.specs.Fn.{Mut, Takes}
 use Rattle.std.specs.Borrow.{Bor}
 use Rattle.std.specs.List.{flat_map}
 use Rattle.std.specs.Option.{option_to_list, option_map}
@@ -10,7 +10,7 @@ use Rattle.std.specs.declared.alloc.Global.{Global}
 use Rattle.wac_model.specs.Text.{Text}
 use Rattle.wac_component.specs.Id.{Id}
 use Rattle.wac_component.specs.Collection.{Collection, FuncContent, InterfaceContent, WorldContent}
-use Rattle.wac_component.specs.Key.{Key, func_entry, interface_entry, world_entry, defined_entry, resource_entry, module_entry, Stands, AllStand, Each, func_key, interface_key, world_key, item_keys, named_keys, use_keys}
+use Rattle.wac_component.specs.Key.{Key, func_entry, interface_entry, world_entry, defined_entry, resource_entry, module_entry, Stands, AllStand, Each, defined_key, func_key, interface_key, world_key, item_keys, named_keys, use_keys}
 use Rattle.wac_component.specs.Sound.{IsSound}
 use Rattle.wac_component.specs.Height.{height, keys_height}
 use Rattle.wac_component.specs.Content.{named, types_of, case_types}
@@ -77,6 +77,11 @@ module _ {F E : Type 0} (calls : Mut F (Bor Collection × (Id × Unit {0})) (Res
   pub MayVisit-always : (xs : List Id) (f : F) → always_mut calls f → MayVisit calls c f xs
   MayVisit-always [] f h = tt
   MayVisit-always (x ∷ xs) f h = (λ shown shows. (h.at ((shown, (x, tt)) ∷ [])).0, λ g s. MayVisit-always xs g (mut_next calls f (s.shown, (x, tt)) (Ok tt) g g s.called refl h))
+
+  -- one that may be called on each id that stands may be called on these, if they stand
+  pub MayVisit-standing : ((f : F) (shown : Bor Collection) (id : Id) → Stands shown.now (defined_key id) → Takes calls f (shown, (id, tt))) → (xs : List Id) (f : F) → AllStand c (map defined_key xs) → MayVisit calls c f xs
+  MayVisit-standing takes [] f st = tt
+  MayVisit-standing takes (x ∷ xs) f st = (λ shown shows. takes f shown x (subst (λ d. Stands d (defined_key x)) (sym shows) st.0), λ g s. MayVisit-standing takes xs g st.1)
 
   -- at a place of a list: on what is there, and after it on what is left
   module _ {X : Type 0} (ids : X → List Id) (xs : List X) (i : ℕ) (x : X) (at : slice_get xs i ≡ Some x) where

@@ -1,12 +1,12 @@
 -- The names in what an entry says are distinct.
-use Rattle.std.specs.Prelude.{List, []}
+use Rattle.std.specs.Prelude.{◌≡◌, List, [], Some}
 use Rattle.std.specs.List.{IsDistinct}
 use Rattle.std.specs.Map.{keys_of}
 use Rattle.std.specs.Str.{bytes_eq}
 use Rattle.wac_model.specs.Text.{Text, import_name_eq}
 use Rattle.wac_model.specs.ValueTree.{ValueLabel, variant, record_of, flags, enum}
-use Rattle.wac_component.specs.Collection.{DefinedContent, alias_of, composed}
-use Rattle.wac_component.specs.Key.{Entry, defined_entry, resource_entry, func_entry, interface_entry, world_entry, module_entry}
+use Rattle.wac_component.specs.Collection.{Collection, DefinedContent, alias_of, composed}
+use Rattle.wac_component.specs.Key.{Key, Entry, entry_at, defined_entry, resource_entry, func_entry, interface_entry, world_entry, module_entry}
 
 -- no text stands twice
 abbrev pub AreDistinct : List Text → Type 0
@@ -33,3 +33,7 @@ HasDistinctNames (func_entry f) = AreDistinct (keys_of f.params)
 HasDistinctNames (interface_entry i) = AreDistinct (keys_of i.uses) × AreDistinct (keys_of i.exports)
 HasDistinctNames (world_entry w) = AreDistinct (keys_of w.uses) × AreDistinct (keys_of w.imports) × AreDistinct (keys_of w.exports)
 HasDistinctNames (module_entry m) = IsDistinct import_name_eq (keys_of m.imports) × AreDistinct (keys_of m.exports)
+
+-- the same of the entry of an id
+abbrev pub HasDistinctNamesAt : Collection → Key → Type 0
+HasDistinctNamesAt c k = (e : Entry) → entry_at c k ≡ Some e → HasDistinctNames e

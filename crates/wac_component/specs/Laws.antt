@@ -3,6 +3,7 @@ use Rattle.std.specs.Prelude.{◌≡◌, ◌↔◌, ◌⊎◌, Some, map, slice_
 use Rattle.wac_model.specs.CoreTree.{ModuleTree}
 use Rattle.wac_model.specs.ItemTree.{item, composite, core_module, leaf, func, interface, world, no_items}
 use Rattle.wac_component.specs.Id.{Id}
+use Rattle.wac_component.specs.Aliases.{IsSourceOf}
 use Rattle.wac_component.specs.Collection.{Collection, DefinedContent, ResourceContent, FuncContent, InterfaceContent, WorldContent}
 use Rattle.wac_component.specs.Key.{Key, Entry, next, entry_keys, import_keys, other_keys, Stands, AllStand, value_keys, defined_key, resource_key, func_key, interface_key, world_key, type_keys}
 use Rattle.wac_component.specs.Visits.{visits}
@@ -48,6 +49,10 @@ VisitsStand = (c : Collection) → IsSound c → (t : TypeOf) → AllStand c (ty
 -- the ids in an entry are those in what it imports and those in the rest of it
 abbrev pub ImportsAreApart : Type 0
 ImportsAreApart = (e : Entry) (k : Key) → IsAmong k (entry_keys e) ↔ (IsAmong k (import_keys e) ⊎ IsAmong k (other_keys e))
+
+-- resources whose aliases lead to one resource have one name, whoever owns them
+abbrev pub OneSourceHasOneName : Type 0
+OneSourceHasOneName = (c : Collection) → IsSound c → (r s t : Id) → Stands c (resource_key r) → Stands c (resource_key s) → IsSourceOf c r t → IsSourceOf c s t → root_name c r ≡ root_name c s
 
 -- d has the resources, defined types and functions of c, whatever else it has
 pub record HasLeavesOf (c d : Collection) : Type 0 where

@@ -1,12 +1,15 @@
 //! Laws of collections and of their entries. Each is the contract of a function that changes nothing.
 
-ghost use Rattle.wac_component.specs.Laws.{IsReflexive, IsTransitive, TreesFollowEntries, ImportsAreApart, LeavesDependOnLeaves, WalksStand, NoWalkReturns, VisitsStand};
+ghost use Rattle.wac_component.specs.Laws.{IsReflexive, IsTransitive, TreesFollowEntries, ImportsAreApart, LeavesDependOnLeaves, OneSourceHasOneName, WalksStand, NoWalkReturns, VisitsStand};
 ghost use Rattle.wac_core.specs.Content.{module_content};
 ghost use Rattle.wac_component.specs.Content.{defined_content, func_content, interface_content, world_content};
-ghost use Rattle.wac_component.specs.Distinct.{HasDistinctNames};
-ghost use Rattle.wac_component.specs.Key.{defined_entry, func_entry, interface_entry, world_entry, module_entry};
+ghost use Rattle.wac_component.specs.Distinct.{HasDistinctNames, HasDistinctNamesAt};
+ghost use Rattle.wac_component.specs.Key.{defined_entry, func_entry, interface_entry, world_entry, module_entry, Each, Stands, AllStand, defined_key, func_key, interface_key, world_key, module_key, type_keys, value_keys};
 
-use crate::{DefinedType, FuncType, Interface, World};
+use crate::{
+    DefinedType, DefinedTypeId, FuncType, FuncTypeId, Interface, InterfaceId, ModuleTypeId, Type,
+    Types, ValueType, World, WorldId,
+};
 use wac_core::ModuleType;
 
 /// A collection extends itself.
@@ -48,6 +51,11 @@ pub fn imports_are_apart()
 /// sound collections have them in common, it is the same in both.
 pub fn leaves_depend_on_leaves()
     ensures { LeavesDependOnLeaves }
+{}
+
+/// Resources whose aliases lead to one resource have one name, whoever owns them.
+pub fn one_source_has_one_name()
+    ensures { OneSourceHasOneName }
 {}
 
 /// The names of a function's parameters are distinct.
@@ -102,4 +110,66 @@ pub fn names_in_a_defined_type_are_distinct(ty: &DefinedType)
         }
         _ => {}
     }
+}
+
+/// In the entry of each id of a type that stands in a collection, names are distinct.
+pub fn names_at_ids_are_distinct(types: &Types, ty: Type)
+    requires { AllStand types.now (type_keys ty) }
+    ensures { Each (HasDistinctNamesAt types.now) (type_keys ty) }
+{
+    match ty {
+        Type::Func(id) => names_at_a_function_are_distinct(types, id),
+        Type::Interface(id) => names_at_an_interface_are_distinct(types, id),
+        Type::World(id) => names_at_a_world_are_distinct(types, id),
+        Type::Module(id) => names_at_a_module_are_distinct(types, id),
+        Type::Value(value) => names_at_a_value_are_distinct(types, value),
+        Type::Resource(_) => {}
+    }
+}
+
+fn names_at_a_value_are_distinct(types: &Types, value: ValueType)
+    requires { AllStand types.now (value_keys value) }
+    ensures { Each (HasDistinctNamesAt types.now) (value_keys value) }
+{
+    match value {
+        ValueType::Defined(id) => names_at_a_defined_type_are_distinct(types, id),
+        ValueType::Borrow(_) => {}
+        ValueType::Own(_) => {}
+        ValueType::Primitive(_) => {}
+    }
+}
+
+fn names_at_a_function_are_distinct(types: &Types, id: FuncTypeId)
+    requires { Stands types.now (func_key id) }
+    ensures { HasDistinctNamesAt types.now (func_key id) }
+{
+    names_in_a_function_are_distinct(&types[id]);
+}
+
+fn names_at_an_interface_are_distinct(types: &Types, id: InterfaceId)
+    requires { Stands types.now (interface_key id) }
+    ensures { HasDistinctNamesAt types.now (interface_key id) }
+{
+    names_in_an_interface_are_distinct(&types[id]);
+}
+
+fn names_at_a_world_are_distinct(types: &Types, id: WorldId)
+    requires { Stands types.now (world_key id) }
+    ensures { HasDistinctNamesAt types.now (world_key id) }
+{
+    names_in_a_world_are_distinct(&types[id]);
+}
+
+fn names_at_a_module_are_distinct(types: &Types, id: ModuleTypeId)
+    requires { Stands types.now (module_key id) }
+    ensures { HasDistinctNamesAt types.now (module_key id) }
+{
+    names_in_a_module_are_distinct(&types[id]);
+}
+
+fn names_at_a_defined_type_are_distinct(types: &Types, id: DefinedTypeId)
+    requires { Stands types.now (defined_key id) }
+    ensures { HasDistinctNamesAt types.now (defined_key id) }
+{
+    names_in_a_defined_type_are_distinct(&types[id]);
 }

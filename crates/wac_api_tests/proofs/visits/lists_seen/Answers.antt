@@ -1,7 +1,7 @@
 use Rattle.wac_component.specs.Visits.{visits}
 use Rattle.wac_component.specs.declared.items.Type.TheVariants.{Value as TypeValue}
 use Rattle.wac_component.specs.declared.items.ValueType.TheVariants.{Defined}
-use Rattle.wac_api_tests.proofs.Visitors.{MayVisit-standing}
+use Rattle.wac_component.proofs.VisitLemmas.{MayVisit-standing}
 use Rattle.wac_api_tests.proofs.visits.lists_seen.Goals as goal
 
 pub visit_defined_types-requires-clause-callable : goal.visit_defined_types-requires-clause-callable
