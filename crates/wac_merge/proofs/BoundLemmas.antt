@@ -1,16 +1,15 @@
 -- Meets and joins of items, while a collection grows, and where there is none.
-use Rattle.std.proofs.Common.{◌≡◌, refl, ap, sym, subst, ◌∙◌, Option, Some, None}
-use Rattle.std.specs.Option.{option_map}
-use Rattle.wac_model.specs.ItemTree.{ItemTree, Kind, item, type_item, Shape, interface, world, leaf, core_module, composite}
+use Rattle.std.proofs.Common.{sym, subst, Option, Some, None}
+use Rattle.wac_model.specs.ItemTree.{ItemTree, item, type_item, interface, world}
 use Rattle.wac_model.specs.Order.{Fits, leaves, modules, composites}
 use Rattle.wac_model.proofs.ItemOrder.{Fits-refl}
-use Rattle.wac_bounds.specs.MeetIn.{IsMeetIn, IsJoinIn}
+use Rattle.wac_bounds.specs.MeetIn.{IsMeetIn}
 use Rattle.wac_component.specs.Collection.{Collection}
 use Rattle.wac_component.specs.Growth.{Extends}
 use Rattle.wac_component.specs.Key.{AllStand, item_keys}
 use Rattle.wac_component.specs.Tree.{item_tree}
 use Rattle.wac_component.specs.declared.items.ItemKind.{ItemKind}
-use Rattle.wac_merge.specs.Bounded.{IsMetAs, IsJoinedAs, AreIncomparable, AreUnlike}
+use Rattle.wac_merge.specs.Bounded.{IsMetAs, IsJoinedAs, AreUnlike}
 
 -- in any relation R of trees
 module _ (R : ItemTree → ItemTree → Type 0) where

@@ -17,7 +17,7 @@ use Rattle.wac_component.specs.declared.items.ItemKind.{ItemKind}
 use Rattle.wac_component.proofs.Extended.{Extends-trans, Extends-refl}
 use Rattle.wac_component.proofs.Keys.{Key-discrete}
 use Rattle.wac_merge.specs.Bounded.{IsMetAs, IsJoinedAs}
-use Rattle.wac_merge.specs.Built.{Origins, IsBuilt, first, second, fresh, IsBuiltAt, of_first, of_second, of_both, AreBuilt, IsInterfaceFrom, IsWorldFrom, IsEntryFrom, of_interfaces, of_worlds, of_modules, IsMadeOf, IsAddedBuilt, OnlyBuilds}
+use Rattle.wac_merge.specs.Built.{Origins, IsBuilt, first, second, fresh, IsBuiltAt, of_first, of_second, of_both, AreBuilt, IsEntryFrom, of_interfaces, of_worlds, of_modules, IsMadeOf, IsAddedBuilt, OnlyBuilds}
 use Rattle.wac_merge.specs.Items.{entry_item, item_of, Externs}
 use Rattle.wac_merge.specs.Runs.{AgreeOn, Ran, Runs}
 use Rattle.wac_component.proofs.Last.{IsLast}

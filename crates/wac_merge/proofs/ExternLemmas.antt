@@ -6,12 +6,11 @@ use Rattle.std.proofs.lemmas.List.Elements.{All-weaker}
 use Rattle.std.proofs.lemmas.Slice.Eq.{bytes_eq-Decides}
 use Rattle.wac_model.specs.Text.{Text, lookup}
 use Rattle.wac_model.specs.CoreTree.{Serves}
-use Rattle.wac_model.specs.ItemTree.{ItemTree, Kind, Shape, Items, interface, composite, no_items, item_at}
+use Rattle.wac_model.specs.ItemTree.{item_at}
 use Rattle.wac_model.specs.Order.{Fits}
 use Rattle.wac_model.proofs.ItemOrder.{Fits-refl}
 use Rattle.wac_bounds.specs.MeetIn.{IsMeetIn, IsJoinIn}
 use Rattle.wac_bounds.proofs.MeetOf.{meet_both, join_both}
-use Rattle.wac_bounds.proofs.CompositeBounds.{composite_meet, composite_no_meet, composite_join, composite_no_join}
 use Rattle.wac_component.specs.Collection.{Collection}
 use Rattle.wac_component.specs.Growth.{Extends}
 use Rattle.wac_component.specs.Key.{Stands, AllStand, item_keys, optional_keys}
@@ -22,7 +21,7 @@ use Rattle.wac_core_merge.specs.Names.{is_new, with_new}
 use Rattle.wac_core_merge.proofs.NameLemmas.{lookup-with_new, All-with_new}
 use Rattle.wac_checker.proofs.ExternLemmas.{item_at-items_of, named_stands}
 use Rattle.wac_merge.specs.Items.{Externs, extern_keys, AreFound}
-use Rattle.wac_merge.specs.Bounded.{IsMetAs, IsJoinedAs, IsMetWith, IsJoinedWith, IsMetAt, IsFirstMetAt, IsJoinedAt, AreFirstMet, AreMet, AreJoined, Clash}
+use Rattle.wac_merge.specs.Bounded.{IsMetWith, IsJoinedWith, IsMetAt, IsFirstMetAt, IsJoinedAt, AreFirstMet, AreMet, AreJoined, Clash}
 use Rattle.wac_merge.specs.Built.{Origins, IsBuiltAt, of_second, AreBuilt}
 use Rattle.wac_merge.proofs.BoundLemmas.{bound_before, bound_after}
 

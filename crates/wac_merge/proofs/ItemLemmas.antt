@@ -1,5 +1,5 @@
 -- Items of one case, and the entries that they name.
-use Rattle.std.proofs.Common.{◌≡◌, refl, ap, sym, subst, ◌++◌, Option, Some, None, Result, Ok, Err, IfOk, IfSome}
+use Rattle.std.proofs.Common.{◌≡◌, sym, subst, ◌++◌, Option, Some, None, Result, Ok, Err, IfOk, IfSome}
 use Rattle.std.specs.Option.{option_map}
 use Rattle.std.specs.declared.alloc.AllocError.{AllocError}
 use Rattle.wac_model.specs.ItemTree.{ItemTree, Kind}

@@ -1,5 +1,5 @@
 -- One turn of a loop over what the first of two sides has, name by name.
-use Rattle.std.proofs.Common.{◌≡◌, refl, ap, sym, subst, ◌∙◌, ◌≤◌, Bool, true, false, cond, List, [], ◌∷◌, ◌++◌, map, Option, Some, None, string_bytes, String, Global, All}
+use Rattle.std.proofs.Common.{◌≡◌, refl, ap, sym, subst, ◌∙◌, ◌≤◌, Bool, true, false, cond, List, [], ◌∷◌, ◌++◌, map, Option, Some, None, string_bytes, String, Global}
 use Rattle.std.specs.Iterator.{Yields}
 use Rattle.std.specs.List.{IsDistinct}
 use Rattle.std.specs.Map.{keys_of}
@@ -24,7 +24,7 @@ use Rattle.wac_core_merge.proofs.NameLemmas.{lookup-append}
 use Rattle.wac_merge.specs.Bounded.{IsMetWith, IsJoinedWith, IsFirstMetAt, IsJoinedAt, AreFirstMet, AreJoined}
 use Rattle.wac_merge.specs.Built.{Origins, IsBuiltWith, IsBuiltAt, of_first, of_both, AreBuilt}
 use Rattle.wac_merge.specs.Items.{Externs, extern_keys}
-use Rattle.wac_merge.specs.Runs.{AgreeOn, Runs}
+use Rattle.wac_merge.specs.Runs.{Runs}
 use Rattle.wac_merge.proofs.BuiltLemmas.{AreBuilt-grown, Runs-then, Runs-from}
 use Rattle.wac_merge.proofs.ExternLemmas.{found_stands, met_with_before, joined_with_before, first_met_after, joined_after}
 use Rattle.wac_merge.proofs.PutLemmas.{name_is_new, turn_put, turn_dropped, All-insert_entry}

@@ -5,6 +5,7 @@
 pub mod check;
 pub mod error;
 pub mod fault;
+mod fault_text;
 pub mod frame;
 pub mod laws;
 pub mod path;

@@ -1,9 +1,7 @@
-use Rattle.std.proofs.Common.{◌≡◌, ap}
 use Rattle.std.proofs.lemmas.Result.{MatchResult-weaker}
 use Rattle.wac_component.specs.Content.{interface_content}
 use Rattle.wac_component.proofs.CloneLemmas.{named-clones}
 use Rattle.wac_merge.specs.Items.{extern_list}
-use Rattle.wac_merge.specs.Reads.{HasExports}
 use Rattle.wac_merge.proofs.ReadLemmas.{reads_interface}
 use Rattle.wac_merge.proofs.entries.exports_of.Goals as goal
 

@@ -1,4 +1,4 @@
-use Rattle.std.proofs.Common.{◌≡◌, refl, ap, ◌∙◌, string_bytes}
+use Rattle.std.proofs.Common.{refl, ap, ◌∙◌, string_bytes}
 use Rattle.std.specs.Str.{bytes_eq}
 use Rattle.wac_component.proofs.CloneLemmas.{named-clones}
 use Rattle.wac_component.specs.Content.{named, use_content}

@@ -1,8 +1,5 @@
-use Rattle.std.proofs.Common.{◌≡◌, ap, sym, subst, Some, inr}
-use Rattle.std.specs.Option.{option_map}
+use Rattle.std.proofs.Common.{ap, Some, inr}
 use Rattle.wac_core.specs.Content.{module_content}
-use Rattle.wac_model.specs.CoreTree.{ModuleFits}
-use Rattle.wac_bounds.specs.MeetIn.{IsMeetIn}
 use Rattle.wac_merge.proofs.CompositeLemmas.{modules_joined}
 use Rattle.wac_merge.proofs.MadeLemmas.{module_made}
 use Rattle.wac_merge.proofs.modules.join_module_types.Goals as goal

@@ -1,8 +1,5 @@
-use Rattle.std.proofs.Common.{◌≡◌, ap, sym, subst, Some, inl}
-use Rattle.std.specs.Option.{option_map}
+use Rattle.std.proofs.Common.{ap, Some, inl}
 use Rattle.wac_core.specs.Content.{module_content}
-use Rattle.wac_model.specs.CoreTree.{ModuleFits}
-use Rattle.wac_bounds.specs.MeetIn.{IsMeetIn}
 use Rattle.wac_merge.proofs.CompositeLemmas.{modules_met}
 use Rattle.wac_merge.proofs.MadeLemmas.{module_made}
 use Rattle.wac_merge.proofs.modules.meet_module_types.Goals as goal

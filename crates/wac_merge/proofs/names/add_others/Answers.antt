@@ -1,4 +1,4 @@
-use Rattle.std.proofs.Common.{◌≡◌, refl, ap, subst, ◌∙◌, string_bytes}
+use Rattle.std.proofs.Common.{refl, ap, subst, ◌∙◌, string_bytes}
 use Rattle.std.specs.Str.{bytes_eq}
 use Rattle.std.proofs.lemmas.Result.{on_ok_weaker}
 use Rattle.std.proofs.lemmas.Slice.Eq.{bytes_eq-Decides}
