@@ -4,82 +4,86 @@ ghost use Rattle.std.specs.Prelude.{◌≡◌, ◌<◌, Some, length, slice_get}
 ghost use Rattle.wac_component.specs.Content.{named, types_of};
 ghost use Rattle.wac_component.specs.Key.{AllStand, type_keys, item_keys, named_keys};
 
-use super::listed::listed_values;
-use super::modules::module_text;
-use super::values::{func_text, resource_word, value_text, with_name};
+use super::modules::push_module;
+use super::texts::{key_text, push_in_order};
+use super::values::{push_func, push_resource, push_value};
 use indexmap::IndexMap;
 use std::alloc::{AllocError, Global};
 use std::collections::BTreeMap;
 use wac_component::{ItemKind, Type, Types};
 
-// The word of an item's sort.
+// The word of an item's sort, and a parenthesis.
 fn sort_word(item: ItemKind) -> &'static str {
     match item {
-        ItemKind::Type(_) => "Type",
-        ItemKind::Func(_) => "Func",
-        ItemKind::Instance(_) => "Instance",
-        ItemKind::Component(_) => "Component",
-        ItemKind::Module(_) => "Module",
-        ItemKind::Value(_) => "Value",
+        ItemKind::Type(_) => "Type(",
+        ItemKind::Func(_) => "Func(",
+        ItemKind::Instance(_) => "Instance(",
+        ItemKind::Component(_) => "Component(",
+        ItemKind::Module(_) => "Module(",
+        ItemKind::Value(_) => "Value(",
     }
 }
 
-// The text of an item, by the word of its sort and the text of its type.
-fn in_sort(alloc: Global, sort: &'static str, text: String) -> Result<String, AllocError> {
-    format!(in alloc; "{sort}({text})")
-}
-
-/// The canonical text of an item's tree. Where there is no memory, there is no text.
+/// Puts the canonical text of an item's tree last. `Err` is want of memory, and what was put then is of no
+/// use.
 #[cycle(items)]
-pub fn item_text(alloc: Global, types: &Types, item: ItemKind) -> Result<String, AllocError>
+pub fn push_item_text(
+    alloc: Global,
+    text: &mut String,
+    types: &Types,
+    item: ItemKind,
+) -> Result<(), AllocError>
     requires { AllStand types.now (item_keys item) }
 {
-    let text = type_text(alloc, types, item.ty())?;
-    in_sort(alloc, sort_word(item), text)
+    text.push_str(sort_word(item))?;
+    push_type(alloc, text, types, item.ty())?;
+    text.push_str(")")
 }
 
-// The text of a type.
+// Puts the text of a type last.
 #[cycle(items)]
-fn type_text(alloc: Global, types: &Types, ty: Type) -> Result<String, AllocError>
+fn push_type(alloc: Global, text: &mut String, types: &Types, ty: Type) -> Result<(), AllocError>
     requires { AllStand types.now (type_keys ty) }
 {
     match ty {
-        Type::Resource(id) => {
-            let name = resource_word(alloc, types, id)?;
-            format!(in alloc; "resource {name}")
-        }
-        Type::Func(id) => func_text(alloc, types, id),
-        Type::Value(ty) => value_text(alloc, types, ty),
+        Type::Resource(id) => push_resource(text, types, "resource ", id),
+        Type::Func(id) => push_func(text, types, id),
+        Type::Value(ty) => push_value(text, types, ty),
         Type::Interface(id) => {
-            let exports = items_text(alloc, types, &types[id].exports)?;
-            format!(in alloc; "{{{exports}}}")
+            text.push_str("{")?;
+            push_items(alloc, text, types, &types[id].exports)?;
+            text.push_str("}")
         }
         Type::World(id) => {
             let world = &types[id];
-            let imports = items_text(alloc, types, &world.imports)?;
-            let exports = items_text(alloc, types, &world.exports)?;
-            format!(in alloc; "imports{{{imports}}}exports{{{exports}}}")
+            text.push_str("imports{")?;
+            push_items(alloc, text, types, &world.imports)?;
+            text.push_str("}exports{")?;
+            push_items(alloc, text, types, &world.exports)?;
+            text.push_str("}")
         }
-        Type::Module(id) => module_text(alloc, &types[id]),
+        Type::Module(id) => push_module(alloc, text, &types[id]),
     }
 }
 
-// The texts of named items in the order of their names, with a semicolon between them.
+// Puts named items last in the order of their names, with semicolons between them.
 #[cycle(items)]
-fn items_text(
+fn push_items(
     alloc: Global,
+    text: &mut String,
     types: &Types,
     items: &IndexMap<String, ItemKind>,
-) -> Result<String, AllocError>
+) -> Result<(), AllocError>
     requires { AllStand types.now (named_keys item_keys (named (λ k. k) items.now.entries)) }
 {
     let mut texts = BTreeMap::new(alloc);
     for i in 0..items.len() {
         let (name, item) = item_at(items, i);
-        let text = item_text(alloc, types, item)?;
-        texts.insert(name.as_str(), with_name(alloc, name, text)?)?;
+        let mut text = key_text(alloc, name)?;
+        push_item_text(alloc, &mut text, types, item)?;
+        texts.insert(name.as_str(), text)?;
     }
-    listed_values(alloc, texts)
+    push_in_order(text, &texts)
 }
 
 // The name and the item at an index.

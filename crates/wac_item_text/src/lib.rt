@@ -18,9 +18,9 @@
 
 mod core_words;
 mod items;
-mod listed;
 mod modules;
+mod texts;
 mod values;
 
 pub use core_words::push_extern;
-pub use items::item_text;
+pub use items::push_item_text;

@@ -6,109 +6,110 @@ ghost use Rattle.std.specs.Option.{option_to_list};
 ghost use Rattle.wac_component.specs.Content.{defined_content, func_content, types_of, case_types};
 ghost use Rattle.wac_component.specs.Key.{Stands, AllStand, resource_key, func_key, value_keys, defined_keys, func_keys};
 
-use super::listed::listed;
+use super::texts::push_key;
 use indexmap::{IndexMap, IndexSet};
-use std::alloc::{AllocError, Global};
+use std::alloc::AllocError;
 use wac_component::{DefinedType, FuncType, FuncTypeId, ResourceId, Types, ValueType};
-use wac_script_syntax::name_word;
+use wac_script_syntax::push_name;
 
-// The word of the name at the root of a resource's aliases.
-pub(crate) fn resource_word(
-    alloc: Global,
+// Puts a text last, and then the word of the name at the root of a resource's aliases.
+pub(crate) fn push_resource(
+    text: &mut String,
     types: &Types,
+    before: &str,
     id: ResourceId,
-) -> Result<String, AllocError>
+) -> Result<(), AllocError>
     requires { Stands types.now (resource_key id) }
 {
-    name_word(alloc, &types[types.resolve_resource(id)].name)
+    text.push_str(before)?;
+    push_name(text, &types[types.resolve_resource(id)].name)
 }
 
-// A word, and what stands after it between `<` and `>`.
-fn of_types(alloc: Global, word: &str, inner: String) -> Result<String, AllocError> {
-    format!(in alloc; "{word}<{inner}>")
-}
-
-// A word, and what stands after it between braces.
-fn of_names(alloc: Global, word: &str, inner: String) -> Result<String, AllocError> {
-    format!(in alloc; "{word}{{{inner}}}")
-}
-
-// The element and the size of a list of a fixed size.
-fn sized_text(alloc: Global, item: String, size: u32) -> Result<String, AllocError> {
-    format!(in alloc; "{item};{size}")
-}
-
-// Two texts with a comma between them.
-fn pair_text(alloc: Global, first: String, second: String) -> Result<String, AllocError> {
-    format!(in alloc; "{first},{second}")
-}
-
-// The text of a value type.
+// Puts the text of a value type last.
 #[cycle(values)]
-pub(crate) fn value_text(alloc: Global, types: &Types, ty: ValueType) -> Result<String, AllocError>
+pub(crate) fn push_value(text: &mut String, types: &Types, ty: ValueType) -> Result<(), AllocError>
     requires { AllStand types.now (value_keys ty) }
 {
     match ty {
-        ValueType::Primitive(of) => String::from_str(alloc, of.desc()),
-        ValueType::Borrow(id) => of_types(alloc, "borrow", resource_word(alloc, types, id)?),
-        ValueType::Own(id) => of_types(alloc, "own", resource_word(alloc, types, id)?),
-        ValueType::Defined(id) => defined_text(alloc, types, &types[id]),
+        ValueType::Primitive(of) => text.push_str(of.desc()),
+        ValueType::Borrow(id) => {
+            push_resource(text, types, "borrow<", id)?;
+            text.push_str(">")
+        }
+        ValueType::Own(id) => {
+            push_resource(text, types, "own<", id)?;
+            text.push_str(">")
+        }
+        ValueType::Defined(id) => push_defined(text, types, &types[id]),
     }
 }
 
-// The text of a defined type.
+// Puts the text of a defined type last.
 #[cycle(values)]
-fn defined_text(alloc: Global, types: &Types, ty: &DefinedType) -> Result<String, AllocError>
+fn push_defined(text: &mut String, types: &Types, ty: &DefinedType) -> Result<(), AllocError>
     requires { AllStand types.now (defined_keys (defined_content ty.now)) }
 {
     match ty {
-        DefinedType::Tuple(items) => of_types(alloc, "tuple", items_text(alloc, types, items)?),
-        DefinedType::List(item) => of_types(alloc, "list", value_text(alloc, types, *item)?),
+        DefinedType::Tuple(items) => push_tuple(text, types, items),
+        DefinedType::List(item) => push_payload(text, types, "list<", Some(*item), ">"),
         DefinedType::FixedSizeList(item, size) => {
-            let item = value_text(alloc, types, *item)?;
-            of_types(alloc, "list", sized_text(alloc, item, *size)?)
+            push_payload(text, types, "list<", Some(*item), ";")?;
+            write!(text, "{size}>")
         }
-        DefinedType::Option(item) => of_types(alloc, "option", value_text(alloc, types, *item)?),
+        DefinedType::Option(item) => push_payload(text, types, "option<", Some(*item), ">"),
         DefinedType::Result { ok, err } => {
-            let ok = payload_text(alloc, types, ok)?;
-            let err = payload_text(alloc, types, err)?;
-            of_types(alloc, "result", pair_text(alloc, ok, err)?)
+            push_payload(text, types, "result<", *ok, ",")?;
+            push_payload(text, types, "", *err, ">")
         }
-        DefinedType::Variant(variant) => {
-            of_names(alloc, "variant", cases_text(alloc, types, &variant.cases)?)
-        }
+        DefinedType::Variant(variant) => push_cases(text, types, &variant.cases),
         DefinedType::Record(record) => {
-            of_names(alloc, "record", fields_text(alloc, types, &record.fields)?)
+            text.push_str("record{")?;
+            push_fields(text, types, &record.fields)?;
+            text.push_str("}")
         }
-        DefinedType::Flags(names) => of_names(alloc, "flags", names_text(alloc, &names.0)?),
-        DefinedType::Enum(names) => of_names(alloc, "enum", names_text(alloc, &names.0)?),
-        DefinedType::Alias(of) => value_text(alloc, types, *of),
-        DefinedType::Stream(of) => of_types(alloc, "stream", payload_text(alloc, types, of)?),
-        DefinedType::Future(of) => of_types(alloc, "future", payload_text(alloc, types, of)?),
+        DefinedType::Flags(names) => push_names(text, "flags{", &names.0),
+        DefinedType::Enum(names) => push_names(text, "enum{", &names.0),
+        DefinedType::Alias(of) => push_value(text, types, *of),
+        DefinedType::Stream(of) => push_payload(text, types, "stream<", *of, ">"),
+        DefinedType::Future(of) => push_payload(text, types, "future<", *of, ">"),
     }
 }
 
-// The text of a type, or `_` where there is none.
+// Puts a type last, or `_` where there is none, between two texts.
 #[cycle(values)]
-fn payload_text(alloc: Global, types: &Types, ty: &Option<ValueType>) -> Result<String, AllocError>
-    requires { AllStand types.now (flat_map value_keys (option_to_list ty.now)) }
+fn push_payload(
+    text: &mut String,
+    types: &Types,
+    before: &str,
+    ty: Option<ValueType>,
+    after: &str,
+) -> Result<(), AllocError>
+    requires { AllStand types.now (flat_map value_keys (option_to_list ty)) }
 {
+    text.push_str(before)?;
     match ty {
-        Some(ty) => value_text(alloc, types, *ty),
-        None => String::from_str(alloc, "_"),
+        Some(ty) => push_value(text, types, ty)?,
+        None => text.push_str("_")?,
     }
+    text.push_str(after)
 }
 
-// The texts of a tuple's items, with commas between them.
+// What stands before the part of this index.
+fn comma_before(index: usize) -> &'static str {
+    if index == 0 { "" } else { "," }
+}
+
+// Puts the text of a tuple last.
 #[cycle(values)]
-fn items_text(alloc: Global, types: &Types, items: &[ValueType]) -> Result<String, AllocError>
+fn push_tuple(text: &mut String, types: &Types, items: &[ValueType]) -> Result<(), AllocError>
     requires { AllStand types.now (flat_map value_keys items.now) }
 {
-    let mut texts = Vec::new(alloc);
+    text.push_str("tuple<")?;
     for i in 0..items.len() {
-        texts.push(value_text(alloc, types, item_at(items, i))?)?;
+        text.push_str(comma_before(i))?;
+        push_value(text, types, item_at(items, i))?;
     }
-    listed(alloc, ",", texts)
+    text.push_str(">")
 }
 
 fn item_at(items: &[ValueType], index: usize) -> ValueType
@@ -118,22 +119,21 @@ fn item_at(items: &[ValueType], index: usize) -> ValueType
     items[index]
 }
 
-// The texts of fields or parameters, with commas between them.
+// Puts fields or parameters last, with commas between them.
 #[cycle(values)]
-fn fields_text(
-    alloc: Global,
+fn push_fields(
+    text: &mut String,
     types: &Types,
     fields: &IndexMap<String, ValueType>,
-) -> Result<String, AllocError>
+) -> Result<(), AllocError>
     requires { AllStand types.now (flat_map value_keys (types_of fields.now.entries)) }
 {
-    let mut texts = Vec::new(alloc);
     for i in 0..fields.len() {
         let (name, ty) = field_at(fields, i);
-        let text = value_text(alloc, types, ty)?;
-        texts.push(with_name(alloc, name, text)?)?;
+        push_key(text, comma_before(i), name)?;
+        push_value(text, types, ty)?;
     }
-    listed(alloc, ",", texts)
+    Ok(())
 }
 
 // The name and the type at an index.
@@ -145,111 +145,90 @@ fn field_at(fields: &IndexMap<String, ValueType>, index: usize) -> (&String, Val
     (name, *ty)
 }
 
-// The text of what a name has.
-pub(crate) fn with_name(alloc: Global, name: &String, text: String) -> Result<String, AllocError> {
-    let name = name_word(alloc, name)?;
-    format!(in alloc; "{name}={text}")
-}
-
-// The texts of a variant's cases, with commas between them.
+// Puts the text of a variant last.
 #[cycle(values)]
-fn cases_text(
-    alloc: Global,
+fn push_cases(
+    text: &mut String,
     types: &Types,
     cases: &IndexMap<String, Option<ValueType>>,
-) -> Result<String, AllocError>
+) -> Result<(), AllocError>
     requires { AllStand types.now (flat_map value_keys (case_types cases.now.entries)) }
 {
-    let mut texts = Vec::new(alloc);
+    text.push_str("variant{")?;
     for i in 0..cases.len() {
         let (name, ty) = case_at(cases, i);
-        texts.push(case_text(alloc, types, name, ty)?)?;
+        text.push_str(comma_before(i))?;
+        push_case(text, types, name, ty)?;
     }
-    listed(alloc, ",", texts)
+    text.push_str("}")
 }
 
 // The name and the type at an index.
 fn case_at(
     cases: &IndexMap<String, Option<ValueType>>,
     index: usize,
-) -> (&String, &Option<ValueType>)
+) -> (&String, Option<ValueType>)
     requires { index < length cases.now.entries }
-    ensures { slice_get (types_of cases.now.entries) index ≡ Some result.1.now }
+    ensures { slice_get (types_of cases.now.entries) index ≡ Some result.1 }
 {
-    cases.get_index(index).unwrap()
+    let (name, ty) = cases.get_index(index).unwrap();
+    (name, *ty)
 }
 
-// The text of a case.
+// Puts the text of a case last.
 #[cycle(values)]
-fn case_text(
-    alloc: Global,
+fn push_case(
+    text: &mut String,
     types: &Types,
-    name: &String,
-    ty: &Option<ValueType>,
-) -> Result<String, AllocError>
-    requires { AllStand types.now (flat_map value_keys (option_to_list ty.now)) }
+    name: &str,
+    ty: Option<ValueType>,
+) -> Result<(), AllocError>
+    requires { AllStand types.now (flat_map value_keys (option_to_list ty)) }
 {
+    push_name(text, name)?;
     match ty {
-        Some(ty) => {
-            let text = value_text(alloc, types, *ty)?;
-            with_name(alloc, name, text)
+        Some(_) => push_payload(text, types, "=", ty, ""),
+        None => Ok(()),
+    }
+}
+
+// Puts a text, names with commas between them, and a closing brace last.
+fn push_names(text: &mut String, before: &str, names: &IndexSet<String>) -> Result<(), AllocError> {
+    text.push_str(before)?;
+    let mut is_first = true;
+    for name in names {
+        if !is_first {
+            text.push_str(",")?;
         }
-        None => name_word(alloc, name),
+        push_name(text, name)?;
+        is_first = false;
     }
+    text.push_str("}")
 }
 
-// The words of names, with commas between them.
-fn names_text(alloc: Global, names: &IndexSet<String>) -> Result<String, AllocError> {
-    let mut words = Vec::new(alloc);
-    for name in names.iter() {
-        words.push(name_word(alloc, name)?)?;
-    }
-    listed(alloc, ",", words)
-}
-
-// The text of a function type.
-pub(crate) fn func_text(alloc: Global, types: &Types, id: FuncTypeId) -> Result<String, AllocError>
+// Puts the text of a function type last.
+pub(crate) fn push_func(text: &mut String, types: &Types, id: FuncTypeId) -> Result<(), AllocError>
     requires { Stands types.now (func_key id) }
 {
-    func_type_text(alloc, types, &types[id])
+    push_signature(text, types, &types[id])
 }
 
-// The text of what a function type says.
-fn func_type_text(alloc: Global, types: &Types, func: &FuncType) -> Result<String, AllocError>
+// Puts the text of what a function type says last.
+fn push_signature(text: &mut String, types: &Types, func: &FuncType) -> Result<(), AllocError>
     requires { AllStand types.now (func_keys (func_content func.now)) }
 {
-    let params = fields_text(alloc, types, &func.params)?;
-    let ty = func_result_text(alloc, types, &func.result)?;
-    signature_text(alloc, func.is_async, params, ty)
+    text.push_str(if func.is_async { "async(" } else { "func(" })?;
+    push_fields(text, types, &func.params)?;
+    text.push_str(")")?;
+    push_result(text, types, func.result)
 }
 
-// A function, by the texts of its parameters and of its result.
-fn signature_text(
-    alloc: Global,
-    is_async: bool,
-    params: String,
-    ty: String,
-) -> Result<String, AllocError> {
-    if is_async {
-        format!(in alloc; "async({params}){ty}")
-    } else {
-        format!(in alloc; "func({params}){ty}")
-    }
-}
-
-// The text of a function's result, if it has one.
-fn func_result_text(
-    alloc: Global,
-    types: &Types,
-    ty: &Option<ValueType>,
-) -> Result<String, AllocError>
-    requires { AllStand types.now (flat_map value_keys (option_to_list ty.now)) }
+// Puts the result of a function last, if it has one.
+fn push_result(text: &mut String, types: &Types, ty: Option<ValueType>) -> Result<(), AllocError>
+    requires { AllStand types.now (flat_map value_keys (option_to_list ty)) }
 {
     match ty {
-        Some(ty) => {
-            let text = value_text(alloc, types, *ty)?;
-            format!(in alloc; "->{text}")
-        }
-        None => Ok(String::new(alloc)),
+        Some(_) => push_payload(text, types, "->", ty, ""),
+        None => Ok(()),
     }
 }

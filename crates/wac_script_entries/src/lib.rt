@@ -10,9 +10,9 @@ mod names;
 mod words;
 
 pub use adding::{Replacement, add, replace};
-pub use lines::entry_line;
+pub use lines::push_entry;
 pub use names::{
     find_defined, find_entry, find_func, find_interface, find_item, find_module, find_resource,
     find_type, find_value, find_world,
 };
-pub use words::{item_word, type_word, value_word};
+pub use words::{push_item, push_type, push_value};

@@ -4,7 +4,7 @@ ghost use Rattle.wac_component.specs.Key.{AllStand, value_keys, type_keys};
 
 use super::words::{push_item, push_value};
 use indexmap::{IndexMap, IndexSet};
-use std::alloc::{AllocError, Global};
+use std::alloc::AllocError;
 use wac_component::{
     DefinedType, FuncType, Interface, ItemKind, Resource, Type, Types, UsedType, ValueType, World,
 };
@@ -12,17 +12,9 @@ use wac_core::ModuleType;
 use wac_item_text::push_extern;
 use wac_script_syntax::push_name;
 
-/// The line that builds an entry, with its names in their order; of a value type that is no entry, its
-/// word.
-pub fn entry_line(alloc: Global, types: &Types, entry: Type) -> Result<String, AllocError>
-    requires { AllStand types.now (type_keys entry) }
-{
-    let mut line = String::new(alloc);
-    push_entry(&mut line, types, entry)?;
-    Ok(line)
-}
-
-fn push_entry(line: &mut String, types: &Types, entry: Type) -> Result<(), AllocError>
+/// Puts the line that builds an entry last, with its names in their order; of a value type that is no
+/// entry, its word.
+pub fn push_entry(line: &mut String, types: &Types, entry: Type) -> Result<(), AllocError>
     requires { AllStand types.now (type_keys entry) }
 {
     match entry {

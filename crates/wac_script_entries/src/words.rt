@@ -1,10 +1,10 @@
 //! Value types, types and items, as words name them.
 
-use std::alloc::{AllocError, Global};
+use std::alloc::AllocError;
 use wac_component::{ItemKind, Type, ValueType};
 
-/// Puts the word that names a value type last.
-pub(crate) fn push_value(text: &mut String, value: ValueType) -> Result<(), AllocError> {
+/// Puts the word that names a value type last, as `u8`, `own:r0` or `d0`.
+pub fn push_value(text: &mut String, value: ValueType) -> Result<(), AllocError> {
     match value {
         ValueType::Primitive(primitive) => text.push_str(primitive.desc()),
         ValueType::Own(id) => write!(text, "own:r{id}"),
@@ -13,8 +13,8 @@ pub(crate) fn push_value(text: &mut String, value: ValueType) -> Result<(), Allo
     }
 }
 
-// Puts the word that names a type last.
-fn push_type(text: &mut String, ty: Type) -> Result<(), AllocError> {
+/// Puts the word that names a type last, as `fn0` or `u8`.
+pub fn push_type(text: &mut String, ty: Type) -> Result<(), AllocError> {
     match ty {
         Type::Resource(id) => write!(text, "r{id}"),
         Type::Func(id) => write!(text, "fn{id}"),
@@ -25,8 +25,8 @@ fn push_type(text: &mut String, ty: Type) -> Result<(), AllocError> {
     }
 }
 
-/// Puts the word that names an item last.
-pub(crate) fn push_item(text: &mut String, item: ItemKind) -> Result<(), AllocError> {
+/// Puts the word that names an item last, as `T:r0`, `F:fn0`, `I:i0`, `C:w0`, `M:m0` or `V:u8`.
+pub fn push_item(text: &mut String, item: ItemKind) -> Result<(), AllocError> {
     match item {
         ItemKind::Type(ty) => {
             text.push_str("T:")?;
@@ -41,25 +41,4 @@ pub(crate) fn push_item(text: &mut String, item: ItemKind) -> Result<(), AllocEr
             push_value(text, value)
         }
     }
-}
-
-/// The word that names a value type, as `u8`, `own:r0` or `d0`.
-pub fn value_word(alloc: Global, value: ValueType) -> Result<String, AllocError> {
-    let mut word = String::new(alloc);
-    push_value(&mut word, value)?;
-    Ok(word)
-}
-
-/// The word that names a type, as `fn0` or `u8`.
-pub fn type_word(alloc: Global, ty: Type) -> Result<String, AllocError> {
-    let mut word = String::new(alloc);
-    push_type(&mut word, ty)?;
-    Ok(word)
-}
-
-/// The word that names an item, as `T:r0`, `F:fn0`, `I:i0`, `C:w0`, `M:m0` or `V:u8`.
-pub fn item_word(alloc: Global, item: ItemKind) -> Result<String, AllocError> {
-    let mut word = String::new(alloc);
-    push_item(&mut word, item)?;
-    Ok(word)
 }

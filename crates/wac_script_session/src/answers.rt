@@ -6,39 +6,40 @@ use super::kinds::kinds;
 use super::name_maps::name_map;
 use super::names::{compatible, track};
 use super::packages::packages;
-use super::questions::{borrows, contains, count, desc, entry, promote, resolve, tree, ty};
+use super::questions::{Asked, about, contains, count};
 use super::targets::{implicit_imports, validate};
 use super::visits::visit;
 use std::alloc::Global;
 use wac_script_syntax::{ScriptError, unexpected};
 
-/// The answer to a query that changes nothing, by its command and the words after it.
+/// Puts the answer to a query that changes nothing last, by its command and the words after it.
 pub(crate) fn answer<'a>(
     alloc: Global,
+    text: &mut String,
     collections: &Collections,
     command: &'a str,
     words: &[&'a str],
-) -> Result<String, ScriptError<'a>> {
+) -> Result<(), ScriptError<'a>> {
     match command {
-        "coresub" => core_subtype(alloc, words),
-        "core" => core(alloc, words),
-        "track" => track(alloc, words),
-        "compatible" => compatible(alloc, words),
-        "namemap" => name_map(alloc, words),
-        "pkg" => packages(alloc, words),
-        "kinds" => kinds(alloc, words),
-        "tree" => tree(alloc, collections, words),
-        "desc" => desc(alloc, collections, words),
-        "promote" => promote(alloc, collections, words),
-        "ty" => ty(alloc, collections, words),
-        "entry" => entry(alloc, collections, words),
-        "borrows" => borrows(alloc, collections, words),
-        "resolve" => resolve(alloc, collections, words),
-        "visit" => visit(alloc, collections, words),
-        "contains" => contains(alloc, collections, words),
-        "validate" => validate(alloc, collections, words),
-        "implicit" => implicit_imports(alloc, collections, words),
-        "count" => count(alloc, collections, words),
+        "coresub" => core_subtype(alloc, text, words),
+        "core" => core(alloc, text, words),
+        "track" => track(alloc, text, words),
+        "compatible" => compatible(alloc, text, words),
+        "namemap" => name_map(alloc, text, words),
+        "pkg" => packages(alloc, text, words),
+        "kinds" => kinds(text, words),
+        "tree" => about(alloc, text, collections, Asked::Tree, words),
+        "desc" => about(alloc, text, collections, Asked::Desc, words),
+        "promote" => about(alloc, text, collections, Asked::Promoted, words),
+        "ty" => about(alloc, text, collections, Asked::Type, words),
+        "entry" => about(alloc, text, collections, Asked::Entry, words),
+        "borrows" => about(alloc, text, collections, Asked::Borrows, words),
+        "resolve" => about(alloc, text, collections, Asked::Root, words),
+        "visit" => visit(alloc, text, collections, words),
+        "contains" => contains(text, collections, words),
+        "validate" => validate(alloc, text, collections, words),
+        "implicit" => implicit_imports(alloc, text, collections, words),
+        "count" => count(text, collections, words),
         _ => Err(unexpected("a command", command)),
     }
 }

@@ -11,16 +11,6 @@ use wac_component::Types;
 use wac_script_entries::{Replacement, add, replace};
 use wac_script_syntax::{Content, EntryName, ScriptError};
 
-/// That no collection of this number has been begun.
-#[derive(Clone, Copy)]
-pub(crate) struct NoCollection(u64);
-
-impl From<NoCollection> for ScriptError<'_> {
-    fn from(missing: NoCollection) -> Self {
-        ScriptError::NoCollection(missing.0)
-    }
-}
-
 /// Collections, each under its own number.
 #[derive(Drop)]
 pub(crate) struct Collections {
@@ -46,13 +36,13 @@ impl Collections {
     }
 
     /// The collection of this number. `NoCollection` comes exactly where there is none.
-    pub(crate) fn get(&self, number: u64) -> Result<&Types, NoCollection>
+    pub(crate) fn get<'a>(&self, number: u64) -> Result<&Types, ScriptError<'a>>
         ensures found { IfOk result (λ types. collection_at self.now number ≡ Some types.now) }
         ensures numbered { IfOk result (λ types. types.now.number ≡ number) }
     {
         match self.by_number.get(&number) {
             Some(types) => Ok(types),
-            None => Err(NoCollection(number)),
+            None => Err(ScriptError::NoCollection(number)),
         }
     }
 
@@ -92,17 +82,17 @@ impl Collections {
         replace(alloc, types, entry, words)
     }
 
-    /// Adds to the collection of this number what is made of what the words name, and gives the answer.
+    /// Adds to the collection of this number what is made of its entries, and puts the answer last.
     pub(crate) fn grow<'a>(
         &mut self,
         alloc: Global,
+        text: &mut String,
         number: u64,
         growth: Growth,
-        words: &[&'a str],
-    ) -> Result<String, ScriptError<'a>> {
+    ) -> Result<(), ScriptError<'a>> {
         let Some(types) = self.by_number.get_mut(&number) else {
             return Err(ScriptError::NoCollection(number));
         };
-        grow(alloc, types, growth, words)
+        grow(alloc, text, types, growth)
     }
 }

@@ -1,16 +1,13 @@
 //! Whether an item fits where another is asked for.
 
-ghost use Rattle.std.specs.Prelude.{◌≡◌};
-ghost use Rattle.wac_component.specs.Key.{AllStand, item_keys};
-
 use super::collections::Collections;
 use std::alloc::{AllocError, Global};
 use std::collections::HashSet;
 use wac_checker::SubtypeChecker;
-use wac_component::{ItemKind, Types};
+use wac_component::ItemKind;
 use wac_mismatch::SubtypeError;
 use wac_script_entries::find_item;
-use wac_script_syntax::{ScriptError, read_item, read_number, unexpected};
+use wac_script_syntax::{Item, ScriptError, read_item, read_number, unexpected};
 
 /// The pairs that a checker believes.
 pub(crate) type Cache = HashSet<(ItemKind, ItemKind)>;
@@ -24,50 +21,61 @@ fn read_is_inverted(word: &str) -> Result<bool, ScriptError<'_>> {
     }
 }
 
-/// The answer to `subtype`: `yes`, or `no: ` and the texts of the frames and of the fault, asked of a new
-/// checker with this cache.
-pub(crate) fn subtype<'a>(
-    alloc: Global,
-    collections: &Collections,
-    cache: &mut Cache,
-    words: &[&'a str],
-) -> Result<String, ScriptError<'a>> {
+// The words of a question whether an item fits where another is asked for.
+#[derive(Clone, Copy)]
+struct Comparison {
+    left: (u64, Item),
+    right: (u64, Item),
+    is_inverted: bool,
+}
+
+fn read_comparison<'a>(words: &[&'a str]) -> Result<Comparison, ScriptError<'a>> {
     let [left, left_item, right, right_item, variance] = *words else {
         return Err(ScriptError::Misused("subtype COLL ITEM COLL ITEM co|contra"));
     };
-    let (left, left_item) = (read_number(left)?, read_item(left_item)?);
-    let (right, right_item) = (read_number(right)?, read_item(right_item)?);
-    let is_inverted = read_is_inverted(variance)?;
-    let at = collections.get(left)?;
-    let bt = collections.get(right)?;
+    Ok(Comparison {
+        left: (read_number(left)?, read_item(left_item)?),
+        right: (read_number(right)?, read_item(right_item)?),
+        is_inverted: read_is_inverted(variance)?,
+    })
+}
+
+/// Puts the answer to `subtype` last: `yes`, or `no: ` and the texts of the frames and of the fault, asked of
+/// a new checker with this cache.
+pub(crate) fn subtype<'a>(
+    alloc: Global,
+    text: &mut String,
+    collections: &Collections,
+    cache: &mut Cache,
+    words: &[&'a str],
+) -> Result<(), ScriptError<'a>> {
+    let asked = read_comparison(words)?;
+    let at = collections.get(asked.left.0)?;
+    let bt = collections.get(asked.right.0)?;
     let mut checker = SubtypeChecker::new(cache);
-    if is_inverted {
+    if asked.is_inverted {
         checker.invert();
     }
-    match (find_item(at, left_item), find_item(bt, right_item)) {
-        (Ok(a), Ok(b)) => Ok(ask(alloc, &mut checker, &a, at, &b, bt)?),
+    match (find_item(at, asked.left.1), find_item(bt, asked.right.1)) {
+        (Ok(a), Ok(b)) => {
+            let outcome = checker.is_subtype(alloc, a, at, b, bt);
+            Ok(push_outcome(text, outcome)?)
+        }
         (Err(missing), _) | (_, Err(missing)) => Err(ScriptError::NoEntry(missing)),
     }
 }
 
-fn ask(
-    alloc: Global,
-    checker: &mut SubtypeChecker,
-    a: &ItemKind,
-    at: &Types,
-    b: &ItemKind,
-    bt: &Types,
-) -> Result<String, AllocError>
-    requires left { AllStand at.now (item_keys a.now) }
-    requires right { AllStand bt.now (item_keys b.now) }
-    requires one { at.now.number ≡ bt.now.number → at.now ≡ bt.now }
-{
-    match checker.is_subtype(alloc, *a, at, *b, bt) {
-        Ok(()) => String::from_str(alloc, "yes"),
+/// Puts last what a check came to.
+pub(crate) fn push_outcome(
+    text: &mut String,
+    outcome: Result<(), SubtypeError>,
+) -> Result<(), AllocError> {
+    match outcome {
+        Ok(()) => text.push_str("yes"),
         Err(SubtypeError::Memory) => Err(AllocError),
         Err(error) => {
             let path = error.path();
-            format!(in alloc; "no: {path}")
+            write!(text, "no: {path}")
         }
     }
 }

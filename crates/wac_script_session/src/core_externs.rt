@@ -1,63 +1,57 @@
 //! Answers about core externs.
 
+use super::comparisons::push_outcome;
 use std::alloc::{AllocError, Global};
 use std::collections::HashSet;
 use wac_checker::SubtypeChecker;
 use wac_core::CoreExtern;
-use wac_mismatch::SubtypeError;
 use wac_script_syntax::{ScriptError, read_extern};
 
-/// The answer to `coresub`: `yes` where the first extern fits where the second is asked for, else `no: `
-/// and what they disagree in. No frame stands before that.
+/// Puts the answer to `coresub` last: `yes` where the first extern fits where the second is asked for, else
+/// `no: ` and what they disagree in. No frame stands before that.
 pub(crate) fn core_subtype<'a>(
     alloc: Global,
+    text: &mut String,
     words: &[&'a str],
-) -> Result<String, ScriptError<'a>> {
+) -> Result<(), ScriptError<'a>> {
     let [left, right] = *words else {
         return Err(ScriptError::Misused("coresub EXTERN EXTERN"));
     };
     let left = read_extern(alloc, left)?;
     let right = read_extern(alloc, right)?;
-    Ok(core_subtype_text(alloc, &left, &right)?)
+    Ok(compare(alloc, text, &left, &right)?)
 }
 
-fn core_subtype_text(
+fn compare(
     alloc: Global,
+    text: &mut String,
     left: &CoreExtern,
     right: &CoreExtern,
-) -> Result<String, AllocError> {
+) -> Result<(), AllocError> {
     let mut cache = HashSet::new(alloc);
     let checker = SubtypeChecker::new(&mut cache);
-    match checker.core_subtype(alloc, left, right) {
-        Ok(()) => String::from_str(alloc, "yes"),
-        Err(error) => refusal_text(alloc, &error),
-    }
+    push_outcome(text, checker.core_subtype(alloc, left, right))
 }
 
-// The answer where a check without frames says no.
-fn refusal_text(alloc: Global, error: &SubtypeError) -> Result<String, AllocError> {
-    match error.fault() {
-        Some(fault) => format!(in alloc; "no: {fault}"),
-        None => Err(AllocError),
-    }
-}
-
-/// The answer to `core`: the sort of the extern, and the text of its function type, its element type or
-/// the type of its value.
-pub(crate) fn core<'a>(alloc: Global, words: &[&'a str]) -> Result<String, ScriptError<'a>> {
+/// Puts the sort of an extern, and the text of its function type, its element type or the type of its value
+/// last: the answer to `core`.
+pub(crate) fn core<'a>(
+    alloc: Global,
+    text: &mut String,
+    words: &[&'a str],
+) -> Result<(), ScriptError<'a>> {
     let [word] = *words else {
         return Err(ScriptError::Misused("core EXTERN"));
     };
     let of = read_extern(alloc, word)?;
-    Ok(core_text(alloc, &of)?)
+    Ok(push_core(text, &of)?)
 }
 
-fn core_text(alloc: Global, of: &CoreExtern) -> Result<String, AllocError> {
+fn push_core(text: &mut String, of: &CoreExtern) -> Result<(), AllocError> {
     match of {
-        CoreExtern::Func(ty) => format!(in alloc; "{of}: {ty}"),
-        CoreExtern::Table { element_type, .. } => format!(in alloc; "{of}: {element_type}"),
-        CoreExtern::Memory { .. } => format!(in alloc; "{of}"),
-        CoreExtern::Global { val_type, .. } => format!(in alloc; "{of}: {val_type}"),
-        CoreExtern::Tag(ty) => format!(in alloc; "{of}: {ty}"),
+        CoreExtern::Func(ty) | CoreExtern::Tag(ty) => write!(text, "{of}: {ty}"),
+        CoreExtern::Table { element_type, .. } => write!(text, "{of}: {element_type}"),
+        CoreExtern::Memory { .. } => write!(text, "{of}"),
+        CoreExtern::Global { val_type, .. } => write!(text, "{of}: {val_type}"),
     }
 }

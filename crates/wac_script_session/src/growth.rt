@@ -3,51 +3,81 @@
 ghost use Rattle.std.specs.Prelude.{◌≡◌, IfOk, IfSome};
 ghost use Rattle.wac_component.specs.Key.{AllStand, item_keys};
 
+use super::lines::push_binding;
 use std::alloc::{AllocError, Global};
 use wac_component::{ItemKind, Types};
-use wac_item_text::item_text;
+use wac_item_text::push_item_text;
 use wac_merge::{join, meet};
 use wac_package::Package;
-use wac_script_entries::{find_item, find_world, item_word};
-use wac_script_syntax::{ScriptError, name_word, read_item, read_world};
+use wac_script_entries::{find_item, find_world, push_item};
+use wac_script_syntax::{Item, ScriptError, read_item, read_number, read_world};
+
+/// Whether a bound is the greatest below two items or the least above them.
+#[derive(Clone, Copy)]
+pub(crate) enum Bound {
+    /// The greatest below.
+    Meet,
+    /// The least above.
+    Join,
+}
 
 /// What is made of entries of a collection.
 #[derive(Clone, Copy)]
 pub(crate) enum Growth {
-    /// The meet of two items.
-    Meet,
-    /// The join of two items.
-    Join,
+    /// A bound of two items.
+    Bound(Bound, Item, Item),
     /// A package of a world.
-    Package,
+    Package(usize),
 }
 
-impl Growth {
-    /// The form of the query.
-    pub(crate) fn form(self) -> &'static str {
-        match self {
-            Growth::Meet => "meet COLL ITEM ITEM",
-            Growth::Join => "join COLL ITEM ITEM",
-            Growth::Package => "package COLL wN",
-        }
+// Reads two items of which a bound is made, and before them the number of their collection.
+fn read_bound<'a>(
+    bound: Bound,
+    form: &'static str,
+    words: &[&'a str],
+) -> Result<(u64, Growth), ScriptError<'a>> {
+    let [collection, left, right] = *words else {
+        return Err(ScriptError::Misused(form));
+    };
+    let number = read_number(collection)?;
+    let (left, right) = (read_item(left)?, read_item(right)?);
+    Ok((number, Growth::Bound(bound, left, right)))
+}
+
+// Reads a world of which a package is made, and before it the number of its collection.
+fn read_package<'a>(words: &[&'a str]) -> Result<(u64, Growth), ScriptError<'a>> {
+    let [collection, world] = *words else {
+        return Err(ScriptError::Misused("package COLL wN"));
+    };
+    let number = read_number(collection)?;
+    Ok((number, Growth::Package(read_world(world)?)))
+}
+
+/// Reads what is made of entries of the collection of a number, which comes first, from the words after a
+/// command: `meet`, `join`, or else `package`.
+pub(crate) fn read_growth<'a>(
+    command: &str,
+    words: &[&'a str],
+) -> Result<(u64, Growth), ScriptError<'a>> {
+    match command {
+        "meet" => read_bound(Bound::Meet, "meet COLL ITEM ITEM", words),
+        "join" => read_bound(Bound::Join, "join COLL ITEM ITEM", words),
+        _ => read_package(words),
     }
 }
 
-/// Adds to a collection what is made of what the words name, and gives the answer.
+/// Adds to a collection what is made of its entries, and puts the answer last.
 pub(crate) fn grow<'a>(
     alloc: Global,
+    text: &mut String,
     types: &mut Types,
     growth: Growth,
-    words: &[&'a str],
-) -> Result<String, ScriptError<'a>>
+) -> Result<(), ScriptError<'a>>
     ensures { types.new.number ≡ types.old.number }
 {
-    match (growth, words) {
-        (Growth::Meet | Growth::Join, [left, right]) => {
-            bound_answer(alloc, types, growth, left, right)
-        }
-        (Growth::Package, [world]) => definitions_answer(alloc, types, world),
-        _ => Err(ScriptError::Misused(growth.form())),
+    match growth {
+        Growth::Bound(bound, left, right) => add_bound(alloc, text, types, bound, left, right),
+        Growth::Package(world) => add_package(alloc, text, types, world),
     }
 }
 
@@ -68,33 +98,68 @@ fn entry_count(types: &Types) -> usize {
     values.saturating_add(functions).saturating_add(composites)
 }
 
-// A bound of two items: its word, its canonical tree, and how many entries were added.
-fn bound_answer<'a>(
+// Puts a bound of two items last: its word, its canonical tree, and how many entries were added.
+fn add_bound<'a>(
     alloc: Global,
+    text: &mut String,
     types: &mut Types,
-    growth: Growth,
-    left: &'a str,
-    right: &'a str,
-) -> Result<String, ScriptError<'a>>
+    bound: Bound,
+    left: Item,
+    right: Item,
+) -> Result<(), ScriptError<'a>>
     ensures { types.new.number ≡ types.old.number }
 {
     let before = entry_count(types);
-    let left = read_item(left)?;
-    let right = read_item(right)?;
     match (find_item(types, left), find_item(types, right)) {
         (Ok(a), Ok(b)) => {
-            let bound = bound_of(alloc, types, growth, a, b)?;
-            Ok(bound_text(alloc, types, &bound, before)?)
+            push_bound(alloc, text, types, bound, a, b)?;
+            let added = entry_count(types).saturating_sub(before);
+            write!(text, " added {added}")?;
+            Ok(())
         }
         (Err(missing), _) | (_, Err(missing)) => Err(ScriptError::NoEntry(missing)),
     }
 }
 
-// The join of two items for `join`, else their meet.
+// Puts the word and the canonical tree of a bound last, or `none`.
+fn push_bound(
+    alloc: Global,
+    text: &mut String,
+    types: &mut Types,
+    bound: Bound,
+    a: ItemKind,
+    b: ItemKind,
+) -> Result<(), AllocError>
+    requires left { AllStand types.old (item_keys a) }
+    requires right { AllStand types.old (item_keys b) }
+    ensures { types.new.number ≡ types.old.number }
+{
+    match bound_of(alloc, types, bound, a, b) {
+        Ok(Some(item)) => push_standing(alloc, text, types, &item),
+        Ok(None) => text.push_str("none"),
+        Err(error) => Err(error),
+    }
+}
+
+// Puts the word and the canonical tree of an item last.
+fn push_standing(
+    alloc: Global,
+    text: &mut String,
+    types: &Types,
+    item: &ItemKind,
+) -> Result<(), AllocError>
+    requires { AllStand types.now (item_keys item.now) }
+{
+    push_item(text, *item)?;
+    text.push_str(" ")?;
+    push_item_text(alloc, text, types, *item)
+}
+
+// A bound of two items.
 fn bound_of(
     alloc: Global,
     types: &mut Types,
-    growth: Growth,
+    bound: Bound,
     a: ItemKind,
     b: ItemKind,
 ) -> Result<Option<ItemKind>, AllocError>
@@ -103,61 +168,31 @@ fn bound_of(
     ensures standing { IfOk result (λ bound. IfSome bound (λ item. AllStand types.new (item_keys item))) }
     ensures number { types.new.number ≡ types.old.number }
 {
-    match growth {
-        Growth::Join => join(alloc, types, a, b),
-        _ => meet(alloc, types, a, b),
-    }
-}
-
-// A bound, where there is one, and how many entries there are more than before.
-fn bound_text(
-    alloc: Global,
-    types: &Types,
-    bound: &Option<ItemKind>,
-    before: usize,
-) -> Result<String, AllocError>
-    requires { IfSome bound.now (λ item. AllStand types.now (item_keys item)) }
-{
-    let added = entry_count(types).saturating_sub(before);
     match bound {
-        Some(item) => item_line(alloc, types, item, added),
-        None => format!(in alloc; "none added {added}"),
+        Bound::Meet => meet(alloc, types, a, b),
+        Bound::Join => join(alloc, types, a, b),
     }
 }
 
-fn item_line(
+// Puts a package that is made of a world last: the interface that is added, and the definitions in order.
+fn add_package<'a>(
     alloc: Global,
-    types: &Types,
-    item: &ItemKind,
-    added: usize,
-) -> Result<String, AllocError>
-    requires { AllStand types.now (item_keys item.now) }
-{
-    let word = item_word(alloc, *item)?;
-    let tree = item_text(alloc, types, *item)?;
-    format!(in alloc; "{word} {tree} added {added}")
-}
-
-// A package that is made of a world: the interface that is added, and the definitions in order.
-fn definitions_answer<'a>(
-    alloc: Global,
+    text: &mut String,
     types: &mut Types,
-    world: &'a str,
-) -> Result<String, ScriptError<'a>>
+    world: usize,
+) -> Result<(), ScriptError<'a>>
     ensures { types.new.number ≡ types.old.number }
 {
-    let world = find_world(types, read_world(world)?)?;
+    let world = find_world(types, world)?;
     let package = Package::from_world(alloc, "package", None, Vec::new(alloc), types, world)?;
-    Ok(definitions_text(alloc, &package)?)
+    Ok(push_definitions(text, &package)?)
 }
 
-fn definitions_text(alloc: Global, package: &Package) -> Result<String, AllocError> {
+fn push_definitions(text: &mut String, package: &Package) -> Result<(), AllocError> {
     let interface = package.instance_type();
-    let mut text = format!(in alloc; "i{interface}")?;
+    write!(text, "i{interface}")?;
     for (name, item) in package.definitions() {
-        let name = name_word(alloc, name)?;
-        let item = item_word(alloc, *item)?;
-        text.push_str(&format!(in alloc; " {name}={item}")?)?;
+        push_binding(text, name, *item)?;
     }
-    Ok(text)
+    Ok(())
 }

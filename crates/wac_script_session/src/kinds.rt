@@ -1,11 +1,10 @@
 //! The answer about kinds.
 
-use std::alloc::Global;
 use wac_component::{ExternKind, FuncKind};
 use wac_script_syntax::ScriptError;
 
-/// The answer to `kinds`: the texts of the kinds of functions and of externs.
-pub(crate) fn kinds<'a>(alloc: Global, words: &[&'a str]) -> Result<String, ScriptError<'a>> {
+/// Puts the texts of the kinds of functions and of externs last: the answer to `kinds`.
+pub(crate) fn kinds<'a>(text: &mut String, words: &[&'a str]) -> Result<(), ScriptError<'a>> {
     if !words.is_empty() {
         return Err(ScriptError::Misused("kinds"));
     }
@@ -15,8 +14,9 @@ pub(crate) fn kinds<'a>(alloc: Global, words: &[&'a str]) -> Result<String, Scri
     let constructor = FuncKind::Constructor;
     let import = ExternKind::Import;
     let export = ExternKind::Export;
-    let text = format!(in alloc;
+    write!(
+        text,
         "{free} | {method} | {of_type} | {constructor} | {import} | {export}"
     )?;
-    Ok(text)
+    Ok(())
 }

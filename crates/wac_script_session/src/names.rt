@@ -1,33 +1,38 @@
 //! Answers about names with versions.
 
+use super::lines::push_yes_or_no;
 use std::alloc::Global;
 use wac_names::{are_semver_compatible, track_of};
-use wac_script_syntax::{ScriptError, name_word, read_name};
+use wac_script_syntax::{ScriptError, push_name, read_name};
 
-/// The answer to `track`: the word that writes the track key of a name, or `none`.
-pub(crate) fn track<'a>(alloc: Global, words: &[&'a str]) -> Result<String, ScriptError<'a>> {
+/// Puts the word that writes the track key of a name last, or `none`: the answer to `track`.
+pub(crate) fn track<'a>(
+    alloc: Global,
+    text: &mut String,
+    words: &[&'a str],
+) -> Result<(), ScriptError<'a>> {
     let [word] = *words else {
         return Err(ScriptError::Misused("track NAME"));
     };
     let name = read_name(alloc, word)?;
-    let key = match track_of(alloc, &name)? {
-        Some(key) => name_word(alloc, key)?,
-        None => String::from_str(alloc, "none")?,
-    };
-    Ok(key)
+    match track_of(alloc, &name)? {
+        Some(key) => push_name(text, key)?,
+        None => text.push_str("none")?,
+    }
+    Ok(())
 }
 
-/// The answer to `compatible`: whether two names are equal or on one track, `yes` or `no`.
-pub(crate) fn compatible<'a>(alloc: Global, words: &[&'a str]) -> Result<String, ScriptError<'a>> {
+/// Puts last whether two names are equal or on one track: the answer to `compatible`.
+pub(crate) fn compatible<'a>(
+    alloc: Global,
+    text: &mut String,
+    words: &[&'a str],
+) -> Result<(), ScriptError<'a>> {
     let [a, b] = *words else {
         return Err(ScriptError::Misused("compatible NAME NAME"));
     };
     let a = read_name(alloc, a)?;
     let b = read_name(alloc, b)?;
-    let answer = if are_semver_compatible(alloc, &a, &b)? {
-        "yes"
-    } else {
-        "no"
-    };
-    Ok(String::from_str(alloc, answer)?)
+    push_yes_or_no(text, are_semver_compatible(alloc, &a, &b)?)?;
+    Ok(())
 }

@@ -1,6 +1,6 @@
 //! The answer about two packages.
 
-use super::lines::one_line;
+use super::lines::push_on_one_line;
 use semver::Version;
 use std::alloc::{AllocError, Global};
 use std::cmp::Ordering;
@@ -31,50 +31,51 @@ fn key_of<'a>(
     Ok(key.into_owned(alloc)?)
 }
 
-fn ordering_word(ordering: Ordering) -> &'static str {
-    match ordering {
-        Ordering::Less => "less",
-        Ordering::Equal => "equal",
-        Ordering::Greater => "greater",
+// Puts the text of a key on one line and a space last.
+fn push_key(alloc: Global, text: &mut String, key: &PackageKey) -> Result<(), AllocError> {
+    push_on_one_line(text, &key.to_string(alloc)?)?;
+    text.push_str(" ")
+}
+
+// How two keys are ordered, and a space.
+fn ordering_word(a: &PackageKey, b: &PackageKey) -> &'static str {
+    match a.cmp(b) {
+        Ordering::Less => "less ",
+        Ordering::Equal => "equal ",
+        Ordering::Greater => "greater ",
     }
 }
 
-fn same_word(same: bool) -> &'static str {
-    if same { "same" } else { "different" }
-}
-
-// The text of a key on one line.
-fn key_line(alloc: Global, key: &PackageKey) -> Result<String, AllocError> {
-    let text = key.to_string(alloc)?;
-    one_line(alloc, &text)
-}
-
-// The texts of two keys, how they are ordered, and whether they are equal.
-fn pair_text(
+/// Puts the answer to `pkg` last: the texts of the two keys, each on one line; `less`, `equal` or `greater`
+/// by the order of keys; and `same` or `different`. `Keys` comes where the call through `dyn` doesn't say of
+/// two keys what `==` does; no contract can tell here what the keys that it is given stand for.
+pub(crate) fn packages<'a>(
     alloc: Global,
-    a: &PackageKey,
-    b: &PackageKey,
-    same: bool,
-) -> Result<String, AllocError> {
-    let first = key_line(alloc, a)?;
-    let second = key_line(alloc, b)?;
-    let order = ordering_word(a.cmp(b));
-    let same = same_word(same);
-    format!(in alloc; "{first} {second} {order} {same}")
-}
-
-/// The answer to `pkg`: the texts of the two keys, each on one line; `less`, `equal` or `greater` by the
-/// order of keys; and `same` or `different`. `Keys` comes where the call through `dyn` doesn't say of two
-/// keys what `==` does; no contract can tell here what the keys that it is given stand for.
-pub(crate) fn packages<'a>(alloc: Global, words: &[&'a str]) -> Result<String, ScriptError<'a>> {
+    text: &mut String,
+    words: &[&'a str],
+) -> Result<(), ScriptError<'a>> {
     let [name, version, other, other_version] = *words else {
         return Err(ScriptError::Misused("pkg NAME VERSION|- NAME VERSION|-"));
     };
     let left = key_of(alloc, name, version)?;
     let right = key_of(alloc, other, other_version)?;
-    let same = left == right;
-    if same_key(&left, &right) != same {
+    push_keys(alloc, text, &left, &right)
+}
+
+// Puts the texts of two keys, how they are ordered, and whether they are equal last.
+fn push_keys<'a>(
+    alloc: Global,
+    text: &mut String,
+    a: &PackageKey,
+    b: &PackageKey,
+) -> Result<(), ScriptError<'a>> {
+    let same = a == b;
+    if same_key(a, b) != same {
         return Err(ScriptError::Keys);
     }
-    Ok(pair_text(alloc, &left, &right, same)?)
+    push_key(alloc, text, a)?;
+    push_key(alloc, text, b)?;
+    text.push_str(ordering_word(a, b))?;
+    text.push_str(if same { "same" } else { "different" })?;
+    Ok(())
 }

@@ -1,105 +1,128 @@
 //! Answers of a collection.
 
-ghost use Rattle.wac_component.specs.Key.{AllStand, type_keys};
+ghost use Rattle.wac_component.specs.Key.{AllStand, type_keys, item_keys};
 
 use super::collections::Collections;
+use super::lines::push_yes_or_no;
 use std::alloc::{AllocError, Global};
-use wac_component::{Type, Types};
-use wac_item_text::item_text;
-use wac_script_entries::{
-    entry_line, find_entry, find_item, find_type, find_value, item_word, type_word, value_word,
-};
+use wac_component::{ItemKind, Type, Types};
+use wac_item_text::push_item_text;
+use wac_script_entries::{find_item, find_type, push_entry, push_item, push_type, push_value};
 use wac_script_syntax::{
-    Item, ScriptError, read_entry, read_item, read_number, read_resolvable, read_type, read_value,
+    Item, ScriptError, TypeWord, read_entry, read_item, read_number, read_resolvable, read_type,
+    read_value,
 };
 
-// Reads the number of a collection and an item of it, after a command of this form.
-fn read_item_of<'a>(form: &'static str, words: &[&'a str]) -> Result<(u64, Item), ScriptError<'a>> {
+/// What is asked of an item or a type.
+#[derive(Clone, Copy)]
+pub(crate) enum Asked {
+    /// The canonical text of an item's tree.
+    Tree,
+    /// The text of an item's kind.
+    Desc,
+    /// The item that an item is promoted to.
+    Promoted,
+    /// The type of an item.
+    Type,
+    /// The line that builds an entry.
+    Entry,
+    /// Whether a value type contains a borrowed handle.
+    Borrows,
+    /// What a value type or a resource is an alias of.
+    Root,
+}
+
+impl Asked {
+    // The form of the query.
+    fn form(self) -> &'static str {
+        match self {
+            Asked::Tree => "tree COLL ITEM",
+            Asked::Desc => "desc COLL ITEM",
+            Asked::Promoted => "promote COLL ITEM",
+            Asked::Type => "ty COLL ITEM",
+            Asked::Entry => "entry COLL ENTRY",
+            Asked::Borrows => "borrows COLL VALUE",
+            Asked::Root => "resolve COLL VALUE|rN",
+        }
+    }
+
+    // Reads what is asked about; a type stands for the item that it is.
+    fn read(self, word: &str) -> Result<Item, ScriptError<'_>> {
+        match self {
+            Asked::Entry => Ok(Item::Type(TypeWord::Entry(read_entry(word)?))),
+            Asked::Borrows => Ok(Item::Value(read_value(word)?)),
+            Asked::Root => Ok(Item::Type(read_resolvable(word)?)),
+            _ => read_item(word),
+        }
+    }
+}
+
+/// Puts the answer to a query about one item or type last.
+pub(crate) fn about<'a>(
+    alloc: Global,
+    text: &mut String,
+    collections: &Collections,
+    asked: Asked,
+    words: &[&'a str],
+) -> Result<(), ScriptError<'a>> {
     let [collection, item] = *words else {
-        return Err(ScriptError::Misused(form));
+        return Err(ScriptError::Misused(asked.form()));
     };
-    Ok((read_number(collection)?, read_item(item)?))
-}
-
-/// The canonical text of an item's tree.
-pub(crate) fn tree<'a>(
-    alloc: Global,
-    collections: &Collections,
-    words: &[&'a str],
-) -> Result<String, ScriptError<'a>> {
-    let (number, item) = read_item_of("tree COLL ITEM", words)?;
+    let (number, item) = (read_number(collection)?, asked.read(item)?);
     let types = collections.get(number)?;
     match find_item(types, item) {
-        Ok(item) => Ok(item_text(alloc, types, item)?),
+        Ok(item) => Ok(push_asked(alloc, text, types, asked, item)?),
         Err(missing) => Err(ScriptError::NoEntry(missing)),
     }
 }
 
-/// The text of an item's kind.
-pub(crate) fn desc<'a>(
+fn push_asked(
     alloc: Global,
-    collections: &Collections,
-    words: &[&'a str],
-) -> Result<String, ScriptError<'a>> {
-    let (number, item) = read_item_of("desc COLL ITEM", words)?;
-    let types = collections.get(number)?;
-    match find_item(types, item) {
-        Ok(item) => Ok(String::from_str(alloc, item.desc(types))?),
-        Err(missing) => Err(ScriptError::NoEntry(missing)),
+    text: &mut String,
+    types: &Types,
+    asked: Asked,
+    item: ItemKind,
+) -> Result<(), AllocError>
+    requires { AllStand types.now (item_keys item) }
+{
+    match asked {
+        Asked::Tree => push_item_text(alloc, text, types, item),
+        Asked::Desc => text.push_str(item.desc(types)),
+        Asked::Promoted => push_item(text, item.promote()),
+        Asked::Type => push_type(text, item.ty()),
+        Asked::Entry => push_entry(text, types, item.ty()),
+        Asked::Borrows => push_yes_or_no(text, contains_borrow(types, item)),
+        Asked::Root => push_root(text, types, item.ty()),
     }
 }
 
-/// The item that an item is promoted to.
-pub(crate) fn promote<'a>(
-    alloc: Global,
-    collections: &Collections,
-    words: &[&'a str],
-) -> Result<String, ScriptError<'a>> {
-    let (number, item) = read_item_of("promote COLL ITEM", words)?;
-    match find_item(collections.get(number)?, item) {
-        Ok(item) => Ok(item_word(alloc, item.promote())?),
-        Err(missing) => Err(ScriptError::NoEntry(missing)),
+// Whether an item is a value whose type contains a borrowed handle.
+fn contains_borrow(types: &Types, item: ItemKind) -> bool
+    requires { AllStand types.now (item_keys item) }
+{
+    match item {
+        ItemKind::Value(ty) => ty.contains_borrow(types),
+        _ => false,
     }
 }
 
-/// The type of an item.
-pub(crate) fn ty<'a>(
-    alloc: Global,
-    collections: &Collections,
-    words: &[&'a str],
-) -> Result<String, ScriptError<'a>> {
-    let (number, item) = read_item_of("ty COLL ITEM", words)?;
-    match find_item(collections.get(number)?, item) {
-        Ok(item) => Ok(type_word(alloc, item.ty())?),
-        Err(missing) => Err(ScriptError::NoEntry(missing)),
+// Puts last what a value type or a resource is an alias of; another type stands for itself.
+fn push_root(text: &mut String, types: &Types, ty: Type) -> Result<(), AllocError>
+    requires { AllStand types.now (type_keys ty) }
+{
+    match ty {
+        Type::Value(value) => push_value(text, types.resolve_value_type(value)),
+        Type::Resource(id) => push_type(text, Type::Resource(types.resolve_resource(id))),
+        _ => push_type(text, ty),
     }
 }
 
-fn yes_or_no(alloc: Global, answer: bool) -> Result<String, AllocError> {
-    String::from_str(alloc, if answer { "yes" } else { "no" })
-}
-
-/// Whether a value type contains a borrowed handle.
-pub(crate) fn borrows<'a>(
-    alloc: Global,
-    collections: &Collections,
-    words: &[&'a str],
-) -> Result<String, ScriptError<'a>> {
-    let [collection, value] = *words else {
-        return Err(ScriptError::Misused("borrows COLL VALUE"));
-    };
-    let (number, value) = (read_number(collection)?, read_value(value)?);
-    let types = collections.get(number)?;
-    let value = find_value(types, value)?;
-    Ok(yes_or_no(alloc, value.contains_borrow(types))?)
-}
-
-/// Whether a collection contains a type of another.
+/// Puts last whether a collection contains a type of another.
 pub(crate) fn contains<'a>(
-    alloc: Global,
+    text: &mut String,
     collections: &Collections,
     words: &[&'a str],
-) -> Result<String, ScriptError<'a>> {
+) -> Result<(), ScriptError<'a>> {
     let [collection, other, ty] = *words else {
         return Err(ScriptError::Misused("contains COLL OTHER TYPE"));
     };
@@ -107,59 +130,28 @@ pub(crate) fn contains<'a>(
     let ty = read_type(ty)?;
     let types = collections.get(number)?;
     match find_type(collections.get(other)?, ty) {
-        Ok(ty) => Ok(yes_or_no(alloc, types.contains(ty))?),
+        Ok(ty) => Ok(push_yes_or_no(text, types.contains(ty))?),
         Err(missing) => Err(ScriptError::NoEntry(missing)),
     }
 }
 
-// What a value type or a resource is an alias of.
-fn resolved_word(alloc: Global, types: &Types, ty: Type) -> Result<String, AllocError>
-    requires { AllStand types.now (type_keys ty) }
-{
-    match ty {
-        Type::Value(value) => value_word(alloc, types.resolve_value_type(value)),
-        Type::Resource(id) => type_word(alloc, Type::Resource(types.resolve_resource(id))),
-        _ => type_word(alloc, ty),
-    }
-}
-
-/// What a value type or a resource is an alias of.
-pub(crate) fn resolve<'a>(
-    alloc: Global,
+/// Puts last how many entries of each sort a collection has.
+pub(crate) fn count<'a>(
+    text: &mut String,
     collections: &Collections,
     words: &[&'a str],
-) -> Result<String, ScriptError<'a>> {
-    let [collection, word] = *words else {
-        return Err(ScriptError::Misused("resolve COLL VALUE|rN"));
+) -> Result<(), ScriptError<'a>> {
+    let [collection] = *words else {
+        return Err(ScriptError::Misused("count COLL"));
     };
-    let (number, ty) = (read_number(collection)?, read_resolvable(word)?);
-    let types = collections.get(number)?;
-    match find_type(types, ty) {
-        Ok(ty) => Ok(resolved_word(alloc, types, ty)?),
-        Err(missing) => Err(ScriptError::NoEntry(missing)),
-    }
+    let types = collections.get(read_number(collection)?)?;
+    Ok(push_lengths(text, types)?)
 }
 
-/// The line that builds an entry.
-pub(crate) fn entry<'a>(
-    alloc: Global,
-    collections: &Collections,
-    words: &[&'a str],
-) -> Result<String, ScriptError<'a>> {
-    let [collection, entry] = *words else {
-        return Err(ScriptError::Misused("entry COLL ENTRY"));
-    };
-    let (number, entry) = (read_number(collection)?, read_entry(entry)?);
-    let types = collections.get(number)?;
-    match find_entry(types, entry) {
-        Ok(entry) => Ok(entry_line(alloc, types, entry)?),
-        Err(missing) => Err(ScriptError::NoEntry(missing)),
-    }
-}
-
-// The lengths of the six lists.
-fn lengths(alloc: Global, types: &Types) -> Result<String, AllocError> {
-    format!(in alloc;
+// Puts the lengths of the six lists last.
+fn push_lengths(text: &mut String, types: &Types) -> Result<(), AllocError> {
+    write!(
+        text,
         "{} {} {} {} {} {}",
         types.defined_types().len(),
         types.resources().len(),
@@ -168,17 +160,4 @@ fn lengths(alloc: Global, types: &Types) -> Result<String, AllocError> {
         types.worlds().len(),
         types.modules().len(),
     )
-}
-
-/// How many entries of each sort a collection has.
-pub(crate) fn count<'a>(
-    alloc: Global,
-    collections: &Collections,
-    words: &[&'a str],
-) -> Result<String, ScriptError<'a>> {
-    let [collection] = *words else {
-        return Err(ScriptError::Misused("count COLL"));
-    };
-    let types = collections.get(read_number(collection)?)?;
-    Ok(lengths(alloc, types)?)
 }

@@ -3,11 +3,11 @@
 use super::answers::answer;
 use super::collections::Collections;
 use super::comparisons::{Cache, subtype};
-use super::growth::Growth;
+use super::growth::read_growth;
 use std::alloc::{AllocError, Global};
 use std::collections::HashSet;
 use wac_script_entries::Replacement;
-use wac_script_syntax::{Command, Content, Query, ScriptError, read_entry, read_number};
+use wac_script_syntax::{Command, Content, Query, ScriptError, read_entry};
 
 /// The collections that a script has built so far, and what its questions share.
 #[derive(Drop)]
@@ -15,8 +15,9 @@ pub struct Session {
     collections: Collections,
     // The number of the collection at hand.
     at_hand: Option<u64>,
-    // The cache that the questions share, while one is kept.
-    cache: Option<Cache>,
+    // What the questions before found, while they share a cache; else it is emptied before each.
+    cache: Cache,
+    shares_cache: bool,
     // How many queries of the script have been answered.
     answered: u64,
 }
@@ -27,7 +28,8 @@ impl Session {
         Session {
             collections: Collections::new(alloc),
             at_hand: None,
-            cache: None,
+            cache: HashSet::new(alloc),
+            shares_cache: false,
             answered: 0,
         }
     }
@@ -47,8 +49,8 @@ impl Session {
             Command::Query(query) => return Ok(Some(self.answer(alloc, &query)?)),
             Command::Collection(number) => self.begin(alloc, number)?,
             Command::Add(content) => self.add(alloc, content)?,
-            Command::KeepCache => self.keep_cache(alloc),
-            Command::DropCache => self.cache = None,
+            Command::KeepCache => self.keep_cache(),
+            Command::DropCache => self.shares_cache = false,
         }
         Ok(None)
     }
@@ -67,10 +69,11 @@ impl Session {
     }
 
     // Shares one cache among the questions from now on; one that is shared already stays.
-    fn keep_cache(&mut self, alloc: Global) {
-        if self.cache.is_none() {
-            self.cache = Some(HashSet::new(alloc));
+    fn keep_cache(&mut self) {
+        if !self.shares_cache {
+            self.cache.clear();
         }
+        self.shares_cache = true;
     }
 
     fn add<'a>(&mut self, alloc: Global, content: Content<'a>) -> Result<(), ScriptError<'a>> {
@@ -82,57 +85,53 @@ impl Session {
 
     // The number of the query in the script, and the answer.
     fn answer<'a>(&mut self, alloc: Global, query: &Query<'a>) -> Result<String, ScriptError<'a>> {
-        let answer = self.answer_of(alloc, query.command, &query.words)?;
-        self.answered = self.answered.saturating_add(1);
-        let number = self.answered;
-        let line = format!(in alloc; "{number} {answer}")?;
+        let number = self.answered.saturating_add(1);
+        let mut line = format!(in alloc; "{number} ")?;
+        self.push_answer(alloc, &mut line, query.command, &query.words)?;
+        self.answered = number;
         Ok(line)
     }
 
-    fn answer_of<'a>(
+    // Puts the answer to a query last.
+    fn push_answer<'a>(
         &mut self,
         alloc: Global,
+        text: &mut String,
         command: &'a str,
         words: &[&'a str],
-    ) -> Result<String, ScriptError<'a>> {
+    ) -> Result<(), ScriptError<'a>> {
         match command {
-            "subtype" => self.subtype(alloc, words),
-            "replace" => self.replace(alloc, words),
-            "meet" => self.grow(alloc, Growth::Meet, words),
-            "join" => self.grow(alloc, Growth::Join, words),
-            "package" => self.grow(alloc, Growth::Package, words),
-            _ => answer(alloc, &self.collections, command, words),
+            "subtype" => self.subtype(alloc, text, words),
+            "replace" => self.replace(alloc, text, words),
+            "meet" | "join" | "package" => {
+                let (number, growth) = read_growth(command, words)?;
+                self.collections.grow(alloc, text, number, growth)
+            }
+            _ => answer(alloc, text, &self.collections, command, words),
         }
     }
 
-    // Adds to a collection what a query makes.
-    fn grow<'a>(
+    // Asks with the cache that is shared, or with an empty one.
+    fn subtype<'a>(
         &mut self,
         alloc: Global,
-        growth: Growth,
+        text: &mut String,
         words: &[&'a str],
-    ) -> Result<String, ScriptError<'a>> {
-        let Some((number, words)) = words.split_first() else {
-            return Err(ScriptError::Misused(growth.form()));
-        };
-        let number = read_number(number)?;
-        self.collections.grow(alloc, number, growth, words)
-    }
-
-    // Asks with the cache that is kept, or with an empty one.
-    fn subtype<'a>(&mut self, alloc: Global, words: &[&'a str]) -> Result<String, ScriptError<'a>> {
-        match &mut self.cache {
-            Some(cache) => subtype(alloc, &self.collections, cache, words),
-            None => {
-                let mut cache = HashSet::new(alloc);
-                subtype(alloc, &self.collections, &mut cache, words)
-            }
+    ) -> Result<(), ScriptError<'a>> {
+        if !self.shares_cache {
+            self.cache.clear();
         }
+        subtype(alloc, text, &self.collections, &mut self.cache, words)
     }
 
-    // Replaces an entry of the collection at hand. A cache that is kept is emptied, since what it holds
-    // of the entry need not be true any longer.
-    fn replace<'a>(&mut self, alloc: Global, words: &[&'a str]) -> Result<String, ScriptError<'a>> {
+    // Replaces an entry of the collection at hand. The cache is emptied, since what it holds of the entry
+    // need not be true any longer.
+    fn replace<'a>(
+        &mut self,
+        alloc: Global,
+        text: &mut String,
+        words: &[&'a str],
+    ) -> Result<(), ScriptError<'a>> {
         let Some((entry, words)) = words.split_first() else {
             return Err(ScriptError::Misused("replace ENTRY CONTENT"));
         };
@@ -140,13 +139,12 @@ impl Session {
         let Some(number) = self.at_hand else {
             return Err(ScriptError::NoneAtHand);
         };
-        if let Some(cache) = &mut self.cache {
-            cache.clear();
-        }
+        self.cache.clear();
         let answer = match self.collections.replace(alloc, number, entry, words)? {
             Replacement::Done => "ok",
             Replacement::Cycle => "cycle",
         };
-        Ok(String::from_str(alloc, answer)?)
+        text.push_str(answer)?;
+        Ok(())
     }
 }

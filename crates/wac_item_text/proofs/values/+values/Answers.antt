@@ -8,17 +8,17 @@ use Rattle.wac_component.proofs.Members.{AllStand-member, keys_height-member}
 use Rattle.wac_component.proofs.AnyBorrow.{Each-case, largest-case}
 use Rattle.wac_item_text.proofs.values.+values.Goals as goal
 
-pub items_text-value_text-requires : goal.items_text-value_text-requires
-items_text-value_text-requires t c =
+pub push_tuple-push_value-requires : goal.push_tuple-push_value-requires
+push_tuple-push_value-requires t c =
     let lower : keys_height c.args.types.now (value_keys c.item_at.result) ≤ keys_height c.args.types.now (flat_map value_keys c.args.items.now) = keys_height-member c.args.types.now c.args.items.now c.loop-i.i c.item_at.result c.item_at.ensures in
     (omega arith, AllStand-member c.args.types.now c.args.items.now c.loop-i.i c.item_at.result c.item_at.ensures c.requires)
 
-pub fields_text-value_text-requires : goal.fields_text-value_text-requires
-fields_text-value_text-requires t c =
+pub push_fields-push_value-requires : goal.push_fields-push_value-requires
+push_fields-push_value-requires t c =
     let lower : keys_height c.args.types.now (value_keys c.field_at-ty.result.1) ≤ keys_height c.args.types.now (flat_map value_keys (types_of c.args.fields.now.entries)) = keys_height-member c.args.types.now (types_of c.args.fields.now.entries) c.loop-i.i c.field_at-ty.result.1 c.field_at-ty.ensures in
     (omega arith, AllStand-member c.args.types.now (types_of c.args.fields.now.entries) c.loop-i.i c.field_at-ty.result.1 c.field_at-ty.ensures c.requires)
 
-pub cases_text-case_text-requires : goal.cases_text-case_text-requires
-cases_text-case_text-requires t c =
-    let lower : keys_height c.args.types.now (flat_map value_keys (option_to_list c.case_at.result.1.now)) ≤ keys_height c.args.types.now (flat_map value_keys (case_types c.args.cases.now.entries)) = largest-case (height c.args.types.now) c.args.cases.now.entries c.loop-i.i c.case_at.result.1.now c.case_at.ensures in
-    (omega arith, Each-case (Stands c.args.types.now) c.args.cases.now.entries c.loop-i.i c.case_at.result.1.now c.case_at.ensures c.requires)
+pub push_cases-push_case-requires : goal.push_cases-push_case-requires
+push_cases-push_case-requires t c =
+    let lower : keys_height c.args.types.now (flat_map value_keys (option_to_list c.case_at-ty.result.1)) ≤ keys_height c.args.types.now (flat_map value_keys (case_types c.args.cases.now.entries)) = largest-case (height c.args.types.now) c.args.cases.now.entries c.loop-i.i c.case_at-ty.result.1 c.case_at-ty.ensures in
+    (omega arith, Each-case (Stands c.args.types.now) c.args.cases.now.entries c.loop-i.i c.case_at-ty.result.1 c.case_at-ty.ensures c.requires)

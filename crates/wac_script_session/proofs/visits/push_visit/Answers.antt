@@ -4,7 +4,7 @@ use denote.Param.Members.{mut_of}
 use Rattle.wac_component.specs.Collection.{Collection}
 use Rattle.wac_component.specs.Id.{Id}
 use Rattle.wac_component.specs.Visits.{MayVisit}
-use Rattle.wac_script_session.proofs.visits.carry_out.Goals as goal
+use Rattle.wac_script_session.proofs.visits.push_visit.Goals as goal
 
 -- a visitor whose calls ask for nothing may be called on any list
 may_visit : {F E : Type 0} (post : F → Bor Collection × (Id × Unit {0}) → Result (Unit {0}) E → F → Type 0) (c : Collection) (xs : List Id) (f : F) → MayVisit (mut_of (λ f a. Unit {0}) post) c f xs
