@@ -2,11 +2,13 @@
 
 ghost use Rattle.wac_component.specs.Key.{Stands, world_key};
 
-use super::building::{built, world};
+use super::finding::world;
 use super::showing::shows;
 use std::alloc::Global;
 use std::collections::HashSet;
+use std::process::Abort;
 use std::test::Fail;
+use wac_script_entries::built;
 use wac_types::{ItemKind, PrimitiveType, SubtypeCheck, SubtypeChecker, Types, ValueType, WorldId};
 
 // Why a component that imports more of an instance doesn't fit where one that imports less is asked for, by
@@ -23,8 +25,6 @@ iface - e:f=F:fn0
 iface - e:f=F:fn0 e:g=F:fn0
 world - m:x=I:i0
 world - m:x=I:i1";
-
-const BYTE: ValueType = ValueType::Primitive(PrimitiveType::U8);
 
 type Cache = HashSet<(ItemKind, ItemKind)>;
 
@@ -52,45 +52,49 @@ fn remembers(cache: &Cache, a: ItemKind, b: ItemKind) -> bool {
     cache.contains(&(a, b))
 }
 
+// Whether a new checker with this cache gives this answer, and there are so many pairs then.
+fn answers_anew(
+    alloc: Global,
+    cache: &mut Cache,
+    types: &Types,
+    a: WorldId,
+    b: WorldId,
+    wanted: &str,
+    pairs: usize,
+) -> bool
+    requires left { Stands types.now (world_key a) }
+    requires right { Stands types.now (world_key b) }
+{
+    let mut checker = SubtypeChecker::new(cache);
+    answers(alloc, &mut checker, types, a, b, wanted) && cache.len() == pairs
+}
+
+// Asserts which pairs are remembered of the two components.
+fn check_pairs<R: Abort>(
+    rt: &R,
+    alloc: Global,
+    cache: &mut Cache,
+    types: &Types,
+) -> Result<(), Fail> {
+    let (less, more) = (world(types, 0)?, world(types, 1)?);
+    assert!(rt; answers_anew(alloc, cache, types, more, less, COVARIANT, 0));
+    assert!(rt; answers_anew(alloc, cache, types, less, more, "yes", 1));
+    assert!(rt; answers_anew(alloc, cache, types, less, more, "yes", 1));
+    assert!(rt; answers_anew(alloc, cache, types, more, less, COVARIANT, 1));
+    assert!(rt; remembers(cache, ItemKind::Component(less), ItemKind::Component(more)));
+    Ok(())
+}
+
 #[test]
 fn the_pair_that_was_asked_is_remembered_after_a_yes_alone(rt: HostRuntime) -> Result<(), Fail> {
-    let alloc = rt.alloc();
-    let types = built(alloc, 1, COMPONENTS)?;
-    let (less, more) = (world(&types, 0)?, world(&types, 1)?);
-    let mut cache = HashSet::new(alloc);
-    for (fits, pairs) in [(false, 0), (true, 1), (true, 1), (false, 1)] {
-        let mut checker = SubtypeChecker::new(&mut cache);
-        let (a, b, wanted) = if fits {
-            (less, more, "yes")
-        } else {
-            (more, less, COVARIANT)
-        };
-        assert!(&rt; answers(alloc, &mut checker, &types, a, b, wanted));
-        assert_eq!(&rt; cache.len(), pairs);
-    }
-    assert!(&rt; remembers(&cache, ItemKind::Component(less), ItemKind::Component(more)));
-    Ok(())
+    let types = built(rt.alloc(), 1, COMPONENTS)?;
+    let mut cache = HashSet::new(rt.alloc());
+    check_pairs(&rt, rt.alloc(), &mut cache, &types)
 }
 
 // Puts a pair into a cache; whether it wasn't there.
 fn remember(cache: &mut Cache, a: ItemKind, b: ItemKind) -> bool {
     matches!(cache.insert((a, b)), Ok(true))
-}
-
-fn remember_components(cache: &mut Cache, a: WorldId, b: WorldId) -> bool {
-    remember(cache, ItemKind::Component(a), ItemKind::Component(b))
-}
-
-fn remembers_components(cache: &Cache, a: WorldId, b: WorldId) -> bool {
-    remembers(cache, ItemKind::Component(a), ItemKind::Component(b))
-}
-
-fn remember_values(cache: &mut Cache, a: ValueType, b: ValueType) -> bool {
-    remember(cache, ItemKind::Value(a), ItemKind::Value(b))
-}
-
-fn remembers_values(cache: &Cache, a: ValueType, b: ValueType) -> bool {
-    remembers(cache, ItemKind::Value(a), ItemKind::Value(b))
 }
 
 // Forgets the pairs of a collection; how many are left.
@@ -107,16 +111,18 @@ fn world_of(alloc: Global, number: u64) -> Result<WorldId, Fail> {
 
 #[test]
 fn pairs_with_an_id_of_a_collection_are_forgotten(rt: HostRuntime) -> Result<(), Fail> {
-    let (one, two) = (world_of(rt.alloc(), 1)?, world_of(rt.alloc(), 2)?);
+    let byte = ItemKind::Value(ValueType::Primitive(PrimitiveType::U8));
+    let one = ItemKind::Component(world_of(rt.alloc(), 1)?);
+    let two = ItemKind::Component(world_of(rt.alloc(), 2)?);
     let mut cache = HashSet::new(rt.alloc());
-    assert!(&rt; remember_values(&mut cache, BYTE, BYTE));
-    assert!(&rt; remember_components(&mut cache, one, one));
-    assert!(&rt; remember_components(&mut cache, two, one));
+    assert!(&rt; remember(&mut cache, byte, byte));
+    assert!(&rt; remember(&mut cache, one, one));
+    assert!(&rt; remember(&mut cache, two, one));
     assert_eq!(&rt; forget(&mut cache, 3), 3);
     assert_eq!(&rt; forget(&mut cache, 2), 2);
-    assert!(&rt; remembers_components(&cache, one, one));
+    assert!(&rt; remembers(&cache, one, one));
     assert_eq!(&rt; forget(&mut cache, 1), 1);
-    assert!(&rt; remembers_values(&cache, BYTE, BYTE));
+    assert!(&rt; remembers(&cache, byte, byte));
     Ok(())
 }
 
@@ -142,26 +148,34 @@ fn keeps_direction(
         && checker.depth() == depth
 }
 
+// Turns the direction; whether it was this one.
+fn turns(checker: &mut SubtypeChecker, before: SubtypeCheck) -> bool {
+    checker.depth() < usize::MAX && checker.invert() == before
+}
+
+// Asserts how a checker words a no in each direction.
+fn check_directions<R: Abort>(
+    rt: &R,
+    alloc: Global,
+    checker: &mut SubtypeChecker,
+    types: &Types,
+) -> Result<(), Fail> {
+    let (less, more) = (world(types, 0)?, world(types, 1)?);
+    assert!(rt; keeps_direction(alloc, checker, types, less, more, 0, COVARIANT));
+    assert!(rt; turns(checker, SubtypeCheck::Covariant));
+    assert!(rt; keeps_direction(alloc, checker, types, less, more, 1, CONTRAVARIANT));
+    assert!(rt; turns(checker, SubtypeCheck::Contravariant));
+    assert!(rt; keeps_direction(alloc, checker, types, less, more, 2, COVARIANT));
+    assert!(rt; checker.depth() > 0);
+    checker.revert();
+    assert!(rt; keeps_direction(alloc, checker, types, less, more, 1, CONTRAVARIANT));
+    Ok(())
+}
+
 #[test]
 fn the_direction_is_turned_and_outlasts_a_refused_import(rt: HostRuntime) -> Result<(), Fail> {
-    let alloc = rt.alloc();
-    let types = built(alloc, 1, COMPONENTS)?;
-    let (less, more) = (world(&types, 0)?, world(&types, 1)?);
-    let mut cache = HashSet::new(alloc);
+    let types = built(rt.alloc(), 1, COMPONENTS)?;
+    let mut cache = HashSet::new(rt.alloc());
     let mut checker = SubtypeChecker::new(&mut cache);
-    for (before, depth, no) in [
-        (None, 0, COVARIANT),
-        (Some(SubtypeCheck::Covariant), 1, CONTRAVARIANT),
-        (Some(SubtypeCheck::Contravariant), 2, COVARIANT),
-    ] {
-        if let Some(before) = before {
-            assert!(&rt; checker.depth() < usize::MAX);
-            assert_eq!(&rt; checker.invert(), before);
-        }
-        assert!(&rt; keeps_direction(alloc, &mut checker, &types, less, more, depth, no));
-    }
-    assert!(&rt; checker.depth() > 0);
-    checker.revert();
-    assert!(&rt; keeps_direction(alloc, &mut checker, &types, less, more, 1, CONTRAVARIANT));
-    Ok(())
+    check_directions(&rt, rt.alloc(), &mut checker, &types)
 }

@@ -1,15 +1,13 @@
 //! Refusals as values: their frames, their fault, and their texts.
 
-ghost use Rattle.wac_component.specs.Key.{Stands, defined_key};
-
-use super::building::{built, defined};
+use super::finding::defined;
 use super::showing::{debugs, shows};
 use std::alloc::Global;
 use std::collections::HashSet;
 use std::test::Fail;
+use wac_script_entries::built;
 use wac_types::{
-    DefinedTypeId, Fault, Frame, ItemKind, NameError, SubtypeChecker, SubtypeError, TargetError,
-    Types, ValueType,
+    Fault, Frame, ItemKind, NameError, SubtypeChecker, SubtypeError, TargetError, Types, ValueType,
 };
 
 const LISTS: &str = "def option u8
@@ -17,16 +15,9 @@ def list d0
 def option s8
 def list d2";
 
-// Why a value of one defined type doesn't fit where one of another is asked for.
-fn refusal(
-    alloc: Global,
-    types: &Types,
-    a: DefinedTypeId,
-    b: DefinedTypeId,
-) -> Result<SubtypeError, Fail>
-    requires left { Stands types.now (defined_key a) }
-    requires right { Stands types.now (defined_key b) }
-{
+// Why a list of options of one type doesn't fit where one of another is asked for, in a collection of `LISTS`.
+fn refusal(alloc: Global, types: &Types) -> Result<SubtypeError, Fail> {
+    let (a, b) = (defined(types, 1)?, defined(types, 3)?);
     let a = ItemKind::Value(ValueType::Defined(a));
     let b = ItemKind::Value(ValueType::Defined(b));
     let mut cache = HashSet::new(alloc);
@@ -36,11 +27,14 @@ fn refusal(
     }
 }
 
+fn mismatch(alloc: Global) -> Result<SubtypeError, Fail> {
+    let types = built(alloc, 1, LISTS)?;
+    refusal(alloc, &types)
+}
+
 #[test]
 fn frames_lead_from_the_outermost_place_to_the_fault(rt: HostRuntime) -> Result<(), Fail> {
-    let types = built(rt.alloc(), 1, LISTS)?;
-    let (a, b) = (defined(&types, 1)?, defined(&types, 3)?);
-    let error = refusal(rt.alloc(), &types, a, b)?;
+    let error = mismatch(rt.alloc())?;
     assert!(&rt; debugs(&error.frames(), "[ListElement, Option]"));
     assert!(&rt;
         debugs(

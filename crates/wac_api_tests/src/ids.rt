@@ -1,10 +1,11 @@
 //! The ids of entries of two collections.
 
-use super::building::built;
 use super::showing::shows;
 use std::alloc::Global;
 use std::collections::HashSet;
+use std::process::Abort;
 use std::test::Fail;
+use wac_script_entries::built;
 use wac_types::{Type, Types, ValueType};
 
 // An entry of each sort, twice.
@@ -79,16 +80,20 @@ fn are_shown(types: &Types, index: usize, wanted: &str) -> bool {
         && shows(&module, wanted)
 }
 
+fn check_ids<R: Abort>(rt: &R, types: &Types) -> Result<(), Fail> {
+    let Some(id) = types.func_type_at(1) else {
+        return Err(Fail::new("the function isn't there"));
+    };
+    assert!(rt; id.number() == 7 && id.index() == 1);
+    assert!(rt; types.func_type_at(2).is_none());
+    assert!(rt; are_shown(types, 0, "0") && are_shown(types, 1, "1"));
+    Ok(())
+}
+
 #[test]
 fn an_id_has_the_number_of_its_collection_and_an_index_that_is_shown(
     rt: HostRuntime,
 ) -> Result<(), Fail> {
     let types = built(rt.alloc(), 7, TWICE)?;
-    let Some(id) = types.func_type_at(1) else {
-        return Err(Fail::new("the function isn't there"));
-    };
-    assert!(&rt; id.number() == 7 && id.index() == 1);
-    assert!(&rt; types.func_type_at(2).is_none());
-    assert!(&rt; are_shown(&types, 0, "0") && are_shown(&types, 1, "1"));
-    Ok(())
+    check_ids(&rt, &types)
 }

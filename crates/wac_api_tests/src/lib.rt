@@ -3,13 +3,13 @@
 #![tactic(auto)]
 
 #[cfg(test)]
-mod building;
-#[cfg(test)]
 mod checking;
 #[cfg(test)]
 mod collections;
 #[cfg(test)]
 mod errors;
+#[cfg(test)]
+mod finding;
 #[cfg(test)]
 mod first_use;
 #[cfg(test)]
@@ -26,8 +26,6 @@ mod replacing;
 mod replays;
 #[cfg(test)]
 mod reports;
-#[cfg(test)]
-mod scripts;
 #[cfg(test)]
 mod showing;
 #[cfg(test)]

@@ -4,6 +4,7 @@
 use super::showing::{debugs, shows};
 use std::alloc::Global;
 use std::cmp::Ordering;
+use std::process::Abort;
 use std::test::Fail;
 use wac_interners::{Countdown, Numbers};
 use wac_names::version_cmp;
@@ -50,12 +51,12 @@ fn two_maps_of_one_interner_know_nothing_of_each_other(rt: HostRuntime) -> Resul
     Ok(())
 }
 
-fn filled(alloc: Global, cx: &mut Numbers) -> Result<Map, NameError> {
-    let mut map: Map = NameMap::new(alloc);
+// Puts two names, and one of them again.
+fn fill(map: &mut Map, cx: &mut Numbers) -> Result<(), NameError> {
     map.insert("a", cx, false, 1)?;
     map.insert("b", cx, false, 2)?;
     map.insert("a", cx, true, 3)?;
-    Ok(map)
+    Ok(())
 }
 
 // Whether a map has these two entries, in this order.
@@ -67,57 +68,72 @@ fn lists(map: &Map, first: (usize, u32), second: (usize, u32)) -> bool {
     (*a.0, *a.1) == first && (*b.0, *b.1) == second
 }
 
+// Asserts that a clone keeps its values when those of the map are written.
+fn check_clone<R: Abort>(rt: &R, map: &mut Map) -> Result<(), Fail> {
+    let copy = map.clone()?;
+    if let Some(value) = map.raw_get_mut(&1) {
+        *value = 9;
+    }
+    assert!(rt; map.raw_get_mut(&7).is_none());
+    assert!(rt; lists(map, (0, 3), (1, 9)));
+    assert!(rt; lists(&copy, (0, 3), (1, 2)));
+    Ok(())
+}
+
 #[test]
 fn values_are_listed_in_order_written_in_place_and_cloned(rt: HostRuntime) -> Result<(), Fail> {
-    let mut map = filled(rt.alloc(), &mut Numbers::new(rt.alloc()))?;
-    let copy = map.clone()?;
-    match map.raw_get_mut(&1) {
-        Some(value) => *value = 9,
-        None => assert!(&rt; false),
+    let mut map = NameMap::new(rt.alloc());
+    fill(&mut map, &mut Numbers::new(rt.alloc()))?;
+    check_clone(&rt, &mut map)
+}
+
+// Whether the name `b`, which is there, is refused and handed back.
+fn is_handed_back(map: &mut Map, cx: &mut Numbers) -> bool {
+    let answer = map.insert("b", cx, false, 4);
+    match &answer {
+        Ok(_) => false,
+        Err(error) => debugs(&answer, "Err(Twice { name: \"b\" })")
+            && shows(error, "map entry `b` defined twice"),
     }
-    assert!(&rt; map.raw_get_mut(&7).is_none());
-    assert!(&rt; lists(&map, (0, 3), (1, 9)) && lists(&copy, (0, 3), (1, 2)));
-    Ok(())
 }
 
 #[test]
 fn a_name_that_is_there_is_handed_back_in_the_error(rt: HostRuntime) -> Result<(), Fail> {
     let mut cx = Numbers::new(rt.alloc());
-    let mut map = filled(rt.alloc(), &mut cx)?;
-    let answer = map.insert("b", &mut cx, false, 4);
-    assert!(&rt; debugs(&answer, "Err(Twice { name: \"b\" })"));
-    let Err(error) = answer else {
-        return Err(Fail::new("the name is there twice"));
-    };
-    assert!(&rt; shows(&error, "map entry `b` defined twice"));
+    let mut map = NameMap::new(rt.alloc());
+    fill(&mut map, &mut cx)?;
+    assert!(&rt; is_handed_back(&mut map, &mut cx));
     assert_eq!(&rt; value(&map, &cx, "b"), Some(2));
     Ok(())
 }
 
+// Two names, and how their versions are ordered, where they are on one track.
+static ORDERS: [(&str, &str, Option<Ordering>); 15] = [
+    ("a:b/c@1.2.3", "a:b/c@1.2.3", Some(Ordering::Equal)),
+    ("a:b/c@1.9.0", "a:b/c@1.10.0", Some(Ordering::Less)),
+    ("a:b/c@0.2.1", "a:b/c@0.2.0", Some(Ordering::Greater)),
+    // build metadata come last
+    ("a:b/c@1.2.3", "a:b/c@1.2.3+a", Some(Ordering::Less)),
+    ("a:b/c@1.2.3+b", "a:b/c@1.2.3+a", Some(Ordering::Greater)),
+    ("a:b/c@1.2.3+b", "a:b/c@1.2.4+a", Some(Ordering::Less)),
+    // a pre-release has no track
+    ("a:b/c@1.2.3-rc.1", "a:b/c@1.2.3", None),
+    ("a:b/c@1.2.3-rc.1", "a:b/c@1.2.3-rc.1", None),
+    // two tracks
+    ("a:b/c@1.2.3", "a:b/c@2.2.3", None),
+    ("a:b/c@0.1.0", "a:b/c@0.2.0", None),
+    ("a:b/c@1.2.3", "a:b/d@1.2.3", None),
+    // no version, or none that has a track
+    ("a:b/c", "a:b/c", None),
+    ("a:b/c", "a:b/c@1.2.3", None),
+    ("a", "a", None),
+    ("a:b/c@0.0.1", "a:b/c@0.0.1", None),
+];
+
 #[test]
 fn versions_on_one_track_are_ordered(rt: HostRuntime) -> Result<(), Fail> {
-    for (a, b, wanted) in [
-        ("a:b/c@1.2.3", "a:b/c@1.2.3", Some(Ordering::Equal)),
-        ("a:b/c@1.9.0", "a:b/c@1.10.0", Some(Ordering::Less)),
-        ("a:b/c@0.2.1", "a:b/c@0.2.0", Some(Ordering::Greater)),
-        // build metadata come last
-        ("a:b/c@1.2.3", "a:b/c@1.2.3+a", Some(Ordering::Less)),
-        ("a:b/c@1.2.3+b", "a:b/c@1.2.3+a", Some(Ordering::Greater)),
-        ("a:b/c@1.2.3+b", "a:b/c@1.2.4+a", Some(Ordering::Less)),
-        // a pre-release has no track
-        ("a:b/c@1.2.3-rc.1", "a:b/c@1.2.3", None),
-        ("a:b/c@1.2.3-rc.1", "a:b/c@1.2.3-rc.1", None),
-        // two tracks
-        ("a:b/c@1.2.3", "a:b/c@2.2.3", None),
-        ("a:b/c@0.1.0", "a:b/c@0.2.0", None),
-        ("a:b/c@1.2.3", "a:b/d@1.2.3", None),
-        // no version, or none that has a track
-        ("a:b/c", "a:b/c", None),
-        ("a:b/c", "a:b/c@1.2.3", None),
-        ("a", "a", None),
-        ("a:b/c@0.0.1", "a:b/c@0.0.1", None),
-    ] {
-        assert_eq!(&rt; version_cmp(rt.alloc(), a, b)?, wanted, "{a} {b}");
+    for (a, b, wanted) in &ORDERS {
+        assert_eq!(&rt; version_cmp(rt.alloc(), a, b)?, *wanted, "{a} {b}");
     }
     Ok(())
 }

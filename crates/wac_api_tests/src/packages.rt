@@ -1,12 +1,13 @@
 //! What a package and its keys hold and show, hashed, owned and borrowed.
 
-use super::building::{built, world};
+use super::finding::world;
 use super::showing::{debugs, shows};
 use semver::Version;
 use std::alloc::{AllocError, Global};
 use std::collections::HashSet;
 use std::process::Abort;
 use std::test::Fail;
+use wac_script_entries::built;
 use wac_types::{BorrowedKey, BorrowedPackageKey, Package, PackageKey, same_key};
 
 // A world that imports an instance as `in` and exports it as `out`, and exports the type of a world that
@@ -24,9 +25,14 @@ fn package(alloc: Global, version: Option<&Version>) -> Result<Package, Fail> {
     Ok(Package::from_world(alloc, "a:b", version, bytes, &mut types, world)?)
 }
 
+fn package_of_two(alloc: Global) -> Result<Package, Fail> {
+    let two = Version::new(0, 2, 0);
+    package(alloc, Some(&two))
+}
+
 // Whether a package holds what it was made of.
-fn holds(package: &Package, version: &Version) -> bool {
-    let named = package.name() == "a:b" && package.version() == Some(version);
+fn holds(package: &Package) -> bool {
+    let named = package.name() == "a:b" && package.version() == Some(&Version::new(0, 2, 0));
     let ids = package.ty().index() == 1 && package.instance_type().index() == 1;
     let defined = "{\"d\": Type(Interface(InterfaceId { number: 1, index: 0 }))}";
     named
@@ -35,11 +41,18 @@ fn holds(package: &Package, version: &Version) -> bool {
         && debugs(package.definitions(), defined)
 }
 
+fn clone_holds(package: &Package) -> bool {
+    match package.clone() {
+        Ok(copy) => holds(&copy),
+        Err(_) => false,
+    }
+}
+
 #[test]
 fn a_package_holds_what_it_is_made_of_and_its_clone_does(rt: HostRuntime) -> Result<(), Fail> {
-    let two = Version::new(0, 2, 0);
-    let package = package(rt.alloc(), Some(&two))?;
-    assert!(&rt; holds(&package, &two) && holds(&package.clone()?, &two));
+    let package = package_of_two(rt.alloc())?;
+    assert!(&rt; holds(&package));
+    assert!(&rt; clone_holds(&package));
     Ok(())
 }
 
@@ -53,13 +66,19 @@ fn the_bytes_of_a_package_are_not_shown(rt: HostRuntime) -> Result<(), Fail> {
     Ok(())
 }
 
+// Whether both keys of a package are the same.
+fn has_one_key(alloc: Global, package: &Package) -> bool {
+    match PackageKey::new(alloc, package) {
+        Ok(owned) => same_key(&owned, &BorrowedPackageKey::new(package))
+            && package.key() == owned.borrowed_key(),
+        Err(_) => false,
+    }
+}
+
 #[test]
 fn keys_of_a_package_have_its_name_and_version(rt: HostRuntime) -> Result<(), Fail> {
-    let two = Version::new(0, 2, 0);
-    let package = package(rt.alloc(), Some(&two))?;
-    let owned = PackageKey::new(rt.alloc(), &package)?;
-    assert!(&rt; same_key(&owned, &BorrowedPackageKey::new(&package)));
-    assert!(&rt; package.key() == owned.borrowed_key());
+    let package = package_of_two(rt.alloc())?;
+    assert!(&rt; has_one_key(rt.alloc(), &package));
     Ok(())
 }
 
@@ -94,24 +113,30 @@ fn assert_same<R: Abort>(rt: &R, a: &dyn BorrowedKey, b: &dyn BorrowedKey, wante
     assert_eq!(rt; same_key(b, a), wanted);
 }
 
+// Asserts that an owned key is the same as its clone, and whether it is the same as a borrowed key.
+fn compare<R: Abort>(
+    rt: &R,
+    alloc: Global,
+    borrowed: &BorrowedPackageKey,
+    name: &str,
+    version: Option<&Version>,
+    wanted: bool,
+) -> Result<(), Fail> {
+    let owned = key(alloc, name, version)?;
+    assert_same(rt, &owned, borrowed, wanted);
+    assert_same(rt, &owned, &owned.clone()?, true);
+    Ok(())
+}
+
 #[test]
 fn owned_and_borrowed_keys_of_one_name_and_version_are_the_same(
     rt: HostRuntime,
 ) -> Result<(), Fail> {
     let two = Version::new(0, 2, 0);
-    let owned = key(rt.alloc(), "wasi:http", Some(&two))?;
     let borrowed = BorrowedPackageKey::from_name_and_version("wasi:http", Some(&two));
-    let plain = BorrowedPackageKey::from_name_and_version("wasi:http", None);
-    assert_same(&rt, &owned, &borrowed, true);
-    assert_same(&rt, &owned, &owned.clone()?, true);
-    assert_same(&rt, &owned, &plain, false);
-    assert_same(
-        &rt,
-        &borrowed,
-        &key(rt.alloc(), "wasi:io", Some(&two))?,
-        false,
-    );
-    Ok(())
+    compare(&rt, rt.alloc(), &borrowed, "wasi:http", Some(&two), true)?;
+    compare(&rt, rt.alloc(), &borrowed, "wasi:http", None, false)?;
+    compare(&rt, rt.alloc(), &borrowed, "wasi:io", Some(&two), false)
 }
 
 #[test]

@@ -46,10 +46,6 @@ static LINES: [Line; 12] = [
     (&["compatible", "a:b/c@0.2.0"], "", USAGE, 2),
 ];
 
-fn lines() -> &'static [Line] {
-    &LINES
-}
-
 // Runs a command line over writers whose writes of this number fail; whether one did. Then the status is 1,
 // nothing more is written, and what was written is the front of what the line prints.
 fn fails<R: Abort>(rt: &R, alloc: Global, line: &Line, number: u32) -> bool {
@@ -73,7 +69,7 @@ fn fails<R: Abort>(rt: &R, alloc: Global, line: &Line, number: u32) -> bool {
 
 #[test]
 fn each_command_line_has_its_output_and_each_failed_write_ends_it(rt: HostRuntime) {
-    for line in lines() {
+    for line in &LINES {
         let mut failed = 0usize;
         for number in 1..200 {
             if fails(&rt, rt.alloc(), line, number) {

@@ -2,11 +2,12 @@
 
 ghost use Rattle.wac_component.specs.Key.{Stands, defined_key};
 
-use super::building::{built, defined};
+use super::finding::defined;
 use std::alloc::Global;
 use std::process::Abort;
 use std::test::Fail;
 use wac_component::laws::visited_types_stand;
+use wac_script_entries::built;
 use wac_types::{DefinedType, DefinedTypeId, Type, Types, ValueType};
 
 // The index at which a visit was ended.
@@ -68,15 +69,18 @@ const LINES: &str = "def list u8
 def list u8
 def tuple d0 u8 d1 d0";
 
+fn check_visits<R: Abort>(rt: &R, alloc: Global, types: &Types) -> Result<(), Fail> {
+    let tuple = defined(types, 2)?;
+    check_visit(rt, alloc, types, tuple, 9, (&[2, 0, 1, 0], None));
+    check_visit(rt, alloc, types, tuple, 1, (&[2, 0, 1], Some(1)));
+    check_visit(rt, alloc, types, tuple, 2, (&[2], Some(2)));
+    Ok(())
+}
+
 #[test]
 fn the_error_of_a_visitor_ends_the_visit_and_is_its_answer(rt: HostRuntime) -> Result<(), Fail> {
-    let alloc = rt.alloc();
-    let types = built(alloc, 1, LINES)?;
-    let tuple = defined(&types, 2)?;
-    check_visit(&rt, alloc, &types, tuple, 9, (&[2, 0, 1, 0], None));
-    check_visit(&rt, alloc, &types, tuple, 1, (&[2, 0, 1], Some(1)));
-    check_visit(&rt, alloc, &types, tuple, 2, (&[2], Some(2)));
-    Ok(())
+    let types = built(rt.alloc(), 1, LINES)?;
+    check_visits(&rt, rt.alloc(), &types)
 }
 
 #[test]

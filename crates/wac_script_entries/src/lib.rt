@@ -2,6 +2,7 @@
 #![tactic(auto)]
 
 mod adding;
+mod building;
 mod contents;
 mod definitions;
 mod lines;
@@ -10,6 +11,7 @@ mod names;
 mod words;
 
 pub use adding::{Replacement, add, replace};
+pub use building::{add_line, built};
 pub use lines::push_entry;
 pub use names::{
     find_defined, find_entry, find_func, find_interface, find_item, find_module, find_resource,

@@ -1,7 +1,6 @@
 //! Benchmarks of the library: each builds its input, and then measures how long its work takes.
 
 mod benchmark;
-mod building;
 mod error;
 mod instances;
 mod measuring;

@@ -11,8 +11,8 @@ use std::time::Clock;
 
 /// Carries out the words after the program's name, and answers the status.
 ///
-/// Without words the script on `reader` is answered. `check FILE..` checks scripts whose questions have
-/// their answers beside them, and `bench NAME N` prints the line of a benchmark. Any other words give
+/// Without words the script on `reader` is answered. `check FILE..` checks scripts that have answers and
+/// refusals beside their lines, and `bench NAME N` prints the line of a benchmark. Any other words give
 /// the usage line on `err` and the status 2.
 pub fn run<H: Clock + Files + AllocGlobal, R: BufRead + Drop, W: Write, E: Write>(
     rt: &H,

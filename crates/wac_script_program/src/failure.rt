@@ -15,6 +15,8 @@ pub(crate) enum Failure<'a> {
     NoQuestion,
     /// A question has no answer beside it.
     NoAnswer,
+    /// A refusal stands where there is no command, or one that is answered already.
+    NoCommand,
     /// There was no memory, or a read or a write failed.
     Other,
 }
@@ -47,6 +49,7 @@ impl fmt::Display for Failure<'_> {
             Failure::Refused(error) => write!(f, "{error}"),
             Failure::NoQuestion => write!(f, "expected a question before an answer"),
             Failure::NoAnswer => write!(f, "expected an answer after the question"),
+            Failure::NoCommand => write!(f, "expected a command before a refusal"),
             Failure::Other => write!(f, "no memory, or a read or a write failed"),
         }
     }

@@ -4,7 +4,8 @@
 //! # Questions with their answers
 //!
 //! In a script that is checked, each line of the answer stands after its query, after `= `, without the
-//! number of the query:
+//! number of the query. After a line that is to be refused, one line says how, after `! `; it is a question
+//! too, whatever the line asks for:
 //!
 //! ```text
 //! # a component may import less than the target world has
@@ -14,6 +15,9 @@
 //! world -
 //! validate 1 w0 w1
 //! = ok
+//! # a component can't be asked about that isn't there
+//! validate 1 w0 w2
+//! ! there is no entry w2
 //! ```
 #![tactic(auto)]
 

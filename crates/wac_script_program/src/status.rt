@@ -7,11 +7,11 @@ use std::io::Write;
 /// benchmark.
 pub const DONE: u8 = 0;
 
-/// The status where an answer differs from the one beside its question, where there was no memory, and
-/// where a read or a write failed.
+/// The status where an answer or a refusal differs from the one beside its line, where there was no memory,
+/// and where a read or a write failed.
 pub const FAILED: u8 = 1;
 
-/// The status after a line that is malformed, or words that are no command.
+/// The status after a line that is malformed and isn't said to be refused, or words that are no command.
 pub const MALFORMED: u8 = 2;
 
 /// Prints the usage line, and answers the status.

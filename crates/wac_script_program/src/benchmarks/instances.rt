@@ -3,12 +3,15 @@
 ghost use Rattle.std.specs.Prelude.{IsTrue};
 ghost use Rattle.wac_script_program.specs.Asking.{CanBeAsked};
 
-use super::building::{FUNC_LINE, add_line};
 use super::error::BenchError;
 use super::measuring::Work;
 use std::alloc::Global;
 use std::collections::HashSet;
+use wac_script_entries::add_line;
 use wac_types::{ItemKind, SubtypeChecker, Types};
+
+/// A function of a byte, a string and a value of the first defined type.
+pub(crate) const FUNC_LINE: &str = "func sync - a=u8 b=string c=d0";
 
 /// An item and its collection.
 #[derive(Drop)]

@@ -1,9 +1,9 @@
 //! Chains of tuples.
 
-use super::building::add_line;
 use super::error::BenchError;
 use super::instances::{AskAfresh, Side};
 use std::alloc::Global;
+use wac_script_entries::add_line;
 use wac_types::{ItemKind, Types, ValueType};
 
 // A value of the nth tuple, in a collection of this number; where n is 0, of the first.

@@ -1,9 +1,10 @@
 //! A component that fits a target world.
 
-use super::building::{FUNC_LINE, add_line};
 use super::error::BenchError;
+use super::instances::FUNC_LINE;
 use super::measuring::Work;
 use std::alloc::Global;
+use wac_script_entries::add_line;
 use wac_types::{Type, Types, WorldId, validate_target};
 
 /// A target world and the world of a component, in one collection.
@@ -54,7 +55,8 @@ fn add_plain(alloc: Global, types: &mut Types, n: u32) -> Result<(), BenchError>
     let mut world = String::from_str(alloc, "world -")?;
     push_functions(alloc, types, &mut world, "m", n)?;
     push_functions(alloc, types, &mut world, "e", n)?;
-    add_line(alloc, types, &world)
+    add_line(alloc, types, &world)?;
+    Ok(())
 }
 
 // Adds a world of n imports and n exports, all instances, whose names have this version.
@@ -67,7 +69,8 @@ fn add_versioned(
     let mut world = String::from_str(alloc, "world -")?;
     push_instances(alloc, types, &mut world, "m", version, n)?;
     push_instances(alloc, types, &mut world, "e", version, n)?;
-    add_line(alloc, types, &world)
+    add_line(alloc, types, &world)?;
+    Ok(())
 }
 
 impl Worlds {
