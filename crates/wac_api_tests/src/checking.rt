@@ -11,8 +11,7 @@ use std::test::Fail;
 use wac_script_entries::built;
 use wac_types::{ItemKind, PrimitiveType, SubtypeCheck, SubtypeChecker, Types, ValueType, WorldId};
 
-// Why a component that imports more of an instance doesn't fit where one that imports less is asked for, by
-// the direction of the check.
+// Why a component that imports more doesn't fit where one that imports less is asked for, by direction.
 const COVARIANT: &str =
     "mismatched type for import `x` / instance has unexpected function export `g`";
 
@@ -28,8 +27,7 @@ world - m:x=I:i1";
 
 type Cache = HashSet<(ItemKind, ItemKind)>;
 
-// Whether a checker gives this answer of one component where another is asked for: `yes`, or the path to
-// what doesn't fit.
+// Whether a checker answers so of one component where another is asked for: `yes`, or the path of a no.
 fn answers(
     alloc: Global,
     checker: &mut SubtypeChecker,

@@ -1,5 +1,4 @@
-//! Tests of what a script can't ask: the values that calls hand out and take back, what stays over several
-//! calls, and what is written to a writer that fails.
+//! Tests of what a script can't ask: values handed out, what stays over several calls, failing writers.
 #![tactic(auto)]
 
 #[cfg(test)]
