@@ -1,0 +1,86 @@
+-- One copying after another.
+use Rattle.std.proofs.Common.{◌≡◌, ◌<◌, ◌≤◌, ℕ, Option, Some, None, inl, inr, refl, ap, sym, subst, ◌∙◌, arith}
+use Rattle.wac_component.specs.Collection.{Collection}
+use Rattle.wac_component.specs.Growth.{with_entry}
+use Rattle.wac_component.specs.Height.{height}
+use Rattle.wac_component.specs.Key.{Key, Entry}
+use Rattle.wac_names.specs.Class.{class_of}
+use Rattle.wac_narrowing.specs.Entering.{AddsCopy, IsCopiedInto}
+use Rattle.wac_narrowing.specs.Last.{last_key}
+use Rattle.wac_narrowing.specs.Remembers.{RemembersTruly}
+use Rattle.wac_narrowing.specs.Standing.{IsCopy}
+use Rattle.wac_narrowing.specs.State.{State, AddsPair, IsKept, Runs}
+use Rattle.wac_narrowing.proofs.Running.{Runs-refl, Runs-trans}
+use Rattle.wac_copies.specs.Copies.{IsState, MayCopy, moved, Copies}
+use Rattle.wac_copies.specs.Memo.{memo_of}
+use Rattle.wac_copies.specs.declared.memo.Memo.{Memo}
+
+-- the state itself, with its own parts
+pub moved-same : (f c : Collection) (m : Memo) (s : State) → IsState f c m s → moved s c m ≡ s
+moved-same f c m s h = let o = h.own in let k = h.copies in λ i. record s { own = sym o i; copies = sym k i }
+
+module _ (f : Collection) where
+  -- what runs on from a state is one
+  pub IsState-moved : (c d : Collection) (m n : Memo) (s : State) → IsState f c m s → Runs (RemembersTruly class_of) f s (moved s d n) → IsState f d n (moved s d n)
+  IsState-moved c d m n s h run = record { own = refl; copies = refl; kept = run.kept h.kept; truly = run.truly h.kept f (λ e. refl) h.truly }
+
+  pub MayCopy-Copies : (c d : Collection) (m n : Memo) (top : ℕ) (Q : State → Type 0) → MayCopy f c m → Copies f c m d n top Q → MayCopy f d n
+  MayCopy-Copies c d m n top Q may h = record { state = moved may.state d n; is = IsState-moved c d m n may.state may.is (h.runs may.state may.is).0 }
+
+  -- nothing is copied
+  pub Copies-none : (c : Collection) (m : Memo) (top : ℕ) (Q : State → Type 0) → ((s : State) → IsState f c m s → Q s) → Copies f c m c m top Q
+  Copies-none c m top Q q = record {
+    low = λ k h none. none;
+    runs = λ s h. let same = sym (moved-same f c m s h) in (subst (λ t. Runs (RemembersTruly class_of) f s t) same (Runs-refl (RemembersTruly class_of) f s), subst Q same (q s h));
+  }
+
+  -- the same, with another fact, below a greater height
+  pub Copies-more : (c d : Collection) (m n : Memo) (top more : ℕ) (Q P : State → Type 0) → top ≤ more → ((t : State) → IsKept t → Q t → P t) → Copies f c m d n top Q → Copies f c m d n more P
+  Copies-more c d m n top more Q P low p h = record {
+    low = λ k above none. h.low k (omega (arith, low, above)) none;
+    runs = λ s is. let r = h.runs s is in (r.0, p (moved s d n) (r.0.kept is.kept) r.1);
+  }
+
+  -- one after another: a fact that every run keeps stands beside the second
+  pub Copies-then : (c d e : Collection) (m n o : Memo) (top more most : ℕ) (Q P : State → Type 0) → top ≤ most → more ≤ most
+      → ((s t : State) → IsKept s → Runs (RemembersTruly class_of) f s t → Q s → Q t) → Copies f c m d n top Q → Copies f d n e o more P → Copies f c m e o most (λ t. Q t × P t)
+  Copies-then c d e m n o top more most Q P low below stays g h = record {
+    low = λ k above none. h.low k (omega (arith, below, above)) (g.low k (omega (arith, low, above)) none);
+    runs = λ s is.
+        let r = g.runs s is in
+        let u : State = moved s d n in
+        let next = IsState-moved c d m n s is r.0 in
+        let q = h.runs u next in
+        (Runs-trans (RemembersTruly class_of) f s u (moved u e o) r.0 q.0, (stays u (moved u e o) next.kept q.0 r.1, q.1));
+  }
+
+  -- it was copied before
+  pub Copies-hit : (c : Collection) (m : Memo) (theirs own : Key) (top : ℕ) → theirs.id.number ≡ f.number → memo_of m theirs ≡ Some own → Copies f c m c m top (λ t. IsCopy f t.own t.shared theirs own)
+  Copies-hit c m theirs own top number is = Copies-none c m top (λ t. IsCopy f t.own t.shared theirs own)
+      (λ s h. h.truly.copies theirs own ((λ j. h.copies j theirs) ∙ is) number)
+
+  -- once its parts were copied, a copy is added and noted
+  pub Copies-enter : (c d e : Collection) (m n o : Memo) (theirs own : Key) (z : Entry) (low : ℕ) (Q : State → Type 0) → theirs.id.number ≡ f.number → low ≤ height f theirs
+      → Copies f c m d n low Q → e ≡ with_entry d z → own ≡ last_key d z → AddsPair (memo_of n) (memo_of o) theirs own
+      → ((s t : State) → s.own ≡ d → IsKept s → Q s → AddsCopy f s t theirs z → IsCopiedInto class_of f s t theirs (last_key s.own z))
+      → Copies f c m e o (height f theirs) (λ t. IsCopy f t.own t.shared theirs own)
+  Copies-enter c d e m n o theirs own z low Q number below g added last adds enters = record {
+    low = λ k above absent. still_none k (λ same. omega (arith, above, ap (height f) same)) (g.low k (omega (arith, below, above)) absent) (memo_of o k) refl;
+    runs = λ s is.
+        let r = g.runs s is in
+        let u : State = moved s d n in
+        let t : State = moved u e o in
+        let in_to = enters u t refl (r.0.kept is.kept) r.1 record { own = added; shared = refl; imports = refl; taken = refl; number = number; remembers = subst (AddsPair (memo_of n) (memo_of o) theirs) last adds } in
+        (Runs-trans (RemembersTruly class_of) f s u t r.0 in_to.run, subst (λ k. IsCopy f t.own t.shared theirs k) (sym last) in_to.copy);
+  }
+    where
+      still_none : (k : Key) → ¬ (k ≡ theirs) → memo_of n k ≡ None → (x : Option Key) → memo_of o k ≡ x → memo_of o k ≡ None
+      still_none k other absent None at = at
+      still_none k other absent (Some x) at = elim (adds.only k x at) [
+        | inl same ↦ absurd (other same.0)
+        | inr stood ↦ absurd (let both : None ≡ Some x = sym absent ∙ stood in cc)
+      ]
+
+  -- what is to be copied wasn't noted while its parts were
+  pub still_absent : (c d : Collection) (m n : Memo) (theirs : Key) (low : ℕ) (Q : State → Type 0) → low < height f theirs → memo_of m theirs ≡ None → Copies f c m d n low Q → memo_of n theirs ≡ None
+  still_absent c d m n theirs low Q below none g = g.low theirs below none

@@ -1,0 +1,45 @@
+-- What copying does to the state of merging.
+use Rattle.std.specs.Prelude.{◌≡◌, ◌<◌, ℕ, None}
+use Rattle.wac_component.specs.Collection.{Collection, AliasContent, UseContent}
+use Rattle.wac_component.specs.Height.{height}
+use Rattle.wac_component.specs.Key.{Key, AllStand, alias_keys, interface_key}
+use Rattle.wac_component.specs.Tree.{root_name}
+use Rattle.wac_names.specs.Class.{class_of}
+use Rattle.wac_narrowing.specs.Apart.{AreApart}
+use Rattle.wac_narrowing.specs.Remembers.{RemembersTruly}
+use Rattle.wac_narrowing.specs.Standing.{IsCopy}
+use Rattle.wac_narrowing.specs.State.{State, IsKept, Runs}
+use Rattle.wac_copies.specs.Memo.{memo_of}
+use Rattle.wac_copies.specs.declared.memo.Memo.{Memo}
+
+-- a state in order with this collection and these copies, which remembers truly of f
+pub record IsState (f c : Collection) (m : Memo) (s : State) : Type 0 where
+  pub own : s.own ≡ c
+  pub copies : s.copies ≡ memo_of m
+  pub kept : IsKept s
+  pub truly : RemembersTruly class_of f s
+
+-- entries of f may be copied into c: there is such a state
+pub record MayCopy (f c : Collection) (m : Memo) : Type 0 where
+  pub state : State
+  pub is : IsState f c m state
+
+-- the state with another own collection, and other copies
+abbrev pub moved : State → Collection → Memo → State
+moved s d n = record s { own = d; copies = memo_of n }
+
+-- what copying from f does to the own collection and to what was copied: each state runs on to one of which the fact holds, and no id above the height is noted
+pub record Copies (f c : Collection) (m : Memo) (d : Collection) (n : Memo) (top : ℕ) (Holds : State → Type 0) : Type 0 where
+  pub low : (k : Key) → top < height f k → memo_of m k ≡ None → memo_of n k ≡ None
+  pub runs : (s : State) → IsState f c m s → Runs (RemembersTruly class_of) f s (moved s d n) × Holds (moved s d n)
+
+-- the own alias names copies of what the foreign one names
+pub record IsCopiedAlias (f : Collection) (s : State) (a b : AliasContent) : Type 0 where
+  pub stand : AllStand s.own (alias_keys b)
+  pub apart : AreApart s.own s.shared (alias_keys b)
+  pub source : root_name s.own b.source ≡ root_name f a.source
+
+-- the own use is of a copy, under the same name
+pub record IsCopiedUse (f : Collection) (s : State) (u v : UseContent) : Type 0 where
+  pub name : v.name ≡ u.name
+  pub interface : IsCopy f s.own s.shared (interface_key u.interface) (interface_key v.interface)

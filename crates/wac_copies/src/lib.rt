@@ -1,0 +1,10 @@
+//! Copies of the entries of one collection in another: what stands below an import of a component,
+//! which no place elsewhere names.
+#![tactic(auto)]
+
+mod copies;
+mod memo;
+mod places;
+
+pub use copies::{copy_externs, copy_item};
+pub use memo::Memo;
