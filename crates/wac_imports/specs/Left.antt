@@ -1,0 +1,11 @@
+-- What an iterator over imports has left.
+use Rattle.std.specs.Prelude.{List, map}
+use Rattle.wac_imports.specs.Import.{ImportsContent, ImportContent}
+use Rattle.wac_imports.specs.declared.imports.Imports.{Imports}
+
+abbrev pub imports_left : Imports → List ImportContent
+imports_left it = map (λ e. e.1) it.imports
+
+-- the imports, each with its name
+abbrev pub listed : ImportsContent → List ImportContent
+listed is = map (λ e. e.1) is.list
