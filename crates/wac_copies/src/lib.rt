@@ -4,7 +4,7 @@
 
 mod copies;
 mod memo;
-mod places;
+pub mod places;
 
 pub use copies::{copy_externs, copy_item};
 pub use memo::Memo;

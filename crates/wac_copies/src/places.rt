@@ -10,7 +10,7 @@ use indexmap::IndexMap;
 use wac_component::{InterfaceId, ItemKind, UsedType, ValueType};
 
 /// The value type at an index of a list.
-pub(crate) fn value_at(values: &Vec<ValueType>, index: usize) -> ValueType
+pub fn value_at(values: &Vec<ValueType>, index: usize) -> ValueType
     requires { index < length values.now.items }
     ensures { slice_get values.now.items index ≡ Some result }
 {
@@ -18,7 +18,7 @@ pub(crate) fn value_at(values: &Vec<ValueType>, index: usize) -> ValueType
 }
 
 /// Puts a value type in the place of the one at an index of a list.
-pub(crate) fn set_value(values: &mut Vec<ValueType>, index: usize, value: ValueType)
+pub fn set_value(values: &mut Vec<ValueType>, index: usize, value: ValueType)
     requires { index < length values.old.items }
     ensures { values.new.items ≡ slice_set values.old.items index value }
 {
@@ -26,7 +26,7 @@ pub(crate) fn set_value(values: &mut Vec<ValueType>, index: usize, value: ValueT
 }
 
 /// The item at an index.
-pub(crate) fn extern_at(map: &IndexMap<String, ItemKind>, index: usize) -> ItemKind
+pub fn extern_at(map: &IndexMap<String, ItemKind>, index: usize) -> ItemKind
     requires { index < length map.now.entries }
     ensures { slice_get (types_of map.now.entries) index ≡ Some result }
 {
@@ -35,7 +35,7 @@ pub(crate) fn extern_at(map: &IndexMap<String, ItemKind>, index: usize) -> ItemK
 }
 
 /// Puts an item in the place of the one at an index.
-pub(crate) fn set_extern(map: &mut IndexMap<String, ItemKind>, index: usize, value: ItemKind)
+pub fn set_extern(map: &mut IndexMap<String, ItemKind>, index: usize, value: ItemKind)
     requires { index < length map.old.entries }
     ensures { map.new.entries ≡ set_value_at map.old.entries index value }
 {
@@ -43,7 +43,7 @@ pub(crate) fn set_extern(map: &mut IndexMap<String, ItemKind>, index: usize, val
 }
 
 /// The value type at an index.
-pub(crate) fn field_at(map: &IndexMap<String, ValueType>, index: usize) -> ValueType
+pub fn field_at(map: &IndexMap<String, ValueType>, index: usize) -> ValueType
     requires { index < length map.now.entries }
     ensures { slice_get (types_of map.now.entries) index ≡ Some result }
 {
@@ -52,7 +52,7 @@ pub(crate) fn field_at(map: &IndexMap<String, ValueType>, index: usize) -> Value
 }
 
 /// Puts a value type in the place of the one at an index.
-pub(crate) fn set_field(map: &mut IndexMap<String, ValueType>, index: usize, value: ValueType)
+pub fn set_field(map: &mut IndexMap<String, ValueType>, index: usize, value: ValueType)
     requires { index < length map.old.entries }
     ensures { map.new.entries ≡ set_value_at map.old.entries index value }
 {
@@ -60,7 +60,7 @@ pub(crate) fn set_field(map: &mut IndexMap<String, ValueType>, index: usize, val
 }
 
 /// The type, if there is one, of the case at an index.
-pub(crate) fn case_at(map: &IndexMap<String, Option<ValueType>>, index: usize) -> Option<ValueType>
+pub fn case_at(map: &IndexMap<String, Option<ValueType>>, index: usize) -> Option<ValueType>
     requires { index < length map.now.entries }
     ensures { slice_get (types_of map.now.entries) index ≡ Some result }
 {
@@ -69,7 +69,7 @@ pub(crate) fn case_at(map: &IndexMap<String, Option<ValueType>>, index: usize) -
 }
 
 /// Puts a type, or none, in the place of that of the case at an index.
-pub(crate) fn set_case(
+pub fn set_case(
     map: &mut IndexMap<String, Option<ValueType>>,
     index: usize,
     value: Option<ValueType>,
@@ -81,7 +81,7 @@ pub(crate) fn set_case(
 }
 
 /// The interface that a type is used from, at an index.
-pub(crate) fn used_at(uses: &IndexMap<String, UsedType>, index: usize) -> InterfaceId
+pub fn used_at(uses: &IndexMap<String, UsedType>, index: usize) -> InterfaceId
     requires { index < length uses.now.entries }
     ensures { option_map (λ u. u.interface) (slice_get (types_of uses.now.entries) index) ≡ Some result }
 {
@@ -90,7 +90,7 @@ pub(crate) fn used_at(uses: &IndexMap<String, UsedType>, index: usize) -> Interf
 }
 
 /// Lets a type at an index be used from another interface.
-pub(crate) fn set_used(uses: &mut IndexMap<String, UsedType>, index: usize, interface: InterfaceId)
+pub fn set_used(uses: &mut IndexMap<String, UsedType>, index: usize, interface: InterfaceId)
     requires { index < length uses.old.entries }
     ensures { (u : UsedType) → slice_get (types_of uses.old.entries) index ≡ Some u → uses.new.entries ≡ set_value_at uses.old.entries index (record u { interface = interface }) }
 {

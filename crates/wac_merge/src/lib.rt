@@ -13,3 +13,4 @@ mod order;
 mod wrap;
 
 pub use bounds::{join, meet};
+pub use names::{extern_named, put_extern};

@@ -12,15 +12,15 @@ use std::alloc::AllocError;
 use wac_component::ItemKind;
 use wac_core_merge::add_new;
 
-// The item of a name.
-pub(crate) fn extern_named(externs: &IndexMap<String, ItemKind>, name: &String) -> Option<ItemKind>
+/// The item of a name, if there is one.
+pub fn extern_named(externs: &IndexMap<String, ItemKind>, name: &String) -> Option<ItemKind>
     ensures { result ≡ lookup bytes_eq (extern_list externs.now) (string_bytes name.now) }
 {
     externs.get(name).copied()
 }
 
-// Puts an item under a name.
-pub(crate) fn put_extern(
+/// Puts an item under a name: in the place of the one that stands there, else last.
+pub fn put_extern(
     externs: &mut IndexMap<String, ItemKind>,
     name: &String,
     kind: ItemKind,

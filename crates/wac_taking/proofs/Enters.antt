@@ -1,0 +1,105 @@
+-- Entries all of whose parts were taken in: what they name stands, and they enter.
+use Rattle.std.proofs.Common.{◌≡◌, List, ◌∷◌, Option, Some, None, slice_get, refl, ap, sym, subst}
+use Rattle.wac_model.specs.Text.{Text}
+use Rattle.wac_model.specs.CoreTree.{ModuleTree}
+use Rattle.wac_component.specs.Id.{Id}
+use Rattle.wac_component.specs.Collection.{Collection, DefinedContent, ResourceContent, AliasContent, FuncContent, UseContent, InterfaceContent, WorldContent}
+use Rattle.wac_component.specs.Key.{Key, Entry, entry_at, Stands, AllStand, other_keys, defined_entry, resource_entry, func_entry, world_entry, module_entry, defined_key, resource_key, func_key, interface_key, world_key, module_key, defined_keys, func_keys, world_keys, alias_keys, optional_keys, named_keys, use_keys}
+use Rattle.wac_component.specs.Sound.{IsSound}
+use Rattle.wac_component.specs.Tree.{root_name}
+use Rattle.wac_component.specs.declared.items.ItemKind.{ItemKind}
+use Rattle.wac_component.proofs.Reading.{defined_at, resource_at, func_at}
+use Rattle.wac_merge.proofs.ReadLemmas.{module_at}
+use Rattle.wac_names.specs.Class.{class_of}
+use Rattle.wac_narrowing.specs.Entering.{AddsEntry, IsEntered, InterfaceIsTaken, WorldIsTaken}
+use Rattle.wac_narrowing.specs.Identified.{used_names}
+use Rattle.wac_narrowing.specs.Last.{last_key}
+use Rattle.wac_narrowing.specs.Leaves.{SaysSame, same_func, same_defined, same_resource, same_module}
+use Rattle.wac_narrowing.specs.State.{State, IsKept}
+use Rattle.wac_narrowing.specs.Taking.{AreMapped, none, one, AreTakenKeys, no_keys, one_key, IsTakenItem, IsCopiedItem}
+use Rattle.wac_narrowing.specs.Values.{IsTakenValue, SameValue, IfAny, neither, both, AreFuncs, AreDefined}
+use Rattle.wac_narrowing.proofs.Entering.{world_named as world_names, world_enters as world_goes}
+use Rattle.wac_narrowing.proofs.EnteringLeaves.{leaf_enters}
+use Rattle.wac_narrowing.proofs.Mapped.{taken_each, taken_named}
+use Rattle.wac_narrowing.proofs.Values.{funcs_more, defined_more, each_func, each_defined, func_parts, defined_parts}
+use Rattle.wac_taking.specs.Takes.{IsTakenAlias, IsTakenUse}
+
+module _ (f : Collection) (s : State) where
+  -- what is named stands
+
+  pub defined_stands : (x z : DefinedContent) → AreDefined (IsTakenValue class_of f s) x z → AllStand s.own (defined_keys z)
+  defined_stands x z h = each_defined (IsTakenValue class_of f s) (Stands s.own) (λ v w c. c.stands) x z h
+
+  pub func_stands : (x z : FuncContent) → AreFuncs (IsTakenValue class_of f s) x z → AllStand s.own (func_keys z)
+  func_stands x z h = each_func (IsTakenValue class_of f s) (Stands s.own) (λ v w c. c.stands) x z h
+
+  alias_parts : (x y : Option AliasContent) → IfAny (IsTakenAlias f s) x y → AreTakenKeys class_of f s (optional_keys alias_keys x) (optional_keys alias_keys y)
+  alias_parts x y neither = no_keys
+  alias_parts x y (both c) = c.keys
+
+  alias_roots : (x y : Option AliasContent) → IfAny (IsTakenAlias f s) x y → IfAny (λ a b. root_name s.own b.source ≡ root_name f a.source) x y
+  alias_roots x y neither = neither
+  alias_roots x y (both {x = a} {y = b} c) = both c.source
+
+  pub alias_stands : (x y : Option AliasContent) → IfAny (IsTakenAlias f s) x y → AllStand s.own (optional_keys alias_keys y)
+  alias_stands x y h = taken_each class_of f s (Stands s.own) (λ i j k. k.remembered.stands_for.own_stands) (optional_keys alias_keys x) (optional_keys alias_keys y) (alias_parts x y h)
+
+  -- what is used
+
+  use_parts : (us vs : List (Text × UseContent)) → AreMapped (IsTakenUse f s) us vs → AreTakenKeys class_of f s (named_keys use_keys us) (named_keys use_keys vs)
+  use_parts us vs m = taken_named class_of f s (IsTakenUse f s) use_keys use_keys (λ u v c. one_key c.interface no_keys) us vs m
+
+  same_names : (us vs : List (Text × UseContent)) → AreMapped (IsTakenUse f s) us vs → used_names vs ≡ used_names us
+  same_names us vs none = refl
+  same_names us vs (one {n = n} {xs = xs} {ys = ys} h m) = ap (λ ns. n ∷ ns) (same_names xs ys m)
+
+  module _ (sound : IsSound f) where
+    pub interface_is_taken : (p : Id) (x : InterfaceContent) (us : List (Text × UseContent)) (es : List (Text × ItemKind)) → Stands f (interface_key p) → slice_get f.interfaces p.index ≡ Some x → AreMapped (IsTakenUse f s) x.uses us → AreMapped (IsTakenItem class_of f s) x.exports es
+        → InterfaceIsTaken class_of f s p x (record { id = None; uses = us; exports = es })
+    interface_is_taken p x us es st at used exported = record {
+      sound = sound;
+      stands = st;
+      entry = at;
+      names = same_names x.uses us used;
+      uses = use_parts x.uses us used;
+      exports = exported;
+    }
+
+    pub world_is_taken : (p : Id) (x z : WorldContent) → Stands f (world_key p) → slice_get f.worlds p.index ≡ Some x → AreMapped (IsTakenUse f s) x.uses z.uses → AreMapped (IsCopiedItem f s) x.imports z.imports → AreMapped (IsTakenItem class_of f s) x.exports z.exports → WorldIsTaken class_of f s p x z
+    world_is_taken p x z st at used imported exported = record {
+      sound = sound;
+      stands = st;
+      entry = at;
+      names = same_names x.uses z.uses used;
+      uses = use_parts x.uses z.uses used;
+      imports = imported;
+      exports = exported;
+    }
+
+    pub world_stands : IsKept s → (p : Id) (x z : WorldContent) → WorldIsTaken class_of f s p x z → AllStand s.own (world_keys z)
+    world_stands kept p x z h = world_names class_of f s kept p x z h
+
+    -- entries enter
+
+    module _ (kept : IsKept s) (t : State) where
+      leaf : (theirs : Key) (x z : Entry) → Stands f theirs → entry_at f theirs ≡ Some x → SaysSame f s.own theirs z → AreTakenKeys class_of f s (other_keys x) (other_keys z) → AddsEntry f s t theirs z → t.shared ≡ s.shared → IsEntered class_of f s t theirs (last_key s.own z)
+      leaf theirs x z st at says parts adds same =
+          leaf_enters class_of f s kept sound theirs z st says t (subst (λ ks. AreTakenKeys class_of f s ks (other_keys z)) (sym (ap (optional_keys other_keys) at)) parts) adds same
+
+      pub defined_enters : (p : Id) (x z : DefinedContent) → Stands f (defined_key p) → slice_get f.defined p.index ≡ Some x → AreDefined (IsTakenValue class_of f s) x z → AddsEntry f s t (defined_key p) (defined_entry z) → t.shared ≡ s.shared → IsEntered class_of f s t (defined_key p) (last_key s.own (defined_entry z))
+      defined_enters p x z st at h adds same =
+          leaf (defined_key p) (defined_entry x) (defined_entry z) st (defined_at f p x at) (same_defined at (defined_more (IsTakenValue class_of f s) (SameValue f s.own) (λ v w c. c.same) x z h)) (defined_parts class_of f s x z h) adds same
+
+      pub func_enters : (p : Id) (x z : FuncContent) → Stands f (func_key p) → slice_get f.funcs p.index ≡ Some x → AreFuncs (IsTakenValue class_of f s) x z → AddsEntry f s t (func_key p) (func_entry z) → t.shared ≡ s.shared → IsEntered class_of f s t (func_key p) (last_key s.own (func_entry z))
+      func_enters p x z st at h adds same =
+          leaf (func_key p) (func_entry x) (func_entry z) st (func_at f p x at) (same_func at (funcs_more (IsTakenValue class_of f s) (SameValue f s.own) (λ v w c. c.same) x z h)) (func_parts class_of f s x z h) adds same
+
+      pub resource_enters : (p : Id) (x z : ResourceContent) → Stands f (resource_key p) → slice_get f.resources p.index ≡ Some x → z.name ≡ x.name → IfAny (IsTakenAlias f s) x.alias z.alias → AddsEntry f s t (resource_key p) (resource_entry z) → t.shared ≡ s.shared → IsEntered class_of f s t (resource_key p) (last_key s.own (resource_entry z))
+      resource_enters p x z st at name h adds same =
+          leaf (resource_key p) (resource_entry x) (resource_entry z) st (resource_at f p x at) (same_resource at (record { name = name; alias = alias_roots x.alias z.alias h })) (alias_parts x.alias z.alias h) adds same
+
+      pub module_enters : (p : Id) (x : ModuleTree) → Stands f (module_key p) → slice_get f.modules p.index ≡ Some x → AddsEntry f s t (module_key p) (module_entry x) → t.shared ≡ s.shared → IsEntered class_of f s t (module_key p) (last_key s.own (module_entry x))
+      module_enters p x st at adds same = leaf (module_key p) (module_entry x) (module_entry x) st (module_at f p x at) (same_module at) no_keys adds same
+
+      pub world_enters : (p : Id) (x z : WorldContent) → WorldIsTaken class_of f s p x z → AddsEntry f s t (world_key p) (world_entry z) → t.shared ≡ s.shared → IsEntered class_of f s t (world_key p) (last_key s.own (world_entry z))
+      world_enters p x z h adds same = world_goes class_of f s kept p x z h t adds same

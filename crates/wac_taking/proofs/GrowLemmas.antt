@@ -1,0 +1,183 @@
+-- Exports that are met one by one, and the shared entry that grows by them.
+use Rattle.std.proofs.Common.{◌≡◌, ◌++◌, Bool, true, false, cond, filter, List, [], ◌∷◌, map, Option, Some, None, String, Global, refl, ap, sym, subst, ◌∙◌}
+use Rattle.std.proofs.lemmas.Slice.Eq.{bytes_eq-Decides}
+use Rattle.std.proofs.lemmas.Map.Iter.{rest_so_far, rest_more}
+use Rattle.std.specs.Iterator.{Yields}
+use Rattle.std.specs.Map.{lookup as lookup_by}
+use Rattle.std.specs.Map.Iter.{TakesFirst}
+use Rattle.std.specs.Option.{option_or}
+use Rattle.std.specs.Str.{bytes_eq}
+use Rattle.indexmap.specs.IndexMap.{insert_entry}
+use Rattle.wac_model.specs.Text.{Text, lookup}
+use Rattle.wac_model.specs.CoreTree.{Serves}
+use Rattle.wac_model.specs.Order.{Fits}
+use Rattle.wac_model.proofs.ItemOrder.{Fits-refl}
+use Rattle.wac_component.specs.Collection.{Collection}
+use Rattle.wac_component.specs.Content.{named, use_content}
+use Rattle.wac_component.specs.Key.{Key, Each, Stands, AllStand, item_keys, named_keys, use_keys, interface_key}
+use Rattle.wac_component.specs.Sound.{IsSound}
+use Rattle.wac_component.specs.Tree.{item_tree}
+use Rattle.wac_component.specs.declared.interfaces.UsedType.{UsedType}
+use Rattle.wac_component.specs.declared.items.ItemKind.{ItemKind}
+use Rattle.wac_component.proofs.Among.{each_found}
+use Rattle.wac_component.proofs.Extended.{Extends-refl, Extends-trans, AllStand-Extends}
+use Rattle.wac_component.proofs.Keys.{Each-left, Each-right, Each-append}
+use Rattle.wac_checker.specs.Externs.{AreServed}
+use Rattle.wac_core_merge.proofs.NameLemmas.{lookup-append}
+use Rattle.wac_merge.specs.Built.{Origins, OnlyBuilds, IsBuilt}
+use Rattle.wac_merge.specs.Items.{Externs, extern_keys}
+use Rattle.wac_merge.proofs.PutLemmas.{lookup-insert_entry}
+use Rattle.wac_narrowing.specs.Apart.{IsGood}
+use Rattle.wac_narrowing.specs.Identified.{IsCovered}
+use Rattle.wac_narrowing.proofs.Building.{built_covered}
+use Rattle.wac_narrowing.proofs.Contents.{served_same}
+use Rattle.wac_narrowing.proofs.Mapped.{AreServed-trans}
+use Rattle.wac_narrowing.proofs.Steps.{IsStep-refl, IsStep-trans, building_steps}
+use Rattle.wac_taking.specs.Growing.{StepsOn, IsMetWith, AreMetWith}
+
+-- ---- collections that are only added to
+
+pub StepsOn-refl : (c : Collection) → StepsOn c c
+StepsOn-refl c = record { grows = Extends-refl c; steps = λ ss g. IsStep-refl c ss g }
+
+pub StepsOn-trans : (c d e : Collection) → StepsOn c d → StepsOn d e → StepsOn c e
+StepsOn-trans c d e g h = record { grows = Extends-trans c d e g.grows h.grows; steps = λ ss k. IsStep-trans c d e ss ss ss (g.steps ss k) (h.steps ss (g.steps ss k).good) }
+
+module _ (c d : Collection) (on : StepsOn c d) where
+  -- what openly led to shared interfaces alone does so still
+  pub covered_on : (ss : List Key) → IsGood c ss → (ks : List Key) → AllStand c ks → Each (IsCovered c ss) ks → Each (IsCovered d ss) ks
+  covered_on ss good [] st h = tt
+  covered_on ss good (k ∷ ks) st h = ((on.steps ss good).stops.covered k st.0 h.0, covered_on ss good ks st.1 h.1)
+
+  -- what is asked for has the tree that it had
+  pub served_on : (b : Collection) (es ts : Externs) → AllStand c (extern_keys ts) → AreServed b c es ts → AreServed b d es ts
+  served_on b es ts st h n = at (lookup bytes_eq es n) (lookup bytes_eq ts n) (λ y is. on.grows.trees y (each_found (Stands c) ts n y is st)) (h n)
+    where
+      at : (o q : Option ItemKind) → ((y : ItemKind) → q ≡ Some y → item_tree d y ≡ item_tree c y) → Serves (λ x y. Fits (item_tree b x) (item_tree c y)) o q → Serves (λ x y. Fits (item_tree b x) (item_tree d y)) o q
+      at o None same g = tt
+      at None (Some y) same g = absurd g
+      at (Some x) (Some y) same g = subst (λ t. Fits (item_tree b x) t) (sym (same y refl)) g
+
+  pub served_from : (b : Collection) (es ts : Externs) → AllStand c (extern_keys ts) → AreServed b d es ts → AreServed b c es ts
+  served_from b es ts st h n = at (lookup bytes_eq es n) (lookup bytes_eq ts n) (λ y is. on.grows.trees y (each_found (Stands c) ts n y is st)) (h n)
+    where
+      at : (o q : Option ItemKind) → ((y : ItemKind) → q ≡ Some y → item_tree d y ≡ item_tree c y) → Serves (λ x y. Fits (item_tree b x) (item_tree d y)) o q → Serves (λ x y. Fits (item_tree b x) (item_tree c y)) o q
+      at o None same g = tt
+      at None (Some y) same g = absurd g
+      at (Some x) (Some y) same g = subst (λ t. Fits (item_tree b x) t) (same y refl) g
+
+-- names of two lists are served where those of each are
+pub served_append : (c d : Collection) (es xs ys : Externs) → AreServed c d es xs → AreServed c d es ys → AreServed c d es (xs ++ ys)
+served_append c d es xs ys h g n = rw (lookup-append bytes_eq xs ys n) (at (lookup bytes_eq xs n) (h n))
+  where
+    at : (o : Option ItemKind) → Serves (λ x y. Fits (item_tree c x) (item_tree d y)) (lookup bytes_eq es n) o → Serves (λ x y. Fits (item_tree c x) (item_tree d y)) (lookup bytes_eq es n) (option_or o (lookup bytes_eq ys n))
+    at None k = g n
+    at (Some y) k = k
+
+-- ---- what is named
+
+module _ (P : Key → Type 0) where
+  -- ids in the first of two lists of items, and in the second
+  pub first_externs : (xs ys : Externs) → Each P (extern_keys (xs ++ ys)) → Each P (extern_keys xs)
+  first_externs [] ys h = tt
+  first_externs (x ∷ xs) ys h = Each-append P (item_keys x.1) (extern_keys xs) (Each-left P (item_keys x.1) (extern_keys (xs ++ ys)) h) (first_externs xs ys (Each-right P (item_keys x.1) (extern_keys (xs ++ ys)) h))
+
+  pub last_externs : (xs ys : Externs) → Each P (extern_keys (xs ++ ys)) → Each P (extern_keys ys)
+  last_externs [] ys h = h
+  last_externs (x ∷ xs) ys h = last_externs xs ys (Each-right P (item_keys x.1) (extern_keys (xs ++ ys)) h)
+
+  -- after an item is put under a name
+  pub each_put : (es : Externs) (n : Text) (m : ItemKind) → Each P (extern_keys es) → Each P (item_keys m) → Each P (extern_keys (insert_entry bytes_eq es n m))
+  each_put [] n m h p = Each-append P (item_keys m) [] p tt
+  each_put (e ∷ es) n m h p = at (bytes_eq n e.0) (each_put es n m (Each-right P (item_keys e.1) (extern_keys es) h) p)
+    where
+      at : (b : Bool) → Each P (extern_keys (insert_entry bytes_eq es n m)) → Each P (extern_keys (cond b ((e.0, m) ∷ es) (e ∷ insert_entry bytes_eq es n m)))
+      at true g = Each-append P (item_keys m) (extern_keys es) p (Each-right P (item_keys e.1) (extern_keys es) h)
+      at false g = Each-append P (item_keys e.1) (extern_keys (insert_entry bytes_eq es n m)) (Each-left P (item_keys e.1) (extern_keys es) h) g
+
+  -- after some of other uses are put last
+  pub each_used : (p : String Global × UsedType → Bool) (us vs : List (String Global × UsedType)) → Each P (named_keys use_keys (named use_content us)) → Each P (named_keys use_keys (named use_content vs)) → Each P (named_keys use_keys (named use_content (us ++ filter p vs)))
+  each_used p [] [] h g = tt
+  each_used p [] (v ∷ vs) h g = at (p v) (each_used p [] vs tt g.1)
+    where
+      at : (b : Bool) → Each P (named_keys use_keys (named use_content (filter p vs))) → Each P (named_keys use_keys (named use_content (cond b (v ∷ filter p vs) (filter p vs))))
+      at true k = (g.0, k)
+      at false k = k
+  each_used p (u ∷ us) vs h g = (h.0, each_used p us vs h.1 g)
+
+  -- what is used under a name, and what a `for` over uses yields
+  pub each_looked : (test : String Global → Bool) (us : List (String Global × UsedType)) (u : UsedType) → lookup_by test us ≡ Some u → Each P (named_keys use_keys (named use_content us)) → P (interface_key u.interface)
+  each_looked test [] u is h = absurd (cc)
+  each_looked test (e ∷ us) u is h = at (test e.0) (each_looked test us u) is
+    where
+      at : (b : Bool) → (lookup_by test us ≡ Some u → Each P (named_keys use_keys (named use_content us)) → P (interface_key u.interface)) → cond b (Some e.1) (lookup_by test us) ≡ Some u → P (interface_key u.interface)
+      at true rest k = let same : e.1 ≡ u = cc in subst (λ v. P (interface_key v.interface)) same h.0
+      at false rest k = rest k h.1
+
+  pub each_yielded : {A : Type 0} (shows : A → String Global × UsedType) (all : List (String Global × UsedType)) (ys : List A) (s t u : List (String Global × UsedType)) (r : Option A) (x : A)
+      → s ≡ all → Yields (TakesFirst shows) s ys t → r ≡ Some x → TakesFirst shows t r u → Each P (named_keys use_keys (named use_content all)) → P (interface_key (shows x).1.interface)
+  each_yielded {A} shows all ys s t u r x start y is step h =
+      later (map shows ys) (shows x) u (subst (λ l. Each P (named_keys use_keys (named use_content l))) (sym start ∙ rest_so_far shows ys s t y ∙ ap (λ l. map shows ys ++ l) (rest_more shows t u r x is step)) h)
+    where
+      later : (vs : List (String Global × UsedType)) (e : String Global × UsedType) (us : List (String Global × UsedType)) → Each P (named_keys use_keys (named use_content (vs ++ e ∷ us))) → P (interface_key e.1.interface)
+      later [] e us k = k.0
+      later (v ∷ vs) e us k = later vs e us k.1
+
+-- ---- meets
+
+-- of two items, what was built of them
+pub built_met : (c d : Collection) (o : Origins) (a b m : ItemKind) → IsSound c → IsSound d → OnlyBuilds c d o → IsBuilt c d o a b m → AllStand c (item_keys a) → AllStand c (item_keys b) → AllStand d (item_keys m)
+    → Fits (item_tree d m) (item_tree c a) → Fits (item_tree d m) (item_tree c b) → IsMetWith c d a b m
+built_met c d o a b m sound sound_too only built sa sb sm fa fb = record {
+  on = record { grows = only.extends; steps = λ ss g. building_steps c d ss o g sound_too only };
+  stands = sm;
+  fits_first = fa;
+  fits_second = fb;
+  covered = λ ss g ha hb. built_covered c d o sound only sound_too ss a b m built sa sb ha hb;
+}
+
+-- of exports with no others, with one, and with one more
+pub met_none : (c : Collection) (es : Externs) → AllStand c (extern_keys es) → AreMetWith c c es [] es
+met_none c es st = record {
+  on = StepsOn-refl c;
+  stand = st;
+  serve_first = served_same c c es (λ n y is. Fits-refl (item_tree c y));
+  serve_second = λ n. tt;
+  covered = λ ss g h k. h;
+}
+
+pub met_put : (c d : Collection) (es ms : Externs) (n : Text) (a m : ItemKind) → StepsOn c d → AllStand c (extern_keys es) → AllStand d (item_keys m) → Fits (item_tree d m) (item_tree c a)
+    → ((b : ItemKind) → lookup bytes_eq es n ≡ Some b → Fits (item_tree d m) (item_tree c b))
+    → ((ss : List Key) → IsGood c ss → Each (IsCovered c ss) (extern_keys es) → Each (IsCovered c ss) (item_keys a) → Each (IsCovered d ss) (item_keys m))
+    → ms ≡ insert_entry bytes_eq es n m → AreMetWith c d es ((n, a) ∷ []) ms
+met_put c d es ms n a m on st sm fits before covers put = record {
+  on = on;
+  stand = rw put (each_put (Stands d) es n m (AllStand-Extends c d on.grows (extern_keys es) st) sm);
+  serve_first = λ q. rw (found q) (first q (bytes_eq q n) refl (lookup bytes_eq es q) refl);
+  serve_second = λ q. rw (found q) (second (bytes_eq q n) (lookup bytes_eq es q));
+  covered = λ ss g h k. rw put (each_put (IsCovered d ss) es n m (covered_on c d on ss g (extern_keys es) st h) (covers ss g h (Each-left (IsCovered c ss) (item_keys a) [] k)));
+}
+  where
+    found : (q : Text) → lookup bytes_eq ms q ≡ cond (bytes_eq q n) (Some m) (lookup bytes_eq es q)
+    found q = ap (λ l. lookup bytes_eq l q) put ∙ lookup-insert_entry es n m q
+
+    first : (q : Text) (b : Bool) → bytes_eq q n ≡ b → (o : Option ItemKind) → lookup bytes_eq es q ≡ o → Serves (λ x y. Fits (item_tree d x) (item_tree c y)) (cond b (Some m) o) o
+    first q true e None is = tt
+    first q true e (Some y) is = before y (subst (λ r. lookup bytes_eq es r ≡ Some y) ((bytes_eq-Decides q n).0 e) is)
+    first q false e None is = tt
+    first q false e (Some y) is = subst (λ t. Fits t (item_tree c y)) (sym (on.grows.trees y (each_found (Stands c) es q y is st))) (Fits-refl (item_tree c y))
+
+    second : (b : Bool) (o : Option ItemKind) → Serves (λ x y. Fits (item_tree d x) (item_tree c y)) (cond b (Some m) o) (cond b (Some a) None)
+    second true o = fits
+    second false o = tt
+
+pub met_then : (c d e : Collection) (es xs ms ns : Externs) (n : Text) (a : ItemKind) → AllStand c (extern_keys es) → AllStand c (item_keys a) → AreMetWith c d es xs ms → AreMetWith d e ms ((n, a) ∷ []) ns → AreMetWith c e es (xs ++ (n, a) ∷ []) ns
+met_then c d e es xs ms ns n a st sa g h = record {
+  on = StepsOn-trans c d e g.on h.on;
+  stand = h.stand;
+  serve_first = AreServed-trans e d c ns ms es h.serve_first g.serve_first;
+  serve_second = served_append e c ns xs ((n, a) ∷ []) (AreServed-trans e d c ns ms xs h.serve_first g.serve_second) (served_from c d g.on e ns ((n, a) ∷ []) (Each-append (Stands c) (item_keys a) [] sa tt) h.serve_second);
+  covered = λ ss good k j.
+      h.covered ss (g.on.steps ss good).good (g.covered ss good k (first_externs (IsCovered c ss) xs ((n, a) ∷ []) j))
+      (covered_on c d g.on ss good (item_keys a ++ []) (Each-append (Stands c) (item_keys a) [] sa tt) (last_externs (IsCovered c ss) xs ((n, a) ∷ []) j));
+}

@@ -1,0 +1,6 @@
+pub mod TakeLemmas
+pub mod GrowLemmas
+pub mod Grows
+pub mod Parts
+pub mod Arms
+pub mod Enters

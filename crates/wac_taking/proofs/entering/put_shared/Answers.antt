@@ -1,0 +1,42 @@
+use Rattle.std.proofs.Common.{◌≡◌, ◌++◌, [], ◌∷◌, Some, refl, ap, sym, subst, ◌∙◌, None, string_bytes}
+use Rattle.std.proofs.lemmas.List.{map-append}
+use Rattle.std.specs.Option.{option_map_or}
+use Rattle.indexmap.proofs.CallerLemmas.{insert_entry-new}
+use Rattle.wac_component.specs.Content.{interface_content}
+use Rattle.wac_component.specs.Entries.{entry_identifier, identifier_at}
+use Rattle.wac_component.specs.Id.{Id}
+use Rattle.wac_component.specs.Key.{interface_entry, interface_key}
+use Rattle.wac_names.specs.Class.{Class, class_eq, class_of}
+use Rattle.wac_narrowing.specs.Entering.{AddsEntry, IsEntered}
+use Rattle.wac_narrowing.specs.Last.{last_key}
+use Rattle.wac_narrowing.specs.Narrows.{AddsShared}
+use Rattle.wac_narrowing.specs.State.{AddsPair}
+use Rattle.wac_narrowing.proofs.Adding.{last_at}
+use Rattle.wac_narrowing.proofs.Entering.{interface_named, shared_interface_enters}
+use Rattle.wac_copies.specs.Memo.{memo_of}
+use Rattle.wac_taking.specs.Takes.{shared_keys, state_of}
+use Rattle.wac_taking.proofs.TakeLemmas.{content_identifier, taken_as, Takes-entered, AreFiledIn-put, adds_last}
+use Rattle.wac_taking.proofs.entering.put_shared.Goals as goal
+
+pub add_interface-requires : goal.add_interface-requires
+add_interface-requires c = interface_named class_of c.args.types.now (state_of c.args.state.now) c.requires.state.kept c.args.id c.requires.taken.content _ c.requires.taken.taken
+
+pub returns : goal.returns
+returns c =
+    let f = c.args.types.now in
+    let was = c.args.state.now in
+    let now = record c.args.state.now { types = c.add_interface.new.self; shared = c.insert.new.self; taken = c.put_interface.new.self } in
+    let theirs = interface_key c.args.id in
+    let z = interface_content (record { id = Some c.args.name; uses = c.args.uses; exports = c.args.exports }) in
+    let last : interface_key c.in_ok-own.own ≡ last_key was.types (interface_entry z) = ap interface_key c.in_ok-own.ensures.id in
+    let pair = c.in_ok-put_interface.ensures c.requires.taken.absent in
+    let entries : c.insert.new.self.entries ≡ was.shared.entries ++ (c.args.class, c.in_ok-own.own) ∷ [] = c.in_ok-insert.ensures.entries ∙ insert_entry-new class_eq was.shared c.args.class c.in_ok-own.own c.requires.new in
+    let keys : shared_keys c.insert.new.self.entries ≡ shared_keys was.shared.entries ++ interface_key c.in_ok-own.own ∷ [] = ap shared_keys entries ∙ map-append (λ (e : Class × Id). interface_key e.1) was.shared.entries ((c.args.class, c.in_ok-own.own) ∷ []) in
+    let shares : AddsShared (state_of was).shared (state_of now).shared (last_key was.types (interface_entry z)) = subst (λ k. AddsShared (state_of was).shared (state_of now).shared k) last (subst (λ ks. AddsShared (state_of was).shared ks (interface_key c.in_ok-own.own)) (sym keys) (adds_last (shared_keys was.shared.entries) (interface_key c.in_ok-own.own))) in
+    let adds : AddsEntry f (state_of was) (state_of now) theirs (interface_entry z) = record { own = c.in_ok-own.ensures.added; imports = refl; copies = refl; number = c.requires.taken.taken.stands.0; remembers = subst (AddsPair (memo_of was.taken) (memo_of now.taken) theirs) last pair } in
+    let enters = shared_interface_enters class_of f (state_of was) c.requires.state.kept c.args.id c.requires.taken.content z (taken_as f (state_of was) c.args.id c.requires.taken.content _ _ z.id c.requires.taken.taken) (state_of now) (string_bytes c.args.name) (string_bytes c.args.name) (sym (content_identifier f c.args.id c.requires.taken.content c.requires.taken.taken.entry) ∙ c.requires.identified) refl refl adds shares in
+    let identified : identifier_at now.types (interface_key c.in_ok-own.own) ≡ Some (string_bytes c.args.name) =
+    (λ i. identifier_at (c.in_ok-own.ensures.added i) (last i)) ∙ ap (λ o. option_map_or entry_identifier o None) (last_at was.types (interface_entry z)).at in
+    Takes-entered f was now theirs (interface_key c.in_ok-own.own) pair
+    (AreFiledIn-put f (state_of was) (state_of now) was.shared.entries now.shared.entries c.args.class c.in_ok-own.own (string_bytes c.args.name) c.requires.state.kept refl enters.run identified (sym c.requires.of) c.in_ok-insert.ensures.updates.0 c.requires.state.filed)
+    (subst (λ k. IsEntered class_of f (state_of was) (state_of now) theirs k) (sym last) enters)

@@ -1,0 +1,63 @@
+use Rattle.std.proofs.Common.{◌≡◌, Some, slice_get, string_bytes, refl, ap, sym, subst, ◌∙◌}
+use Rattle.wac_component.specs.Content.{named, use_content, interface_content}
+use Rattle.wac_component.specs.Key.{Key, Stands, AllStand, interface_key, interface_keys, named_keys, use_keys, Each}
+use Rattle.wac_component.proofs.Keys.{Each-left, Each-right}
+use Rattle.wac_merge.specs.Items.{extern_keys, extern_list}
+use Rattle.wac_names.specs.Class.{class_of}
+use Rattle.wac_narrowing.proofs.Entering.{interface_named}
+use Rattle.wac_taking.specs.Takes.{state_of}
+use Rattle.wac_taking.proofs.GrowLemmas.{each_used}
+use Rattle.wac_taking.proofs.Grows.{new_named, still_stands, Takes-grown}
+use Rattle.wac_taking.proofs.TakeLemmas.{lookup-shared, shared_stands}
+use Rattle.wac_taking.proofs.growing.grow.Goals as goal
+
+pub index-requires : goal.index-requires
+index-requires c = shared_stands (state_of c.args.state.now) c.requires.state.kept (interface_key c.args.own) (lookup-shared (class_of (string_bytes c.args.name)) c.args.state.now.shared.entries c.args.own c.requires.shared)
+
+pub check_uses-requires : goal.check_uses-requires
+check_uses-requires c =
+    let types = c.args.state.now.types in
+    let old = interface_content c.in_ok-entry.entry in
+    let us = named use_content c.args.uses.entries in
+    let es = extern_list c.args.exports in
+    record {
+      existing = Each-left (Stands types) (named_keys use_keys old.uses) (extern_keys old.exports) (subst (λ i. AllStand types (interface_keys i)) (sym c.in_ok-entry.ensures.cases) c.index.ensures.standing);
+      new = Each-left (Stands types) (named_keys use_keys us) (extern_keys es) (interface_named class_of c.args.types.now (state_of c.args.state.now) c.requires.state.kept c.args.id c.requires.taken.content _ c.requires.taken.taken);
+    }
+
+pub meet_exports-requires : goal.meet_exports-requires
+meet_exports-requires c =
+    let types = c.args.state.now.types in
+    let old = interface_content c.in_ok-entry.entry in
+    let us = named use_content c.args.uses.entries in
+    let es = extern_list c.args.exports in
+    record {
+      existing = Each-right (Stands types) (named_keys use_keys old.uses) (extern_keys old.exports) (subst (λ i. AllStand types (interface_keys i)) (sym c.in_ok-entry.ensures.cases) c.index.ensures.standing);
+      new = Each-right (Stands types) (named_keys use_keys us) (extern_keys es) (interface_named class_of c.args.types.now (state_of c.args.state.now) c.requires.state.kept c.args.id c.requires.taken.content _ c.requires.taken.taken);
+    }
+
+pub replace-requires : goal.replace-requires
+replace-requires c =
+    let a = c.args.state.now in
+    let old = interface_content c.in_ok-entry.entry in
+    let new = interface_content (record { id = c.in_ok-entry.entry.id; uses = c.add_new.new.first; exports = c.meet_exports.new.existing }) in
+    let was : slice_get a.types.interfaces c.args.own.index ≡ Some old = c.index.ensures.entry ∙ ap Some (sym c.in_ok-entry.ensures.cases) in
+    let stand : AllStand a.types (interface_keys old) = subst (λ i. AllStand a.types (interface_keys i)) (sym c.in_ok-entry.ensures.cases) c.index.ensures.standing in
+    let uses : (P : Key → Type 0) → Each P (named_keys use_keys old.uses) → Each P (named_keys use_keys (named use_content c.args.uses.entries)) → Each P (named_keys use_keys new.uses)
+    = λ P h g. subst (λ us. Each P (named_keys use_keys (named use_content us))) (sym c.in_ok-add_new.ensures.entries) (each_used P _ c.in_ok-entry.entry.uses.entries c.args.uses.entries h g) in
+    record {
+      own = still_stands c.args.types.now a c.requires.state c.args.id c.args.own (string_bytes c.args.name) (named use_content c.args.uses.entries) (extern_list c.args.exports) c.requires.taken c.requires.identified c.requires.shared old new was stand refl uses c.meet_exports.new.types c.in_ok-meet_exports.ensures;
+      named = new_named c.args.types.now a c.requires.state c.args.id c.args.own (string_bytes c.args.name) (named use_content c.args.uses.entries) (extern_list c.args.exports) c.requires.taken c.requires.identified c.requires.shared old new was stand refl uses c.meet_exports.new.types c.in_ok-meet_exports.ensures;
+    }
+
+pub returns : goal.returns
+returns c =
+    let a = c.args.state.now in
+    let old = interface_content c.in_ok-entry.entry in
+    let new = interface_content (record { id = c.in_ok-entry.entry.id; uses = c.add_new.new.first; exports = c.meet_exports.new.existing }) in
+    let was : slice_get a.types.interfaces c.args.own.index ≡ Some old = c.index.ensures.entry ∙ ap Some (sym c.in_ok-entry.ensures.cases) in
+    let stand : AllStand a.types (interface_keys old) = subst (λ i. AllStand a.types (interface_keys i)) (sym c.in_ok-entry.ensures.cases) c.index.ensures.standing in
+    let uses : (P : Key → Type 0) → Each P (named_keys use_keys old.uses) → Each P (named_keys use_keys (named use_content c.args.uses.entries)) → Each P (named_keys use_keys new.uses)
+    = λ P h g. subst (λ us. Each P (named_keys use_keys (named use_content us))) (sym c.in_ok-add_new.ensures.entries) (each_used P _ c.in_ok-entry.entry.uses.entries c.args.uses.entries h g) in
+    Takes-grown c.args.types.now a c.requires.state c.args.id c.args.own (string_bytes c.args.name) (named use_content c.args.uses.entries) (extern_list c.args.exports) c.requires.taken c.requires.identified c.requires.shared old new was stand refl uses c.meet_exports.new.types c.in_ok-meet_exports.ensures
+    c.replace.new.types c.put_interface.new.self c.in_ok-replace.ensures.acyclic c.in_ok-replace.ensures.grown (c.in_ok-put_interface.ensures c.requires.taken.absent)

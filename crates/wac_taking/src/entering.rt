@@ -1,0 +1,88 @@
+//! Interfaces all of whose parts were taken in.
+
+ghost use Rattle.std.specs.Prelude.{◌≡◌, Some, None, IfOk, string_bytes};
+ghost use Rattle.wac_component.specs.Content.{named, use_content};
+ghost use Rattle.wac_component.specs.Entries.{identifier_at};
+ghost use Rattle.wac_component.specs.Height.{height};
+ghost use Rattle.wac_component.specs.Key.{interface_key};
+ghost use Rattle.wac_names.specs.Class.{class_of};
+ghost use Rattle.wac_narrowing.specs.Taking.{IsTakenKey};
+ghost use Rattle.wac_taking.specs.Takes.{MayTake, MayPut, Takes, shared_in};
+
+use super::growing::grow;
+use super::refusal::Refusal;
+use super::state::Merging;
+use indexmap::IndexMap;
+use wac_component::{Interface, InterfaceId, ItemKind, Types, UsedType};
+use wac_names::NameClass;
+
+// Puts an interface of which all parts were taken in: as an entry of its own, or into the shared one on its track.
+pub(crate) fn put_interface(
+    state: &mut Merging,
+    types: &Types,
+    id: InterfaceId,
+    uses: IndexMap<String, UsedType>,
+    exports: IndexMap<String, ItemKind>,
+) -> Result<InterfaceId, Refusal>
+    requires state { MayTake types.now state.old }
+    requires taken { MayPut types.now state.old id (named use_content uses.entries) (named (λ k. k) exports.entries) }
+    ensures { IfOk result (λ r. Takes types.now state.old state.new (height types.now (interface_key id)) (λ t. IsTakenKey class_of types.now t (interface_key id) (interface_key r))) }
+{
+    let Some(name) = types[id].id.clone()? else {
+        return put_plain(state, types, id, uses, exports);
+    };
+    let class = NameClass::of(state.alloc(), name.as_str())?;
+    match state.shared.get(&class).copied() {
+        Some(own) => grow(state, types, id, own, name, uses, exports),
+        None => put_shared(state, types, id, class, name, uses, exports),
+    }
+}
+
+// Adds an interface without identifier.
+pub(crate) fn put_plain(
+    state: &mut Merging,
+    types: &Types,
+    id: InterfaceId,
+    uses: IndexMap<String, UsedType>,
+    exports: IndexMap<String, ItemKind>,
+) -> Result<InterfaceId, Refusal>
+    requires state { MayTake types.now state.old }
+    requires plain { identifier_at types.now (interface_key id) ≡ None }
+    requires taken { MayPut types.now state.old id (named use_content uses.entries) (named (λ k. k) exports.entries) }
+    ensures { IfOk result (λ r. Takes types.now state.old state.new (height types.now (interface_key id)) (λ t. IsTakenKey class_of types.now t (interface_key id) (interface_key r))) }
+{
+    let own = state.types.add_interface(Interface {
+        id: None,
+        uses,
+        exports,
+    })?;
+    state.taken.put_interface(id, own)?;
+    Ok(own)
+}
+
+// Adds an interface with an identifier, on whose class no entry stands, which is shared from now on.
+pub(crate) fn put_shared(
+    state: &mut Merging,
+    types: &Types,
+    id: InterfaceId,
+    class: NameClass,
+    name: String,
+    uses: IndexMap<String, UsedType>,
+    exports: IndexMap<String, ItemKind>,
+) -> Result<InterfaceId, Refusal>
+    requires state { MayTake types.now state.old }
+    requires identified { identifier_at types.now (interface_key id) ≡ Some (string_bytes name) }
+    requires of { class ≡ class_of (string_bytes name) }
+    requires new { shared_in state.old.shared.entries class ≡ None }
+    requires taken { MayPut types.now state.old id (named use_content uses.entries) (named (λ k. k) exports.entries) }
+    ensures { IfOk result (λ r. Takes types.now state.old state.new (height types.now (interface_key id)) (λ t. IsTakenKey class_of types.now t (interface_key id) (interface_key r))) }
+{
+    let own = state.types.add_interface(Interface {
+        id: Some(name),
+        uses,
+        exports,
+    })?;
+    state.shared.insert(class, own)?;
+    state.taken.put_interface(id, own)?;
+    Ok(own)
+}

@@ -1,0 +1,474 @@
+//! Entries of other collections, each taken in once.
+
+ghost use Rattle.std.specs.Prelude.{◌≡◌, ◌<◌, [], ◌∷◌, Some, length, slice_get, IfOk};
+ghost use Rattle.std.specs.List.{flat_map};
+ghost use Rattle.std.specs.Option.{option_map};
+ghost use Rattle.wac_component.specs.Content.{alias_content, defined_content, named, use_content, types_of};
+ghost use Rattle.wac_component.specs.Height.{height, keys_height};
+ghost use Rattle.wac_component.specs.Id.{Id};
+ghost use Rattle.wac_component.specs.Key.{Stands, AllStand, item_keys, type_keys, value_keys, alias_keys, optional_keys, named_keys, use_keys, defined_keys, defined_key, resource_key, func_key, interface_key, world_key, module_key};
+ghost use Rattle.wac_component.specs.declared.items.ItemKind.TheVariants.{«Type» as OfType};
+ghost use Rattle.wac_names.specs.Class.{class_of};
+ghost use Rattle.wac_narrowing.specs.Taking.{AreMapped, IsTakenItem, IsTakenKey};
+ghost use Rattle.wac_narrowing.specs.Values.{IsTakenValue, AreListed, IfAny, AreDefined};
+ghost use Rattle.wac_taking.specs.Takes.{MayTake, Takes, IsTakenAlias, IsTakenUse};
+
+use super::entering::put_interface;
+use super::owners::import_owner;
+use super::refusal::Refusal;
+use super::state::Merging;
+use indexmap::IndexMap;
+use std::alloc::AllocError;
+use wac_component::{
+    DefinedType, DefinedTypeId, FuncType, FuncTypeId, InterfaceId, ItemKind, ModuleTypeId, Record,
+    Resource, ResourceAlias, ResourceId, Type, Types, UsedType, ValueType, Variant, World, WorldId,
+};
+use wac_copies::copy_externs;
+use wac_copies::places::{
+    case_at, extern_at, field_at, set_case, set_extern, set_field, set_used, set_value, used_at,
+    value_at,
+};
+use wac_refusals::AggregateError;
+
+/// Takes in an item.
+#[cycle(taking)]
+pub fn take_item(state: &mut Merging, types: &Types, kind: ItemKind) -> Result<ItemKind, Refusal>
+    requires source { AllStand types.now (item_keys kind) }
+    requires state { MayTake types.now state.old }
+    ensures { IfOk result (λ k. Takes types.now state.old state.new (keys_height types.now (item_keys kind)) (λ t. IsTakenItem class_of types.now t kind k)) }
+{
+    match kind {
+        ItemKind::Type(ty) => Ok(ItemKind::Type(take_type(state, types, ty)?)),
+        ItemKind::Func(id) => Ok(ItemKind::Func(take_func(state, types, id)?)),
+        ItemKind::Instance(id) => Ok(ItemKind::Instance(take_interface(state, types, id)?)),
+        ItemKind::Component(id) => Ok(ItemKind::Component(take_world(state, types, id)?)),
+        ItemKind::Module(id) => Ok(ItemKind::Module(take_module(state, types, id)?)),
+        ItemKind::Value(ty) => Ok(ItemKind::Value(take_value(state, types, ty)?)),
+    }
+}
+
+// Takes in a type.
+#[cycle(taking)]
+fn take_type(state: &mut Merging, types: &Types, ty: Type) -> Result<Type, Refusal>
+    requires source { AllStand types.now (type_keys ty) }
+    requires state { MayTake types.now state.old }
+    ensures { IfOk result (λ r. Takes types.now state.old state.new (keys_height types.now (type_keys ty)) (λ t. IsTakenItem class_of types.now t (OfType ty) (OfType r))) }
+{
+    match ty {
+        Type::Resource(id) => Ok(Type::Resource(take_resource(state, types, id)?)),
+        Type::Func(id) => Ok(Type::Func(take_func(state, types, id)?)),
+        Type::Value(ty) => Ok(Type::Value(take_value(state, types, ty)?)),
+        Type::Interface(id) => Ok(Type::Interface(take_interface(state, types, id)?)),
+        Type::World(id) => Ok(Type::World(take_world(state, types, id)?)),
+        Type::Module(id) => Ok(Type::Module(take_module(state, types, id)?)),
+    }
+}
+
+// Takes in a value type.
+#[cycle(taking)]
+fn take_value(state: &mut Merging, types: &Types, ty: ValueType) -> Result<ValueType, Refusal>
+    requires source { AllStand types.now (value_keys ty) }
+    requires state { MayTake types.now state.old }
+    ensures { IfOk result (λ v. Takes types.now state.old state.new (keys_height types.now (value_keys ty)) (λ t. IsTakenValue class_of types.now t ty v)) }
+{
+    match ty {
+        ValueType::Primitive(ty) => Ok(ValueType::Primitive(ty)),
+        ValueType::Borrow(id) => Ok(ValueType::Borrow(take_resource(state, types, id)?)),
+        ValueType::Own(id) => Ok(ValueType::Own(take_resource(state, types, id)?)),
+        ValueType::Defined(id) => Ok(ValueType::Defined(take_defined(state, types, id)?)),
+    }
+}
+
+// Takes in a value type, if there is one.
+#[cycle(taking)]
+fn take_optional(
+    state: &mut Merging,
+    types: &Types,
+    ty: Option<ValueType>,
+) -> Result<Option<ValueType>, Refusal>
+    requires source { AllStand types.now (optional_keys value_keys ty) }
+    requires state { MayTake types.now state.old }
+    ensures { IfOk result (λ o. Takes types.now state.old state.new (keys_height types.now (optional_keys value_keys ty)) (λ t. IfAny (IsTakenValue class_of types.now t) ty o)) }
+{
+    match ty {
+        Some(ty) => Ok(Some(take_value(state, types, ty)?)),
+        None => Ok(None),
+    }
+}
+
+// Takes in value types.
+#[cycle(taking)]
+fn take_values(
+    state: &mut Merging,
+    types: &Types,
+    values: &Vec<ValueType>,
+) -> Result<Vec<ValueType>, Refusal>
+    requires source { AllStand types.now (flat_map value_keys values.now.items) }
+    requires state { MayTake types.now state.old }
+    ensures { IfOk result (λ vs. Takes types.now state.old state.new (keys_height types.now (flat_map value_keys values.now.items)) (λ t. AreListed (IsTakenValue class_of types.now t) values.now.items vs.items)) }
+{
+    let mut taken = values.clone()?;
+    for i in 0..values.len() {
+        let own = take_value(state, types, value_at(values, i))?;
+        set_value(&mut taken, i, own);
+    }
+    Ok(taken)
+}
+
+// Takes in value types under names.
+#[cycle(taking)]
+fn take_fields(
+    state: &mut Merging,
+    types: &Types,
+    fields: &IndexMap<String, ValueType>,
+) -> Result<IndexMap<String, ValueType>, Refusal>
+    requires source { AllStand types.now (flat_map value_keys (types_of fields.now.entries)) }
+    requires state { MayTake types.now state.old }
+    ensures { IfOk result (λ m. Takes types.now state.old state.new (keys_height types.now (flat_map value_keys (types_of fields.now.entries))) (λ t. AreMapped (IsTakenValue class_of types.now t) (named (λ v. v) fields.now.entries) (named (λ v. v) m.entries))) }
+{
+    let mut taken = fields.clone()?;
+    for i in 0..fields.len() {
+        let own = take_value(state, types, field_at(fields, i))?;
+        set_field(&mut taken, i, own);
+    }
+    Ok(taken)
+}
+
+// Takes in the cases of a variant.
+#[cycle(taking)]
+fn take_cases(
+    state: &mut Merging,
+    types: &Types,
+    cases: &IndexMap<String, Option<ValueType>>,
+) -> Result<IndexMap<String, Option<ValueType>>, Refusal>
+    requires source { AllStand types.now (flat_map (optional_keys value_keys) (types_of cases.now.entries)) }
+    requires state { MayTake types.now state.old }
+    ensures { IfOk result (λ m. Takes types.now state.old state.new (keys_height types.now (flat_map (optional_keys value_keys) (types_of cases.now.entries))) (λ t. AreMapped (IfAny (IsTakenValue class_of types.now t)) (named (λ o. o) cases.now.entries) (named (λ o. o) m.entries))) }
+{
+    let mut taken = cases.clone()?;
+    for i in 0..cases.len() {
+        let own = take_optional(state, types, case_at(cases, i))?;
+        set_case(&mut taken, i, own);
+    }
+    Ok(taken)
+}
+
+// Takes in a defined type, unless it was taken in.
+#[cycle(taking)]
+fn take_defined(
+    state: &mut Merging,
+    types: &Types,
+    id: DefinedTypeId,
+) -> Result<DefinedTypeId, Refusal>
+    requires source { Stands types.now (defined_key id) }
+    requires state { MayTake types.now state.old }
+    ensures { IfOk result (λ r. Takes types.now state.old state.new (height types.now (defined_key id)) (λ t. IsTakenKey class_of types.now t (defined_key id) (defined_key r))) }
+{
+    if let Some(own) = state.taken.defined(id) {
+        return Ok(own);
+    }
+    types.sound();
+    let content = take_content(state, types, &types[id])?;
+    let own = state.types.add_defined_type(content)?;
+    state.taken.put_defined(id, own)?;
+    Ok(own)
+}
+
+// Takes in what a defined type says.
+#[cycle(taking)]
+fn take_content(
+    state: &mut Merging,
+    types: &Types,
+    ty: &DefinedType,
+) -> Result<DefinedType, Refusal>
+    requires source { AllStand types.now (defined_keys (defined_content ty.now)) }
+    requires state { MayTake types.now state.old }
+    ensures { IfOk result (λ r. Takes types.now state.old state.new (keys_height types.now (defined_keys (defined_content ty.now))) (λ t. AreDefined (IsTakenValue class_of types.now t) (defined_content ty.now) (defined_content r))) }
+{
+    match ty {
+        DefinedType::Tuple(items) => {
+            let items = take_values(state, types, items)?;
+            Ok(DefinedType::Tuple(items))
+        }
+        DefinedType::List(item) => {
+            let item = take_value(state, types, *item)?;
+            Ok(DefinedType::List(item))
+        }
+        DefinedType::FixedSizeList(item, size) => {
+            let item = take_value(state, types, *item)?;
+            Ok(DefinedType::FixedSizeList(item, *size))
+        }
+        DefinedType::Option(item) => {
+            let item = take_value(state, types, *item)?;
+            Ok(DefinedType::Option(item))
+        }
+        DefinedType::Result { ok, err } => {
+            let ok = take_optional(state, types, *ok)?;
+            let err = take_optional(state, types, *err)?;
+            Ok(DefinedType::Result { ok, err })
+        }
+        DefinedType::Variant(variant) => {
+            let cases = take_cases(state, types, &variant.cases)?;
+            Ok(DefinedType::Variant(Variant { cases }))
+        }
+        DefinedType::Record(record) => {
+            let fields = take_fields(state, types, &record.fields)?;
+            Ok(DefinedType::Record(Record { fields }))
+        }
+        DefinedType::Flags(flags) => Ok(DefinedType::Flags(flags.clone()?)),
+        DefinedType::Enum(cases) => Ok(DefinedType::Enum(cases.clone()?)),
+        DefinedType::Alias(of) => {
+            let of = take_value(state, types, *of)?;
+            Ok(DefinedType::Alias(of))
+        }
+        DefinedType::Stream(payload) => {
+            let payload = take_optional(state, types, *payload)?;
+            Ok(DefinedType::Stream(payload))
+        }
+        DefinedType::Future(payload) => {
+            let payload = take_optional(state, types, *payload)?;
+            Ok(DefinedType::Future(payload))
+        }
+    }
+}
+
+// Takes in a function type, unless it was taken in.
+#[cycle(taking)]
+fn take_func(state: &mut Merging, types: &Types, id: FuncTypeId) -> Result<FuncTypeId, Refusal>
+    requires source { Stands types.now (func_key id) }
+    requires state { MayTake types.now state.old }
+    ensures { IfOk result (λ r. Takes types.now state.old state.new (height types.now (func_key id)) (λ t. IsTakenKey class_of types.now t (func_key id) (func_key r))) }
+{
+    if let Some(own) = state.taken.func(id) {
+        return Ok(own);
+    }
+    types.sound();
+    let func = &types[id];
+    let params = take_fields(state, types, &func.params)?;
+    let result = take_optional(state, types, func.result)?;
+    let own = state.types.add_func_type(FuncType {
+        params,
+        result,
+        is_async: func.is_async,
+    })?;
+    state.taken.put_func(id, own)?;
+    Ok(own)
+}
+
+// Takes in a resource, unless it was taken in.
+#[cycle(taking)]
+fn take_resource(state: &mut Merging, types: &Types, id: ResourceId) -> Result<ResourceId, Refusal>
+    requires source { Stands types.now (resource_key id) }
+    requires state { MayTake types.now state.old }
+    ensures { IfOk result (λ r. Takes types.now state.old state.new (height types.now (resource_key id)) (λ t. IsTakenKey class_of types.now t (resource_key id) (resource_key r))) }
+{
+    if let Some(own) = state.taken.resource(id) {
+        return Ok(own);
+    }
+    types.sound();
+    let resource = &types[id];
+    let name = resource.name.clone()?;
+    let alias = take_source(state, types, &resource.name, resource.alias)?;
+    let own = state.types.add_resource(Resource { name, alias })?;
+    state.taken.put_resource(id, own)?;
+    Ok(own)
+}
+
+// Takes in what a resource is another name of, if it is.
+#[cycle(taking)]
+fn take_source(
+    state: &mut Merging,
+    types: &Types,
+    name: &String,
+    alias: Option<ResourceAlias>,
+) -> Result<Option<ResourceAlias>, Refusal>
+    requires source { AllStand types.now (optional_keys alias_keys (option_map alias_content alias)) }
+    requires state { MayTake types.now state.old }
+    ensures { IfOk result (λ r. Takes types.now state.old state.new (keys_height types.now (optional_keys alias_keys (option_map alias_content alias))) (λ t. IfAny (IsTakenAlias types.now t) (option_map alias_content alias) (option_map alias_content r))) }
+{
+    match alias {
+        Some(alias) => Ok(Some(take_alias(state, types, name, alias)?)),
+        None => Ok(None),
+    }
+}
+
+// Takes in what a resource is another name of.
+#[cycle(taking)]
+fn take_alias(
+    state: &mut Merging,
+    types: &Types,
+    name: &String,
+    alias: ResourceAlias,
+) -> Result<ResourceAlias, Refusal>
+    requires source { AllStand types.now (alias_keys (alias_content alias)) }
+    requires state { MayTake types.now state.old }
+    ensures { IfOk result (λ r. Takes types.now state.old state.new (keys_height types.now (alias_keys (alias_content alias))) (λ t. IsTakenAlias types.now t (alias_content alias) (alias_content r))) }
+{
+    let owner = take_owner(state, types, name, alias.owner)?;
+    let source = take_resource(state, types, alias.source)?;
+    Ok(ResourceAlias { owner, source })
+}
+
+// Takes in the owner of the resource of this name, if it has one, and imports it.
+#[cycle(taking)]
+fn take_owner(
+    state: &mut Merging,
+    types: &Types,
+    name: &String,
+    owner: Option<InterfaceId>,
+) -> Result<Option<InterfaceId>, Refusal>
+    requires source { AllStand types.now (optional_keys (λ o. interface_key o ∷ []) owner) }
+    requires state { MayTake types.now state.old }
+    ensures { IfOk result (λ r. Takes types.now state.old state.new (keys_height types.now (optional_keys (λ o. interface_key o ∷ []) owner)) (λ t. IfAny (λ a b. IsTakenKey class_of types.now t (interface_key a) (interface_key b)) owner r)) }
+{
+    let Some(owner) = owner else {
+        return Ok(None);
+    };
+    types.sound();
+    if types[owner].id.is_none() {
+        let resource = name.clone()?;
+        return Err(Refusal::Told(AggregateError::OwnerWithoutIdentifier { resource }));
+    }
+    let own = take_interface(state, types, owner)?;
+    import_owner(state, own)?;
+    Ok(Some(own))
+}
+
+// Takes in an interface, unless it was taken in.
+#[cycle(taking)]
+fn take_interface(
+    state: &mut Merging,
+    types: &Types,
+    id: InterfaceId,
+) -> Result<InterfaceId, Refusal>
+    requires source { Stands types.now (interface_key id) }
+    requires state { MayTake types.now state.old }
+    ensures { IfOk result (λ r. Takes types.now state.old state.new (height types.now (interface_key id)) (λ t. IsTakenKey class_of types.now t (interface_key id) (interface_key r))) }
+{
+    if let Some(own) = state.taken.interface(id) {
+        return Ok(own);
+    }
+    types.sound();
+    let interface = &types[id];
+    let uses = take_uses(state, types, &interface.uses)?;
+    let exports = take_externs(state, types, &interface.exports)?;
+    put_interface(state, types, id, uses, exports)
+}
+
+// Takes in what is used.
+#[cycle(taking)]
+fn take_uses(
+    state: &mut Merging,
+    types: &Types,
+    uses: &IndexMap<String, UsedType>,
+) -> Result<IndexMap<String, UsedType>, Refusal>
+    requires source { AllStand types.now (named_keys use_keys (named use_content uses.now.entries)) }
+    requires state { MayTake types.now state.old }
+    ensures { IfOk result (λ m. Takes types.now state.old state.new (keys_height types.now (named_keys use_keys (named use_content uses.now.entries))) (λ t. AreMapped (IsTakenUse types.now t) (named use_content uses.now.entries) (named use_content m.entries))) }
+{
+    let mut taken = uses.clone()?;
+    for i in 0..uses.len() {
+        let own = take_used(state, types, uses, i)?;
+        set_used(&mut taken, i, own);
+    }
+    Ok(taken)
+}
+
+// The refusal of the use at an index, of an interface without identifier.
+fn no_identifier(
+    uses: &IndexMap<String, UsedType>,
+    index: usize,
+) -> Result<AggregateError, AllocError>
+    requires { index < length uses.now.entries }
+{
+    let (name, _) = uses.get_index(index).unwrap();
+    let used = name.clone()?;
+    Ok(AggregateError::NoIdentifier { used })
+}
+
+// Takes in the interface that the type at an index is used from.
+#[cycle(taking)]
+fn take_used(
+    state: &mut Merging,
+    types: &Types,
+    uses: &IndexMap<String, UsedType>,
+    index: usize,
+) -> Result<InterfaceId, Refusal>
+    requires source { AllStand types.now (named_keys use_keys (named use_content uses.now.entries)) }
+    requires state { MayTake types.now state.old }
+    requires at { index < length uses.now.entries }
+    ensures { IfOk result (λ r. Takes types.now state.old state.new (keys_height types.now (named_keys use_keys (named use_content uses.now.entries))) (λ t. (p : Id) → option_map (λ u. u.interface) (slice_get (types_of uses.now.entries) index) ≡ Some p → IsTakenKey class_of types.now t (interface_key p) (interface_key r))) }
+{
+    let interface = used_at(uses, index);
+    types.sound();
+    if types[interface].id.is_none() {
+        return Err(Refusal::Told(no_identifier(uses, index)?));
+    }
+    take_interface(state, types, interface)
+}
+
+/// Takes in items under names.
+#[cycle(taking)]
+pub fn take_externs(
+    state: &mut Merging,
+    types: &Types,
+    externs: &IndexMap<String, ItemKind>,
+) -> Result<IndexMap<String, ItemKind>, Refusal>
+    requires source { AllStand types.now (named_keys item_keys (named (λ k. k) externs.now.entries)) }
+    requires state { MayTake types.now state.old }
+    ensures { IfOk result (λ m. Takes types.now state.old state.new (keys_height types.now (named_keys item_keys (named (λ k. k) externs.now.entries))) (λ t. AreMapped (IsTakenItem class_of types.now t) (named (λ k. k) externs.now.entries) (named (λ k. k) m.entries))) }
+{
+    let mut taken = externs.clone()?;
+    for i in 0..externs.len() {
+        match take_item(state, types, extern_at(externs, i)) {
+            Ok(own) => set_extern(&mut taken, i, own),
+            Err(refusal) => return Err(refusal),
+        }
+    }
+    Ok(taken)
+}
+
+// Takes in a world, unless it was taken in.
+#[cycle(taking)]
+fn take_world(state: &mut Merging, types: &Types, id: WorldId) -> Result<WorldId, Refusal>
+    requires source { Stands types.now (world_key id) }
+    requires state { MayTake types.now state.old }
+    ensures { IfOk result (λ r. Takes types.now state.old state.new (height types.now (world_key id)) (λ t. IsTakenKey class_of types.now t (world_key id) (world_key r))) }
+{
+    if let Some(own) = state.taken.world(id) {
+        return Ok(own);
+    }
+    types.sound();
+    let world = &types[id];
+    let identifier = world.id.clone()?;
+    let uses = take_uses(state, types, &world.uses)?;
+    let imports = copy_externs(&mut state.types, &mut state.copies, types, &world.imports)?;
+    let exports = take_externs(state, types, &world.exports)?;
+    let own = state.types.add_world(World {
+        id: identifier,
+        uses,
+        imports,
+        exports,
+    })?;
+    state.taken.put_world(id, own)?;
+    Ok(own)
+}
+
+// Takes in a core module type, unless it was taken in.
+fn take_module(
+    state: &mut Merging,
+    types: &Types,
+    id: ModuleTypeId,
+) -> Result<ModuleTypeId, Refusal>
+    requires source { Stands types.now (module_key id) }
+    requires state { MayTake types.now state.old }
+    ensures { IfOk result (λ r. Takes types.now state.old state.new (height types.now (module_key id)) (λ t. IsTakenKey class_of types.now t (module_key id) (module_key r))) }
+{
+    if let Some(own) = state.taken.module(id) {
+        return Ok(own);
+    }
+    types.sound();
+    let own = state.types.add_module_type(types[id].clone()?)?;
+    state.taken.put_module(id, own)?;
+    Ok(own)
+}
