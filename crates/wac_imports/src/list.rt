@@ -3,7 +3,7 @@
 ghost use Rattle.std.specs.Prelude.{◌≡◌, [], Some, IsSome, OnOk, IfOk, string_bytes};
 ghost use Rattle.std.specs.Option.{option_map};
 ghost use Rattle.wac_names.specs.Class.{class_of};
-ghost use Rattle.wac_imports.specs.Import.{ImportContent, import_of, canonical, PutsImport, KeepsImports, PutsName, IsNoted};
+ghost use Rattle.wac_imports.specs.Import.{ImportContent, import_of, canonical, AreFiled, PutsImport, KeepsImports, PutsName, IsNoted};
 ghost use Rattle.wac_imports.specs.Left.{imports_left, listed};
 
 use super::import::Import;
@@ -44,6 +44,13 @@ impl ImportList {
             by_class: IndexMap::new(alloc),
             led: IndexMap::new(alloc),
         }
+    }
+
+    /// What is known of every list of imports; this does nothing.
+    pub fn filed(&self)
+        ensures { AreFiled self.now }
+    {
+        let _ = &self.led;
     }
 
     /// What is imported on a class of names, if anything is.
