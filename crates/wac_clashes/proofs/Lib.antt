@@ -1,0 +1,5 @@
+pub mod Apart
+pub mod Cores
+pub mod Reading
+pub mod Turns
+pub mod Ways

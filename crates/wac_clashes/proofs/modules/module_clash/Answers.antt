@@ -1,0 +1,11 @@
+use Rattle.wac_model.specs.ItemTree.{item}
+use Rattle.wac_component.specs.Key.{module_key}
+use Rattle.wac_component.specs.Tree.{item_tree}
+use Rattle.wac_clashes.specs.Found.{IsCoreClashOf}
+use Rattle.wac_clashes.proofs.Reading.{of_entries}
+use Rattle.wac_clashes.proofs.modules.module_clash.Goals as goal
+
+pub returns-in-Module-Module : goal.returns-in-Module-Module
+returns-in-Module-Module c =
+    of_entries (λ a b. IsCoreClashOf (item_tree c.args.own.now a) (item_tree c.args.own.now b)) c.module_type_clash.result item (module_key c.in-Module-Module.x) (module_key c.in-Module-Module.y) c.args.existing c.args.new
+    c.in-Module-Module.is-0 c.in-Module-Module.is-1 c.module_type_clash.ensures
