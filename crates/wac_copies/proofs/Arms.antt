@@ -53,7 +53,7 @@ module _ (f c d : Collection) (m n : Memo) where
       (Copies-more f c d m n low (keys_height f (defined_keys (defined_content x))) Q (λ t. AreDefined (IsCopiedValue f t) (defined_content x) (defined_content y)) below (λ t kept q. means t q) h)
 
 -- what stands below a name
-named_flat : {V W : Type 0} (k : W → List Key) (g : V → W) (es : List (String Global × V)) → named_keys k (named g es) ≡ flat_map (λ v. k (g v)) (types_of es)
+pub named_flat : {V W : Type 0} (k : W → List Key) (g : V → W) (es : List (String Global × V)) → named_keys k (named g es) ≡ flat_map (λ v. k (g v)) (types_of es)
 named_flat k g [] = refl
 named_flat k g (e ∷ es) = ap (λ (ks : List Key). k (g e.1) ++ ks) (named_flat k g es)
 

@@ -43,7 +43,7 @@ module _ {T : Type 0} (track : Text → T) (f : Collection) (s : State) (kept : 
   entered d ts t theirs own steps same_own same_shared same_imports same_copies number adds remembered covered closed =
       changed_taken (λ u. IsEntered track f s u theirs own) u t same_own same_shared same_imports same_copies record {
         run = Runs-trans (RemembersTruly track) f s u (record u { taken = t.taken }) first then;
-        taken = record { remembered = remembered; covered = covered; closed = closed };
+        taken = record { remembered = remembered; noted = adds.is; covered = covered; closed = closed };
       }
     where
       u : State
@@ -214,7 +214,7 @@ module _ {T : Type 0} (track : Text → T) (f : Collection) (s : State) (kept : 
     world_next : open_next f (world_key p) ≡ named_keys use_keys x.uses ++ named_keys item_keys x.exports
     world_next = ap (optional_keys other_keys) (world_at f p x h.entry)
 
-    world_parts : AreTakenKeys track f s (open_next f (world_key p)) (other_keys (world_entry z))
+    pub world_parts : AreTakenKeys track f s (open_next f (world_key p)) (other_keys (world_entry z))
     world_parts =
         subst (λ (is : List Key). AreTakenKeys track f s is (other_keys (world_entry z))) (sym world_next)
         (taken_append track f s (named_keys use_keys x.uses) (named_keys use_keys z.uses) (named_keys item_keys x.exports) (named_keys item_keys z.exports) h.uses

@@ -55,6 +55,7 @@ module _ {T : Type 0} (track : Text → T) (f : Collection) (s t : State) (kept 
   pub taken_key_still : (theirs own : Key) → IsTakenKey track f s theirs own → IsTakenKey track f t theirs own
   taken_key_still theirs own h = record {
     remembered = IsRememberedAs-step track f s.own t.own s.shared t.shared theirs own (run.narrows kept) (run.stops kept) h.remembered;
+    noted = run.taken theirs own h.noted;
     covered = (run.stops kept).covered own h.remembered.stands_for.own_stands h.covered;
     closed = closed_still theirs h.closed;
   }
@@ -107,6 +108,7 @@ module _ {T : Type 0} (track : Text → T) (f : Collection) (s : State) where
   pub memo_hit : IsKept s → RemembersTruly track f s → (theirs own : Key) → s.taken theirs ≡ Some own → theirs.id.number ≡ f.number → IsTakenKey track f s theirs own
   memo_hit kept truly theirs own is number = record {
     remembered = truly.taken theirs own is number;
+    noted = is;
     covered = (kept.taken theirs own is).1;
     closed = λ t n w q. truly.closed theirs own t n is number w q;
   }

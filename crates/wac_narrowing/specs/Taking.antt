@@ -23,9 +23,10 @@ SameTree f c theirs own = (k : Kind) → item_tree c (entry_item k own) ≡ item
 abbrev pub IsClosedIn : Collection → Memo → Key → Type 0
 IsClosedIn f now theirs = (t : Key) (n : Text) → OpenReaches f theirs t → identifier_at f t ≡ Some n → (o : Key) × (now t ≡ Some o)
 
--- the own entry is one that may be remembered for the id
+-- the own entry was taken in for the id, and may be remembered for it
 pub record IsTakenKey {T : Type 0} (track : Text → T) (f : Collection) (s : State) (theirs own : Key) : Type 0 where
   pub remembered : IsRememberedAs track f s.own s.shared theirs own
+  pub noted : s.taken theirs ≡ Some own
   pub covered : IsCovered s.own s.shared own
   pub closed : IsClosedIn f s.taken theirs
 

@@ -1,10 +1,14 @@
 -- Entries all of whose parts were taken in: what they name stands, and they enter.
-use Rattle.std.proofs.Common.{◌≡◌, List, ◌∷◌, Option, Some, None, slice_get, refl, ap, sym, subst}
+use Rattle.std.proofs.Common.{◌≡◌, ◌∙◌, List, ◌∷◌, Option, Some, None, slice_get, refl, ap, sym, subst, IsSome}
+use Rattle.std.specs.Option.{option_and_then}
+use Rattle.wac_component.specs.Entries.{owner_at}
+use Rattle.wac_component.specs.Open.{open_next}
+use Rattle.wac_component.specs.Reach.{IsAmong}
 use Rattle.wac_model.specs.Text.{Text}
 use Rattle.wac_model.specs.CoreTree.{ModuleTree}
 use Rattle.wac_component.specs.Id.{Id}
 use Rattle.wac_component.specs.Collection.{Collection, DefinedContent, ResourceContent, AliasContent, FuncContent, UseContent, InterfaceContent, WorldContent}
-use Rattle.wac_component.specs.Key.{Key, Entry, entry_at, Stands, AllStand, other_keys, defined_entry, resource_entry, func_entry, world_entry, module_entry, defined_key, resource_key, func_key, interface_key, world_key, module_key, defined_keys, func_keys, world_keys, alias_keys, optional_keys, named_keys, use_keys}
+use Rattle.wac_component.specs.Key.{defined_sort, resource_sort, func_sort, interface_sort, world_sort, module_sort, interface_keys, Key, Entry, entry_at, Stands, AllStand, other_keys, defined_entry, resource_entry, func_entry, world_entry, module_entry, defined_key, resource_key, func_key, interface_key, world_key, module_key, defined_keys, func_keys, world_keys, alias_keys, optional_keys, named_keys, use_keys}
 use Rattle.wac_component.specs.Sound.{IsSound}
 use Rattle.wac_component.specs.Tree.{root_name}
 use Rattle.wac_component.specs.declared.items.ItemKind.{ItemKind}
@@ -18,11 +22,12 @@ use Rattle.wac_narrowing.specs.Leaves.{SaysSame, same_func, same_defined, same_r
 use Rattle.wac_narrowing.specs.State.{State, IsKept}
 use Rattle.wac_narrowing.specs.Taking.{AreMapped, none, one, AreTakenKeys, no_keys, one_key, IsTakenItem, IsCopiedItem}
 use Rattle.wac_narrowing.specs.Values.{IsTakenValue, SameValue, IfAny, neither, both, AreFuncs, AreDefined}
-use Rattle.wac_narrowing.proofs.Entering.{world_named as world_names, world_enters as world_goes}
+use Rattle.wac_narrowing.proofs.Entering.{interface_parts, world_parts, world_named as world_names, world_enters as world_goes}
 use Rattle.wac_narrowing.proofs.EnteringLeaves.{leaf_enters}
-use Rattle.wac_narrowing.proofs.Mapped.{taken_each, taken_named}
+use Rattle.wac_narrowing.proofs.Mapped.{taken_of, taken_each, taken_named}
 use Rattle.wac_narrowing.proofs.Values.{funcs_more, defined_more, each_func, each_defined, func_parts, defined_parts}
-use Rattle.wac_taking.specs.Takes.{IsTakenAlias, IsTakenUse}
+use Rattle.wac_taking.specs.Takes.{IsTakenAlias, IsTakenUse, IsOwnerImported}
+use Rattle.wac_taking.proofs.TakeLemmas.{HasOwners}
 
 module _ (f : Collection) (s : State) where
   -- what is named stands
@@ -79,27 +84,51 @@ module _ (f : Collection) (s : State) where
     pub world_stands : IsKept s → (p : Id) (x z : WorldContent) → WorldIsTaken class_of f s p x z → AllStand s.own (world_keys z)
     world_stands kept p x z h = world_names class_of f s kept p x z h
 
-    -- entries enter
+    -- entries enter, whose owners are imported where those of their parts are
 
     module _ (kept : IsKept s) (t : State) where
-      leaf : (theirs : Key) (x z : Entry) → Stands f theirs → entry_at f theirs ≡ Some x → SaysSame f s.own theirs z → AreTakenKeys class_of f s (other_keys x) (other_keys z) → AddsEntry f s t theirs z → t.shared ≡ s.shared → IsEntered class_of f s t theirs (last_key s.own z)
-      leaf theirs x z st at says parts adds same =
-          leaf_enters class_of f s kept sound theirs z st says t (subst (λ ks. AreTakenKeys class_of f s ks (other_keys z)) (sym (ap (optional_keys other_keys) at)) parts) adds same
+      noted : (theirs : Key) (x : Entry) (js : List Key) → entry_at f theirs ≡ Some x → AreTakenKeys class_of f s (other_keys x) js → (j : Key) → IsAmong j (open_next f theirs) → (o : Key) × (s.taken j ≡ Some o)
+      noted theirs x js at parts j m = let o = taken_of class_of f s (other_keys x) js j parts (subst (IsAmong j) (ap (optional_keys other_keys) at) m) in (o.0, o.2.noted)
 
-      pub defined_enters : (p : Id) (x z : DefinedContent) → Stands f (defined_key p) → slice_get f.defined p.index ≡ Some x → AreDefined (IsTakenValue class_of f s) x z → AddsEntry f s t (defined_key p) (defined_entry z) → t.shared ≡ s.shared → IsEntered class_of f s t (defined_key p) (last_key s.own (defined_entry z))
+      leaf : (theirs : Key) (x z : Entry) → Stands f theirs → entry_at f theirs ≡ Some x → SaysSame f s.own theirs z → AreTakenKeys class_of f s (other_keys x) (other_keys z) → ((r : Id) → theirs ≡ resource_key r → IsOwnerImported f s (owner_at f r)) → AddsEntry f s t theirs z → t.shared ≡ s.shared
+          → IsEntered class_of f s t theirs (last_key s.own z) × HasOwners f s theirs
+      leaf theirs x z st at says parts self adds same = (
+        leaf_enters class_of f s kept sound theirs z st says t (subst (λ ks. AreTakenKeys class_of f s ks (other_keys z)) (sym (ap (optional_keys other_keys) at)) parts) adds same,
+        record { parts = noted theirs x (other_keys z) at parts; self = self },
+      )
+
+      pub defined_enters : (p : Id) (x z : DefinedContent) → Stands f (defined_key p) → slice_get f.defined p.index ≡ Some x → AreDefined (IsTakenValue class_of f s) x z → AddsEntry f s t (defined_key p) (defined_entry z) → t.shared ≡ s.shared
+          → IsEntered class_of f s t (defined_key p) (last_key s.own (defined_entry z)) × HasOwners f s (defined_key p)
       defined_enters p x z st at h adds same =
-          leaf (defined_key p) (defined_entry x) (defined_entry z) st (defined_at f p x at) (same_defined at (defined_more (IsTakenValue class_of f s) (SameValue f s.own) (λ v w c. c.same) x z h)) (defined_parts class_of f s x z h) adds same
+          leaf (defined_key p) (defined_entry x) (defined_entry z) st (defined_at f p x at) (same_defined at (defined_more (IsTakenValue class_of f s) (SameValue f s.own) (λ v w c. c.same) x z h)) (defined_parts class_of f s x z h) (λ r e. absurd (let no : defined_sort ≡ resource_sort = ap (λ (k : Key). k.sort) e in cc)) adds same
 
-      pub func_enters : (p : Id) (x z : FuncContent) → Stands f (func_key p) → slice_get f.funcs p.index ≡ Some x → AreFuncs (IsTakenValue class_of f s) x z → AddsEntry f s t (func_key p) (func_entry z) → t.shared ≡ s.shared → IsEntered class_of f s t (func_key p) (last_key s.own (func_entry z))
+      pub func_enters : (p : Id) (x z : FuncContent) → Stands f (func_key p) → slice_get f.funcs p.index ≡ Some x → AreFuncs (IsTakenValue class_of f s) x z → AddsEntry f s t (func_key p) (func_entry z) → t.shared ≡ s.shared
+          → IsEntered class_of f s t (func_key p) (last_key s.own (func_entry z)) × HasOwners f s (func_key p)
       func_enters p x z st at h adds same =
-          leaf (func_key p) (func_entry x) (func_entry z) st (func_at f p x at) (same_func at (funcs_more (IsTakenValue class_of f s) (SameValue f s.own) (λ v w c. c.same) x z h)) (func_parts class_of f s x z h) adds same
+          leaf (func_key p) (func_entry x) (func_entry z) st (func_at f p x at) (same_func at (funcs_more (IsTakenValue class_of f s) (SameValue f s.own) (λ v w c. c.same) x z h)) (func_parts class_of f s x z h) (λ r e. absurd (let no : func_sort ≡ resource_sort = ap (λ (k : Key). k.sort) e in cc)) adds same
 
-      pub resource_enters : (p : Id) (x z : ResourceContent) → Stands f (resource_key p) → slice_get f.resources p.index ≡ Some x → z.name ≡ x.name → IfAny (IsTakenAlias f s) x.alias z.alias → AddsEntry f s t (resource_key p) (resource_entry z) → t.shared ≡ s.shared → IsEntered class_of f s t (resource_key p) (last_key s.own (resource_entry z))
+      alias_imported : (r : Id) (x : ResourceContent) (y : Option AliasContent) → slice_get f.resources r.index ≡ Some x → IfAny (IsTakenAlias f s) x.alias y → IsOwnerImported f s (owner_at f r)
+      alias_imported r x y at h i n is named = go x.alias y h (sym (ap (λ o. option_and_then (λ (e : ResourceContent). option_and_then (λ (a : AliasContent). a.owner) e.alias) o) at) ∙ is)
+        where
+          go : (a b : Option AliasContent) → IfAny (IsTakenAlias f s) a b → option_and_then (λ (c : AliasContent). c.owner) a ≡ Some i → IsSome (s.imports n)
+          go a b neither e = absurd (cc)
+          go a b (both c) e = c.owner i n e named
+
+      pub resource_enters : (p : Id) (x z : ResourceContent) → Stands f (resource_key p) → slice_get f.resources p.index ≡ Some x → z.name ≡ x.name → IfAny (IsTakenAlias f s) x.alias z.alias → AddsEntry f s t (resource_key p) (resource_entry z) → t.shared ≡ s.shared
+          → IsEntered class_of f s t (resource_key p) (last_key s.own (resource_entry z)) × HasOwners f s (resource_key p)
       resource_enters p x z st at name h adds same =
-          leaf (resource_key p) (resource_entry x) (resource_entry z) st (resource_at f p x at) (same_resource at (record { name = name; alias = alias_roots x.alias z.alias h })) (alias_parts x.alias z.alias h) adds same
+          leaf (resource_key p) (resource_entry x) (resource_entry z) st (resource_at f p x at) (same_resource at (record { name = name; alias = alias_roots x.alias z.alias h })) (alias_parts x.alias z.alias h)
+          (λ r e. let same_id : p ≡ r = ap (λ (k : Key). k.id) e in subst (λ i. IsOwnerImported f s (owner_at f i)) same_id (alias_imported p x z.alias at h)) adds same
 
-      pub module_enters : (p : Id) (x : ModuleTree) → Stands f (module_key p) → slice_get f.modules p.index ≡ Some x → AddsEntry f s t (module_key p) (module_entry x) → t.shared ≡ s.shared → IsEntered class_of f s t (module_key p) (last_key s.own (module_entry x))
-      module_enters p x st at adds same = leaf (module_key p) (module_entry x) (module_entry x) st (module_at f p x at) (same_module at) no_keys adds same
+      pub module_enters : (p : Id) (x : ModuleTree) → Stands f (module_key p) → slice_get f.modules p.index ≡ Some x → AddsEntry f s t (module_key p) (module_entry x) → t.shared ≡ s.shared → IsEntered class_of f s t (module_key p) (last_key s.own (module_entry x)) × HasOwners f s (module_key p)
+      module_enters p x st at adds same = leaf (module_key p) (module_entry x) (module_entry x) st (module_at f p x at) (same_module at) no_keys (λ r e. absurd (let no : module_sort ≡ resource_sort = ap (λ (k : Key). k.sort) e in cc)) adds same
 
-      pub world_enters : (p : Id) (x z : WorldContent) → WorldIsTaken class_of f s p x z → AddsEntry f s t (world_key p) (world_entry z) → t.shared ≡ s.shared → IsEntered class_of f s t (world_key p) (last_key s.own (world_entry z))
-      world_enters p x z h adds same = world_goes class_of f s kept p x z h t adds same
+      pub world_enters : (p : Id) (x z : WorldContent) → WorldIsTaken class_of f s p x z → AddsEntry f s t (world_key p) (world_entry z) → t.shared ≡ s.shared → IsEntered class_of f s t (world_key p) (last_key s.own (world_entry z)) × HasOwners f s (world_key p)
+      world_enters p x z h adds same = (
+        world_goes class_of f s kept p x z h t adds same,
+        record { parts = λ j m. let o = taken_of class_of f s (open_next f (world_key p)) (other_keys (world_entry z)) j (world_parts class_of f s kept p x z h) m in (o.0, o.2.noted); self = λ r e. absurd (let no : world_sort ≡ resource_sort = ap (λ (k : Key). k.sort) e in cc) },
+      )
+
+    -- of an interface
+    pub interface_owners : IsKept s → (p : Id) (x z : InterfaceContent) → InterfaceIsTaken class_of f s p x z → HasOwners f s (interface_key p)
+    interface_owners kept p x z h = record { parts = λ j m. let o = taken_of class_of f s (open_next f (interface_key p)) (interface_keys z) j (interface_parts class_of f s kept p x z h) m in (o.0, o.2.noted); self = λ r e. absurd (let no : interface_sort ≡ resource_sort = ap (λ (k : Key). k.sort) e in cc) }

@@ -1,16 +1,20 @@
 -- Exports that are met one by one, and the shared entry that grows by them.
-use Rattle.std.proofs.Common.{◌≡◌, ◌++◌, Bool, true, false, cond, filter, List, [], ◌∷◌, map, Option, Some, None, String, Global, refl, ap, sym, subst, ◌∙◌}
+use Rattle.std.proofs.Common.{◌≡◌, ◌++◌, Bool, true, false, cond, filter, List, [], ◌∷◌, map, Option, Some, None, IfSome, String, Global, refl, ap, sym, subst, ◌∙◌}
 use Rattle.std.proofs.lemmas.Slice.Eq.{bytes_eq-Decides}
 use Rattle.std.proofs.lemmas.Map.Iter.{rest_so_far, rest_more}
 use Rattle.std.specs.Iterator.{Yields}
 use Rattle.std.specs.Map.{lookup as lookup_by}
 use Rattle.std.specs.Map.Iter.{TakesFirst}
-use Rattle.std.specs.Option.{option_or}
+use Rattle.std.proofs.lemmas.List.Elements.{All-head, All-tail}
+use Rattle.std.specs.Option.{option_or, option_map}
 use Rattle.std.specs.Str.{bytes_eq}
 use Rattle.indexmap.specs.IndexMap.{insert_entry}
 use Rattle.wac_model.specs.Text.{Text, lookup}
 use Rattle.wac_model.specs.CoreTree.{Serves}
+use Rattle.wac_model.specs.ItemTree.{ItemTree}
 use Rattle.wac_model.specs.Order.{Fits}
+use Rattle.wac_bounds.specs.Bounds.{IsLowerBound, IsMeetIfAny}
+use Rattle.wac_component.specs.Growth.{Extends}
 use Rattle.wac_model.proofs.ItemOrder.{Fits-refl}
 use Rattle.wac_component.specs.Collection.{Collection}
 use Rattle.wac_component.specs.Content.{named, use_content}
@@ -33,7 +37,7 @@ use Rattle.wac_narrowing.proofs.Building.{built_covered}
 use Rattle.wac_narrowing.proofs.Contents.{served_same}
 use Rattle.wac_narrowing.proofs.Mapped.{AreServed-trans}
 use Rattle.wac_narrowing.proofs.Steps.{IsStep-refl, IsStep-trans, building_steps}
-use Rattle.wac_taking.specs.Growing.{StepsOn, IsMetWith, AreMetWith}
+use Rattle.wac_taking.specs.Growing.{StepsOn, IsMetWith, IsMetIfAny, AreMetWith}
 
 -- ---- collections that are only added to
 
@@ -135,6 +139,17 @@ built_met c d o a b m sound sound_too only built sa sb sm fa fb = record {
   fits_second = fb;
   covered = λ ss g ha hb. built_covered c d o sound only sound_too ss a b m built sa sb ha hb;
 }
+
+-- where there is one, and where there is none
+pub built_if_any : (c d : Collection) (o : Origins) (a b : ItemKind) (r : Option ItemKind) → IsSound c → IsSound d → OnlyBuilds c d o → Extends c d → AllStand c (item_keys a) → AllStand c (item_keys b) → IfSome r (IsBuilt c d o a b) → IfSome r (λ m. AllStand d (item_keys m))
+    → IsMeetIfAny (option_map (item_tree d) r) (item_tree c a ∷ item_tree c b ∷ []) → IsMetIfAny c d a b r
+built_if_any c d o a b None sound sound_too only grows sa sb built st none =
+    (grows, λ t low. none t (subst (IsLowerBound t) (ap (λ x. x ∷ item_tree d b ∷ []) (grows.trees a sa) ∙ ap (λ x. item_tree c a ∷ x ∷ []) (grows.trees b sb)) low))
+built_if_any c d o a b (Some m) sound sound_too only grows sa sb built st meet =
+    let fits : ItemTree → Type 0 = λ t. Fits (item_tree d m) t in
+    built_met c d o a b m sound sound_too only built sa sb st
+    (All-head fits (item_tree c a) (item_tree c b ∷ []) meet.is_below)
+    (All-head fits (item_tree c b) [] (All-tail fits (item_tree c a) (item_tree c b ∷ []) meet.is_below))
 
 -- of exports with no others, with one, and with one more
 pub met_none : (c : Collection) (es : Externs) → AllStand c (extern_keys es) → AreMetWith c c es [] es

@@ -1,5 +1,5 @@
 -- A shared entry grows by an interface of which all parts were taken in.
-use Rattle.std.proofs.Common.{◌≡◌, refl, ap, sym, subst, ◌∙◌, List, Some, None, slice_get, Option}
+use Rattle.std.proofs.Common.{◌≡◌, refl, ap, sym, subst, ◌∙◌, List, Some, None, slice_get, Option, [], ◌∷◌, inl}
 use Rattle.std.specs.Option.{option_map}
 use Rattle.wac_model.specs.Text.{Text}
 use Rattle.wac_component.specs.Collection.{Collection, UseContent, InterfaceContent}
@@ -32,6 +32,7 @@ use Rattle.wac_copies.specs.declared.memo.Memo.{Memo}
 use Rattle.wac_taking.specs.Growing.{AreMetWith}
 use Rattle.wac_taking.specs.Takes.{shared_in, state_of, MayTake, MayPut, Takes}
 use Rattle.wac_taking.specs.declared.state.Merging.{Merging}
+use Rattle.wac_taking.proofs.Enters.{interface_owners}
 use Rattle.wac_taking.proofs.GrowLemmas.{covered_on, served_on}
 use Rattle.wac_taking.proofs.TakeLemmas.{lookup-shared, shared_stands, shared_covered, content_identifier, AreFiledIn-run, Takes-entered}
 
@@ -120,7 +121,7 @@ module _ (f : Collection) (a : Merging) (may : MayTake f a) (p e : Id) (name : T
   }
 
   pub Takes-grown : (w : Collection) (n : Memo) → ¬ (NamesReach d (interface_keys new) (interface_key e)) → w ≡ grown d e new → AddsPair (memo_of a.taken) (memo_of n) (interface_key p) (interface_key e)
-      → Takes f a (record a { types = w; taken = n }) (height f (interface_key p)) (λ t. IsTakenKey class_of f t (interface_key p) (interface_key e))
+      → Takes f a (record a { types = w; taken = n }) (height f (interface_key p)) (interface_key p ∷ []) (λ t. IsTakenKey class_of f t (interface_key p) (interface_key e))
   Takes-grown w n acyclic is adds =
       let filed = may.filed (class_of name) e shared in
       let own_is : old.id ≡ Some filed.0 = sym (content_identifier a.types e old was) ∙ filed.1 in
@@ -129,4 +130,5 @@ module _ (f : Collection) (a : Merging) (may : MayTake f a) (p e : Id) (name : T
       let enters = grown_interface_enters class_of f mid (run.kept may.kept) p put.content z (interface_taken_still f (state_of a) mid may.kept run p put.content z put.taken) t e old new name filed.0 theirs_is own_is filed.2 can
       (served_on a.types d met.on d new.exports es (Each-right (Stands a.types) (named_keys use_keys us) (extern_keys es) taken_named) met.serve_second) acyclic is refl refl refl put.taken.stands.0 adds in
       let whole = Runs-trans (RemembersTruly class_of) f (state_of a) mid t run enters.run in
-      Takes-entered f a (record a { types = w; taken = n }) (interface_key p) (interface_key e) adds (AreFiledIn-run f (state_of a) t a.shared.entries may.kept refl whole may.filed) (record { run = whole; taken = enters.taken })
+      Takes-entered f a (record a { types = w; taken = n }) (interface_key p) (interface_key e) put.taken.sound put.taken.stands adds refl (AreFiledIn-run f (state_of a) t a.shared.entries may.kept refl whole may.filed) (λ k m. inl m)
+      (interface_owners f (state_of a) put.taken.sound may.kept p put.content z put.taken) (record { run = whole; taken = enters.taken })

@@ -4,3 +4,4 @@ pub mod Grows
 pub mod Parts
 pub mod Arms
 pub mod Enters
+pub mod Within

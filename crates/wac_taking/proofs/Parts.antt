@@ -1,11 +1,12 @@
 -- What was taken in, among the parts of what is taken in.
-use Rattle.std.proofs.Common.{◌≡◌, List, [], ◌∷◌, Option, refl, ap, sym, subst, ◌∙◌}
+use Rattle.std.proofs.Common.{◌≡◌, List, [], ◌∷◌, Option, refl, ap, sym, subst, ◌∙◌, None, Some, IsSome}
 use Rattle.wac_model.specs.Text.{Text}
 use Rattle.wac_model.specs.ItemTree.{Kind, item, type_item, resource, value}
 use Rattle.wac_model.specs.ValueTree.{ValueTree}
 use Rattle.wac_model.proofs.ItemOrder.{Fits-refl, leaf_fits}
 use Rattle.wac_component.specs.Id.{Id}
 use Rattle.wac_component.specs.Collection.{Collection, AliasContent, UseContent}
+use Rattle.wac_component.specs.Entries.{identifier_at}
 use Rattle.wac_component.specs.Key.{Key, Each, optional_keys, item_keys, defined_key, resource_key, interface_key}
 use Rattle.wac_component.specs.Tree.{item_tree, value_tree, root_name}
 use Rattle.wac_component.specs.declared.items.ItemKind.{ItemKind}
@@ -21,7 +22,7 @@ use Rattle.wac_narrowing.specs.Taking.{AreMapped, AreTakenKeys, no_keys, one_key
 use Rattle.wac_narrowing.specs.Values.{IsTakenValue, IfAny, neither, both}
 use Rattle.wac_narrowing.proofs.Mapped.{mapped_more, taken_append, taken_key_still, taken_item_still}
 use Rattle.wac_narrowing.proofs.Values.{any_more, taken_value_still}
-use Rattle.wac_taking.specs.Takes.{IsTakenAlias, IsTakenUse}
+use Rattle.wac_taking.specs.Takes.{IsTakenAlias, IsTakenOwner, IsTakenUse}
 
 module _ (f : Collection) (t : State) where
   -- an entry as an item
@@ -64,10 +65,22 @@ module _ (f : Collection) (t : State) where
   defined_of_taken p q h = record { stands = (h.remembered.stands_for.own_stands, tt); same = same_defined p q h; keys = one_key h no_keys }
 
   -- an alias of an owner, if there is one, and of a source
-  pub alias_of_taken : (a b : AliasContent) → IfAny (λ p q. IsTakenKey class_of f t (interface_key p) (interface_key q)) a.owner b.owner → IsTakenKey class_of f t (resource_key a.source) (resource_key b.source) → IsTakenAlias f t a b
+  -- an owner that was taken in and is imported
+  pub owner_taken : (o own : Id) (n : Text) → identifier_at f (interface_key o) ≡ Some n → IsTakenKey class_of f t (interface_key o) (interface_key own) → IsSome (t.imports n) → IsTakenOwner f (Some o) (Some own) t
+  owner_taken o own n identified h imported = record { taken = both h; imported = named }
+    where
+      named : (i : Id) (m : Text) → Some o ≡ Some i → identifier_at f (interface_key i) ≡ Some m → IsSome (t.imports m)
+      named i m is at =
+          let same : o ≡ i = cc in
+          let names : Some n ≡ Some m = sym identified ∙ ap (λ j. identifier_at f (interface_key j)) same ∙ at in
+          let equal : n ≡ m = cc in
+          subst (λ x. IsSome (t.imports x)) equal imported
+
+  pub alias_of_taken : (a b : AliasContent) → IsTakenOwner f a.owner b.owner t → IsTakenKey class_of f t (resource_key a.source) (resource_key b.source) → IsTakenAlias f t a b
   alias_of_taken a b o h = record {
-    keys = taken_append class_of f t (optional_keys (λ p. interface_key p ∷ []) a.owner) (optional_keys (λ p. interface_key p ∷ []) b.owner) (resource_key a.source ∷ []) (resource_key b.source ∷ []) (owner_keys a.owner b.owner o) (one_key h no_keys);
+    keys = taken_append class_of f t (optional_keys (λ p. interface_key p ∷ []) a.owner) (optional_keys (λ p. interface_key p ∷ []) b.owner) (resource_key a.source ∷ []) (resource_key b.source ∷ []) (owner_keys a.owner b.owner o.taken) (one_key h no_keys);
     source = same_root a.source b.source h;
+    owner = o.imported;
   }
     where
       owner_keys : (x y : Option Id) → IfAny (λ p q. IsTakenKey class_of f t (interface_key p) (interface_key q)) x y → AreTakenKeys class_of f t (optional_keys (λ p. interface_key p ∷ []) x) (optional_keys (λ p. interface_key p ∷ []) y)
@@ -76,9 +89,20 @@ module _ (f : Collection) (t : State) where
 
 -- what was taken in is so after every run
 module _ (f : Collection) (s t : State) (kept : IsKept s) (IsTrue : Collection → State → Type 0) (e : Collection) (run : Runs IsTrue e s t) where
-  pub owner_still : (x y : Option Id) → IfAny (λ p q. IsTakenKey class_of f s (interface_key p) (interface_key q)) x y → IfAny (λ p q. IsTakenKey class_of f t (interface_key p) (interface_key q)) x y
-  owner_still x y neither = neither
-  owner_still x y (both {x = p} {y = q} h) = both (taken_key_still class_of f s t kept IsTrue e run (interface_key p) (interface_key q) h)
+  keys_still : (x y : Option Id) → IfAny (λ p q. IsTakenKey class_of f s (interface_key p) (interface_key q)) x y → IfAny (λ p q. IsTakenKey class_of f t (interface_key p) (interface_key q)) x y
+  keys_still x y neither = neither
+  keys_still x y (both {x = p} {y = q} h) = both (taken_key_still class_of f s t kept IsTrue e run (interface_key p) (interface_key q) h)
+
+  -- an import that there was
+  pub some_still : (n : Text) → IsSome (s.imports n) → IsSome (t.imports n)
+  some_still n h = at (s.imports n) refl h
+    where
+      at : (o : Option ItemKind) → s.imports n ≡ o → IsSome o → IsSome (t.imports n)
+      at None is k = absurd (cc)
+      at (Some x) is k = rw ((run.imports kept n x is).is) refl
+
+  pub owner_still : (x y : Option Id) → IsTakenOwner f x y s → IsTakenOwner f x y t
+  owner_still x y h = record { taken = keys_still x y h.taken; imported = λ i n is named. some_still n (h.imported i n is named) }
 
   pub use_still : (u v : UseContent) → IsTakenUse f s u v → IsTakenUse f t u v
   use_still u v h = record { name = h.name; interface = taken_key_still class_of f s t kept IsTrue e run (interface_key u.interface) (interface_key v.interface) h.interface }

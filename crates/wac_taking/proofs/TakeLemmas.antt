@@ -1,15 +1,19 @@
 -- One taking in after another.
-use Rattle.std.proofs.Common.{◌≡◌, ◌≤◌, ◌++◌, ◌⊎◌, ℕ, Bool, true, false, cond, List, [], ◌∷◌, Option, Some, None, slice_get, string_bytes, String, Global, inl, inr, refl, ap, sym, subst, ◌∙◌, arith}
+use Rattle.std.proofs.Common.{◌≡◌, ◌≤◌, ◌++◌, ◌⊎◌, ℕ, IsSome, Bool, true, false, cond, List, [], ◌∷◌, Option, Some, None, slice_get, string_bytes, String, Global, inl, inr, refl, ap, sym, subst, ◌∙◌, arith}
 use Rattle.std.specs.Map.{lookup, update}
 use Rattle.std.specs.Option.{option_map, option_map_or, is_some}
 use Rattle.wac_model.specs.Text.{Text}
 use Rattle.wac_component.specs.Collection.{Collection, UseContent, InterfaceContent}
-use Rattle.wac_component.specs.Entries.{entry_identifier, identifier_at}
+use Rattle.wac_component.specs.Entries.{entry_identifier, identifier_at, owner_at}
 use Rattle.wac_component.specs.Growth.{with_entry}
 use Rattle.wac_component.specs.Height.{height}
 use Rattle.wac_component.specs.Id.{Id}
-use Rattle.wac_component.specs.Key.{Key, Entry, Each, Stands, AllStand, item_keys, interface_key}
+use Rattle.wac_component.specs.Key.{Key, Entry, Each, Stands, AllStand, item_keys, resource_key, interface_key}
+use Rattle.wac_component.specs.Open.{open_next, OpenReaches, stay, step}
+use Rattle.wac_component.specs.Sound.{IsSound}
 use Rattle.wac_component.specs.declared.items.ItemKind.{ItemKind}
+use Rattle.wac_component.specs.declared.items.ItemKind.TheVariants.{Instance}
+use Rattle.wac_component.proofs.OpenWalks.{opens_stand}
 use Rattle.wac_component.specs.Reach.{IsAmong, here, there}
 use Rattle.wac_component.proofs.Among.{among_each}
 use Rattle.wac_component.proofs.Reading.{interface_at}
@@ -19,7 +23,7 @@ use Rattle.wac_names.proofs.Classes.{classes_decided}
 use Rattle.wac_narrowing.specs.Last.{last_key}
 use Rattle.wac_narrowing.specs.Narrows.{AddsShared}
 use Rattle.wac_narrowing.specs.Remembers.{RemembersTruly}
-use Rattle.wac_narrowing.specs.State.{State, AddsPair, IsKept, Runs}
+use Rattle.wac_narrowing.specs.State.{State, Memo as Remembered, AddsPair, IsKept, IsOneWith, Runs}
 use Rattle.wac_narrowing.specs.Taking.{IsTakenKey}
 use Rattle.wac_narrowing.specs.Identified.{IsCovered}
 use Rattle.wac_narrowing.specs.Imports.{IsImportFor}
@@ -28,8 +32,9 @@ use Rattle.wac_imports.specs.Import.{ImportContent, ImportsContent, import_of, i
 use Rattle.wac_copies.specs.Copies.{MayCopy, Copies, moved}
 use Rattle.wac_copies.specs.Memo.{memo_of}
 use Rattle.wac_copies.specs.declared.memo.Memo.{Memo}
-use Rattle.wac_taking.specs.Takes.{shared_keys, shared_in, state_of, AreFiledIn, MayTake, Takes}
+use Rattle.wac_taking.specs.Takes.{shared_keys, shared_in, state_of, AreFiledIn, MayTake, AreWithin, LeadsToOwner, OwnersImported, IsOwnersImport, IsSharedFrom, IsOwnerImported, Takes}
 use Rattle.wac_taking.specs.declared.state.Merging.{Merging}
+use Rattle.wac_taking.proofs.Within.{within_all, openly_within, leads_within}
 
 -- what is found is shared
 pub lookup-shared : (q : Class) (ss : List (Class × Id)) (i : Id) → lookup (class_eq q) ss ≡ Some i → IsAmong (interface_key i) (shared_keys ss)
@@ -60,46 +65,112 @@ pub taken_as : (f : Collection) (s : State) (p : Id) (x : InterfaceContent) (us 
     → InterfaceIsTaken class_of f s p x (record { id = o; uses = us; exports = es })
 taken_as f s p x us es o h = record { sound = h.sound; stands = h.stands; entry = h.entry; names = h.names; uses = h.uses; exports = h.exports }
 
+-- ---- what is imported and shared, while more is
+
+-- after a run, what is said of an owner's import, and of a new shared entry, is so still
+module _ (f : Collection) (b c : Merging) (kept : IsKept (state_of b)) (run : Runs (RemembersTruly class_of) f (state_of b) (state_of c)) where
+  still_named : (e : Key) (n : Text) → IsAmong e (shared_keys b.shared.entries) → identifier_at b.types e ≡ Some n → identifier_at c.types e ≡ Some n
+  still_named e n among is = (run.stops kept).identifiers e (shared_stands (state_of b) kept e among) ∙ is
+
+  pub owners_import_still : (ks : List Key) (q : Class) (n : Text) → IsOwnersImport f ks b q n → IsOwnersImport f ks c q n
+  owners_import_still ks q n h = record {
+    from = h.from;
+    among = h.among;
+    owner_name = h.owner_name;
+    leads = h.leads;
+    on_track = h.on_track;
+    entry = h.entry;
+    is_shared = (run.stops kept).shared h.entry h.is_shared;
+    named = still_named h.entry n h.is_shared h.named;
+  }
+
+  pub shared_from_still : (ks : List Key) (e : Key) → IsAmong e (shared_keys b.shared.entries) → IsSharedFrom f ks b e → IsSharedFrom f ks c e
+  shared_from_still ks e among h = record { theirs = h.theirs; name = h.name; walk = h.walk; identified = h.identified; own_identified = still_named e h.name among h.own_identified }
+
+-- the same of more ids
+module _ (f : Collection) (b : Merging) (ks js : List Key) (within : AreWithin f ks js) where
+  pub owners_import_within : (q : Class) (n : Text) → IsOwnersImport f ks b q n → IsOwnersImport f js b q n
+  owners_import_within q n h =
+      let l = leads_within f h.from ks js h.owner_name within h.among h.leads in
+      record { from = l.0; among = l.1; owner_name = h.owner_name; leads = l.2; on_track = h.on_track; entry = h.entry; is_shared = h.is_shared; named = h.named }
+
+  pub shared_from_within : (e : Key) → IsSharedFrom f ks b e → IsSharedFrom f js b e
+  shared_from_within e h = record { theirs = h.theirs; name = h.name; walk = openly_within f ks js h.theirs within h.walk; identified = h.identified; own_identified = h.own_identified }
+
+-- ---- takings
+
 module _ (f : Collection) where
-  pub MayTake-Takes : (a b : Merging) (top : ℕ) (Q : State → Type 0) → MayTake f a → Takes f a b top Q → MayTake f b
-  MayTake-Takes a b top Q may h = record { kept = h.run.kept may.kept; truly = h.run.truly may.kept f (λ e. refl) may.truly; filed = h.filed }
+  pub MayTake-Takes : (a b : Merging) (top : ℕ) (ks : List Key) (Q : State → Type 0) → MayTake f a → Takes f a b top ks Q → MayTake f b
+  MayTake-Takes a b top ks Q may h = record { kept = h.run.kept may.kept; truly = h.run.truly may.kept f (λ e. refl) may.truly; filed = h.filed }
 
   -- nothing is taken in
-  pub Takes-none : (a : Merging) (top : ℕ) (Q : State → Type 0) → MayTake f a → Q (state_of a) → Takes f a a top Q
-  Takes-none a top Q may q = record { low = λ k above none. none; run = Runs-refl (RemembersTruly class_of) f (state_of a); filed = may.filed; holds = q }
+  pub Takes-none : (a : Merging) (top : ℕ) (ks : List Key) (Q : State → Type 0) → MayTake f a → Q (state_of a) → Takes f a a top ks Q
+  Takes-none a top ks Q may q = record {
+    low = λ k above none. none;
+    run = Runs-refl (RemembersTruly class_of) f (state_of a);
+    filed = may.filed;
+    owners = λ g one h. h;
+    led = refl;
+    stays = λ c i is. is;
+    due = λ c i is. inl is;
+    shares = λ e among. inl among;
+    holds = q;
+  }
 
-  -- the same, with another fact, below a greater height
-  pub Takes-more : (a b : Merging) (top more : ℕ) (Q P : State → Type 0) → top ≤ more → MayTake f a → ((t : State) → IsKept t → Q t → P t) → Takes f a b top Q → Takes f a b more P
-  Takes-more a b top more Q P low may p h = record {
+  -- the same, with another fact, below a greater height, and of more ids
+  pub Takes-more : (a b : Merging) (top more : ℕ) (ks js : List Key) (Q P : State → Type 0) → top ≤ more → AreWithin f ks js → MayTake f a → ((t : State) → IsKept t → Q t → P t) → Takes f a b top ks Q → Takes f a b more js P
+  Takes-more a b top more ks js Q P low within may p h = record {
     low = λ k above none. h.low k (omega (arith, low, above)) none;
     run = h.run;
     filed = h.filed;
+    owners = h.owners;
+    led = h.led;
+    stays = h.stays;
+    due = λ q i is. elim (h.due q i is) [ inl was ↦ inl was | inr new ↦ inr (owners_import_within f b ks js within q i.0 new) ];
+    shares = λ e among. elim (h.shares e among) [ inl was ↦ inl was | inr new ↦ inr (shared_from_within f b ks js within e new) ];
     holds = p (state_of b) (h.run.kept may.kept) h.holds;
   }
 
   -- one after another: a fact that every run keeps stands beside the second
-  pub Takes-then : (a b c : Merging) (top more most : ℕ) (Q P : State → Type 0) → top ≤ most → more ≤ most → MayTake f a
-      → ((s t : State) → IsKept s → Runs (RemembersTruly class_of) f s t → Q s → Q t) → Takes f a b top Q → Takes f b c more P → Takes f a c most (λ t. Q t × P t)
-  Takes-then a b c top more most Q P low below may stays g h = record {
-    low = λ k above none. h.low k (omega (arith, below, above)) (g.low k (omega (arith, low, above)) none);
-    run = Runs-trans (RemembersTruly class_of) f (state_of a) (state_of b) (state_of c) g.run h.run;
-    filed = h.filed;
-    holds = (stays (state_of b) (state_of c) (g.run.kept may.kept) h.run g.holds, h.holds);
-  }
+  pub Takes-then : (a b c : Merging) (top more most : ℕ) (ks js ls : List Key) (Q P : State → Type 0) → top ≤ most → more ≤ most → AreWithin f ks ls → AreWithin f js ls → MayTake f a
+      → ((s t : State) → IsKept s → Runs (RemembersTruly class_of) f s t → Q s → Q t) → Takes f a b top ks Q → Takes f b c more js P → Takes f a c most ls (λ t. Q t × P t)
+  Takes-then a b c top more most ks js ls Q P low below first second may stays g h =
+      let kept = g.run.kept may.kept in
+      record {
+        low = λ k above none. h.low k (omega (arith, below, above)) (g.low k (omega (arith, low, above)) none);
+        run = Runs-trans (RemembersTruly class_of) f (state_of a) (state_of b) (state_of c) g.run h.run;
+        filed = h.filed;
+        owners = λ e one k. h.owners e one (g.owners e one k);
+        led = h.led ∙ g.led;
+        stays = λ q i is. h.stays q i (g.stays q i is);
+        due = λ q i is. elim (h.due q i is) [
+          | inl was ↦ elim (g.due q i was) [
+            | inl old ↦ inl old
+            | inr new ↦ inr (owners_import_within f c ks ls first q i.0 (owners_import_still f b c kept h.run ks q i.0 new))
+          ]
+          | inr new ↦ inr (owners_import_within f c js ls second q i.0 new)
+        ];
+        shares = λ e among. elim (h.shares e among) [
+          | inl was ↦ elim (g.shares e was) [
+            | inl old ↦ inl old
+            | inr new ↦ inr (shared_from_within f c ks ls first e (shared_from_still f b c kept h.run ks e was new))
+          ]
+          | inr new ↦ inr (shared_from_within f c js ls second e new)
+        ];
+        holds = (stays (state_of b) (state_of c) kept h.run g.holds, h.holds);
+      }
 
   -- the second alone, where nothing is asked of the first
-  pub Takes-after : (a b c : Merging) (low top : ℕ) (Q P : State → Type 0) → low ≤ top → Takes f a b low Q → Takes f b c top P → Takes f a c top P
-  Takes-after a b c low top Q P below g h = record {
-    low = λ k above none. h.low k above (g.low k (omega (arith, below, above)) none);
-    run = Runs-trans (RemembersTruly class_of) f (state_of a) (state_of b) (state_of c) g.run h.run;
-    filed = h.filed;
-    holds = h.holds;
-  }
+  pub Takes-after : (a b c : Merging) (low top : ℕ) (ks ls : List Key) (Q P : State → Type 0) → low ≤ top → AreWithin f ks ls → MayTake f a → Takes f a b low ks Q → Takes f b c top ls P → Takes f a c top ls P
+  Takes-after a b c low top ks ls Q P below first may g h =
+      Takes-more a c top top ls ls (λ t. Unit {0} × P t) P (omega arith) (within_all f ls) may (λ t kept q. q.1)
+      (Takes-then a b c top top top ls ls ls (λ t. Unit {0}) P (omega arith) (omega arith) (within_all f ls) (within_all f ls) may (λ s t kept run q. q) (Takes-more a b low top ks ls Q (λ t. Unit {0}) below first may (λ t kept q. tt) g) h)
 
   -- it was taken in before
-  pub Takes-hit : (a : Merging) (theirs own : Key) (top : ℕ) → MayTake f a → theirs.id.number ≡ f.number → memo_of a.taken theirs ≡ Some own → Takes f a a top (λ t. IsTakenKey class_of f t theirs own)
-  Takes-hit a theirs own top may number is = Takes-none a top (λ t. IsTakenKey class_of f t theirs own) may record {
+  pub Takes-hit : (a : Merging) (theirs own : Key) (top : ℕ) → MayTake f a → theirs.id.number ≡ f.number → memo_of a.taken theirs ≡ Some own → Takes f a a top (theirs ∷ []) (λ t. IsTakenKey class_of f t theirs own)
+  Takes-hit a theirs own top may number is = Takes-none a top (theirs ∷ []) (λ t. IsTakenKey class_of f t theirs own) may record {
     remembered = may.truly.taken theirs own is number;
+    noted = is;
     covered = (may.kept.taken theirs own is).1;
     closed = λ t n walk at. may.truly.closed theirs own t n is number walk at;
   }
@@ -115,57 +186,84 @@ module _ (f : Collection) where
   pub MayTake-copies : (a : Merging) → MayTake f a → MayCopy f a.types a.copies
   MayTake-copies a may = record { state = state_of a; is = record { own = refl; copies = refl; kept = may.kept; truly = may.truly } }
 
-  pub Takes-copied : (a : Merging) (d : Collection) (n : Memo) (top : ℕ) (Q : State → Type 0) → MayTake f a → Copies f a.types a.copies d n top Q → Takes f a (record a { types = d; copies = n }) top Q
-  Takes-copied a d n top Q may h =
+  pub Takes-copied : (a : Merging) (d : Collection) (n : Memo) (top : ℕ) (ks : List Key) (Q : State → Type 0) → MayTake f a → Copies f a.types a.copies d n top Q → Takes f a (record a { types = d; copies = n }) top ks Q
+  Takes-copied a d n top ks Q may h =
       let r = h.runs (state_of a) (record { own = refl; copies = refl; kept = may.kept; truly = may.truly }) in
       record {
         low = λ k above none. none;
         run = r.0;
         filed = AreFiledIn-run (state_of a) (moved (state_of a) d n) a.shared.entries may.kept refl r.0 may.filed;
+        owners = λ g one h. h;
+        led = refl;
+        stays = λ c i is. is;
+        due = λ c i is. inl is;
+        shares = λ e among. inl among;
         holds = r.1;
       }
 
-  -- once its parts were taken in, an entry is added and noted
-  pub Takes-enter : (a b c : Merging) (theirs own : Key) (z : Entry) (low : ℕ) (Q : State → Type 0) → MayTake f a → theirs.id.number ≡ f.number → low ≤ height f theirs
-      → Takes f a b low Q → c ≡ record b { types = c.types; taken = c.taken } → c.types ≡ with_entry b.types z → own ≡ last_key b.types z → AddsPair (memo_of b.taken) (memo_of c.taken) theirs own
-      → ((t : State) → IsKept (state_of b) → Q (state_of b) → AddsEntry f (state_of b) t theirs z → t.shared ≡ (state_of b).shared → IsEntered class_of f (state_of b) t theirs (last_key b.types z))
-      → Takes f a c (height f theirs) (λ t. IsTakenKey class_of f t theirs own)
-  Takes-enter a b c theirs own z low Q may number below g same added last adds enters =
-      let shared : c.shared ≡ b.shared = ap (λ (m : Merging). m.shared) same in
-      let kept = g.run.kept may.kept in
-      let adds_entry : AddsEntry f (state_of b) (state_of c) theirs z = record { own = added; imports = ap (λ (m : Merging). (state_of m).imports) same; copies = ap (λ (m : Merging). (state_of m).copies) same; number = number; remembers = subst (AddsPair (memo_of b.taken) (memo_of c.taken) theirs) last adds } in
-      let shared_too : (state_of c).shared ≡ (state_of b).shared = ap (λ (m : Merging). (state_of m).shared) same in
-      let in_to = enters (state_of c) kept g.holds adds_entry shared_too in
-      record {
-        low = λ k above absent. still_none k (λ e. omega (arith, above, ap (height f) e)) (g.low k (omega (arith, below, above)) absent) (memo_of c.taken k) refl;
-        run = Runs-trans (RemembersTruly class_of) f (state_of a) (state_of b) (state_of c) g.run in_to.run;
-        filed = subst (λ (ss : List (Class × Id)). AreFiledIn c.types ss) (ap (λ (m : Merging). m.shared.entries) (sym same)) (AreFiledIn-run (state_of b) (state_of c) b.shared.entries kept refl in_to.run g.filed);
-        holds = subst (λ k. IsTakenKey class_of f (state_of c) theirs k) (sym last) in_to.taken;
-      }
-    where
-      still_none : (k : Key) → ¬ (k ≡ theirs) → memo_of b.taken k ≡ None → (x : Option Key) → memo_of c.taken k ≡ x → memo_of c.taken k ≡ None
-      still_none k other absent None at = at
-      still_none k other absent (Some x) at = elim (adds.only k x at) [
-        | inl e ↦ absurd (other e.0)
-        | inr stood ↦ absurd (let both : None ≡ Some x = sym absent ∙ stood in cc)
-      ]
+  -- what an id openly names was taken in, and its owner, if it is a resource that has one, is imported
+  pub record HasOwners (s : State) (theirs : Key) : Type 0 where
+    pub parts : (j : Key) → IsAmong j (open_next f theirs) → (o : Key) × (s.taken j ≡ Some o)
+    pub self : (r : Id) → theirs ≡ resource_key r → IsOwnerImported f s (owner_at f r)
 
-  -- what was taken in entered
-  pub Takes-entered : (a c : Merging) (theirs own : Key) → AddsPair (memo_of a.taken) (memo_of c.taken) theirs own → AreFiledIn c.types c.shared.entries → IsEntered class_of f (state_of a) (state_of c) theirs own
-      → Takes f a c (height f theirs) (λ t. IsTakenKey class_of f t theirs own)
-  Takes-entered a c theirs own adds filed in_to = record {
-    low = λ k above absent. still_none k (λ e. omega (arith, above, ap (height f) e)) absent (memo_of c.taken k) refl;
+  -- then its owners are imported, once it is noted
+  module _ (sound : IsSound f) (a c : Merging) (theirs own : Key) (stands : Stands f theirs) (has : HasOwners (state_of a) theirs) (adds : AddsPair (memo_of a.taken) (memo_of c.taken) theirs own) (same : (n : Text) → IsSome (import_at a.imports n) → IsSome (import_at c.imports n)) where
+    of_theirs : (n : Text) → OwnersImported f (state_of a) → LeadsToOwner f theirs n → IsSome (import_at c.imports n)
+    of_theirs n h l = by_walk theirs (resource_key l.resource) refl refl l.walk
+      where
+        by_walk : (k t : Key) → k ≡ theirs → t ≡ resource_key l.resource → OpenReaches f k t → IsSome (import_at c.imports n)
+        by_walk k t is at stay = same n (has.self l.resource (sym is ∙ at) l.owner n l.owned l.identified)
+        by_walk k t is at (step {j = j} m w) =
+            let among = subst (λ x. IsAmong j (open_next f x)) is m in
+            let part = has.parts j among in
+            same n (h j part.0 n part.1 (opens_stand f sound theirs j stands (step among stay)).0 (record { resource = l.resource; owner = l.owner; walk = subst (λ x. OpenReaches f j x) at w; owned = l.owned; identified = l.identified }))
+
+    pub owners_enter : (g : Collection) → IsOneWith f g → OwnersImported g (state_of a) → OwnersImported g (state_of c)
+    owners_enter g one h k o n is number l = elim (adds.only k o is) [
+      | inl e ↦ by_pair e.0 (one (sym number ∙ ap (λ (x : Key). x.id.number) e.0 ∙ stands.0))
+      | inr was ↦ same n (h k o n was number l)
+    ]
+      where
+        by_pair : k ≡ theirs → g ≡ f → IsSome (import_at c.imports n)
+        by_pair e is_f = of_theirs n (subst (λ x. OwnersImported x (state_of a)) is_f h) (subst (λ x. LeadsToOwner f x n) e (subst (λ x. LeadsToOwner x k n) is_f l))
+
+  -- what was noted before is, once one more is
+  still_none : (before now : Remembered) (theirs own k : Key) → AddsPair before now theirs own → ¬ (k ≡ theirs) → before k ≡ None → (x : Option Key) → now k ≡ x → now k ≡ None
+  still_none before now theirs own k adds other absent None at = at
+  still_none before now theirs own k adds other absent (Some x) at = elim (adds.only k x at) [
+    | inl e ↦ absurd (other e.0)
+    | inr stood ↦ absurd (let both : None ≡ Some x = sym absent ∙ stood in cc)
+  ]
+
+  -- what was taken in entered, and nothing was imported
+  pub Takes-entered : (a c : Merging) (theirs own : Key) → IsSound f → Stands f theirs → AddsPair (memo_of a.taken) (memo_of c.taken) theirs own → c.imports ≡ a.imports → AreFiledIn c.types c.shared.entries
+      → ((e : Key) → IsAmong e (shared_keys c.shared.entries) → IsAmong e (shared_keys a.shared.entries) ⊎ IsSharedFrom f (theirs ∷ []) c e)
+      → HasOwners (state_of a) theirs → IsEntered class_of f (state_of a) (state_of c) theirs own → Takes f a c (height f theirs) (theirs ∷ []) (λ t. IsTakenKey class_of f t theirs own)
+  Takes-entered a c theirs own sound stands adds same filed shares has in_to = record {
+    low = λ k above absent. still_none (memo_of a.taken) (memo_of c.taken) theirs own k adds (λ e. omega (arith, above, ap (height f) e)) absent (memo_of c.taken k) refl;
     run = in_to.run;
     filed = filed;
+    owners = owners_enter sound a c theirs own stands has adds (λ n h. subst (λ is. IsSome (import_at is n)) (sym same) h);
+    led = ap (λ (is : ImportsContent). is.led) same;
+    stays = λ q i is. ap (λ s. import_of s q) same ∙ is;
+    due = λ q i is. inl (ap (λ s. import_of s q) (sym same) ∙ is);
+    shares = shares;
     holds = in_to.taken;
   }
-    where
-      still_none : (k : Key) → ¬ (k ≡ theirs) → memo_of a.taken k ≡ None → (x : Option Key) → memo_of c.taken k ≡ x → memo_of c.taken k ≡ None
-      still_none k other absent None at = at
-      still_none k other absent (Some x) at = elim (adds.only k x at) [
-        | inl e ↦ absurd (other e.0)
-        | inr stood ↦ absurd (let both : None ≡ Some x = sym absent ∙ stood in cc)
-      ]
+
+  -- once its parts were taken in, an entry is added and noted
+  pub Takes-enter : (a b c : Merging) (theirs own : Key) (z : Entry) (low : ℕ) (ks : List Key) (Q : State → Type 0) → MayTake f a → IsSound f → Stands f theirs → low ≤ height f theirs → AreWithin f ks (theirs ∷ [])
+      → Takes f a b low ks Q → c ≡ record b { types = c.types; taken = c.taken } → c.types ≡ with_entry b.types z → own ≡ last_key b.types z → AddsPair (memo_of b.taken) (memo_of c.taken) theirs own
+      → ((t : State) → IsKept (state_of b) → Q (state_of b) → AddsEntry f (state_of b) t theirs z → t.shared ≡ (state_of b).shared → IsEntered class_of f (state_of b) t theirs (last_key b.types z) × HasOwners (state_of b) theirs)
+      → Takes f a c (height f theirs) (theirs ∷ []) (λ t. IsTakenKey class_of f t theirs own)
+  Takes-enter a b c theirs own z low ks Q may sound stands below within g same added last adds enters =
+      let kept = g.run.kept may.kept in
+      let adds_entry : AddsEntry f (state_of b) (state_of c) theirs z = record { own = added; imports = ap (λ (m : Merging). (state_of m).imports) same; copies = ap (λ (m : Merging). (state_of m).copies) same; number = stands.0; remembers = subst (AddsPair (memo_of b.taken) (memo_of c.taken) theirs) last adds } in
+      let in_to = enters (state_of c) kept g.holds adds_entry (ap (λ (m : Merging). (state_of m).shared) same) in
+      let filed : AreFiledIn c.types c.shared.entries = subst (λ (ss : List (Class × Id)). AreFiledIn c.types ss) (ap (λ (m : Merging). m.shared.entries) (sym same)) (AreFiledIn-run (state_of b) (state_of c) b.shared.entries kept refl in_to.0.run g.filed) in
+      Takes-after a b c low (height f theirs) ks (theirs ∷ []) Q (λ t. IsTakenKey class_of f t theirs own) below within may g
+      (Takes-entered b c theirs own sound stands adds (ap (λ (m : Merging). m.imports) same) filed (λ e among. inl (subst (IsAmong e) (ap (λ (m : Merging). shared_keys m.shared.entries) same) among)) in_to.1
+      (subst (λ k. IsEntered class_of f (state_of b) (state_of c) theirs k) (sym last) in_to.0))
 
   -- shared entries stay filed where one is added, under the class of its identifier
   pub AreFiledIn-put : (s t : State) (ss ts : List (Class × Id)) (q : Class) (i : Id) (n : Text) → IsKept s → s.shared ≡ shared_keys ss → Runs (RemembersTruly class_of) f s t → identifier_at t.own (interface_key i) ≡ Some n → class_of n ≡ q
@@ -176,33 +274,70 @@ module _ (f : Collection) where
       by true e h = let same : i ≡ j = cc in (n, ap (λ k. identifier_at t.own (interface_key k)) (sym same) ∙ identified, of ∙ (classes_decided q r).0 e)
       by false e h = AreFiledIn-run s t ss kept shared run filed r j h
 
-  -- an import is put where there was none on the class of its name
-  module _ (a : Merging) (is : ImportsContent) (q : Class) (name : Text) (k : ItemKind) (puts : PutsImport a.imports is q (name, k)) (new : import_of a.imports q ≡ None) where
-    import_now : (P : ItemKind → Type 0) → P k → ((n : Text) (x : ItemKind) → import_at a.imports n ≡ Some x → P x) → (n : Text) (x : ItemKind) → import_at is n ≡ Some x → P x
+  -- an owner is imported, under the identifier of a shared entry, where there was no import on the class of that
+  module _ (a : Merging) (is : ImportsContent) (q : Class) (name : Text) (own : Id) (puts : PutsImport a.imports is q (name, Instance own)) (led : is.led ≡ a.imports.led) (new : import_of a.imports q ≡ None) where
+    b : Merging
+    b = record a { imports = is }
+
+    import_now : (P : ItemKind → Type 0) → P (Instance own) → ((n : Text) (x : ItemKind) → import_at a.imports n ≡ Some x → P x) → (n : Text) (x : ItemKind) → import_at is n ≡ Some x → P x
     import_now P its before n x at = by (class_eq q (class_of n)) (ap (option_map (λ (i : ImportContent). i.1)) (sym (puts (class_of n))) ∙ at)
       where
-        by : (b : Bool) → option_map (λ (i : ImportContent). i.1) (cond b (Some (name, k)) (import_of a.imports (class_of n))) ≡ Some x → P x
-        by true e = let same : k ≡ x = cc in subst P same its
+        by : (t : Bool) → option_map (λ (i : ImportContent). i.1) (cond t (Some (name, Instance own)) (import_of a.imports (class_of n))) ≡ Some x → P x
+        by true e = let same : Instance own ≡ x = cc in subst P same its
         by false e = before n x e
 
-    import_kept : (n : Text) (x : ItemKind) → import_at a.imports n ≡ Some x → import_at is n ≡ import_at a.imports n
-    import_kept n x at = ap (option_map (λ (i : ImportContent). i.1)) (puts (class_of n)) ∙ by (class_eq q (class_of n)) refl
+    -- each class keeps the import that it had
+    kept_of : (r : Class) (i : ImportContent) → import_of a.imports r ≡ Some i → import_of is r ≡ Some i
+    kept_of r i at = puts r ∙ by (class_eq q r) refl
       where
-        by : (b : Bool) → class_eq q (class_of n) ≡ b → option_map (λ (i : ImportContent). i.1) (cond b (Some (name, k)) (import_of a.imports (class_of n))) ≡ import_at a.imports n
-        by true e = absurd (let none : import_at a.imports n ≡ None = ap (λ c. option_map (λ (i : ImportContent). i.1) (import_of a.imports c)) (sym ((classes_decided q (class_of n)).0 e)) ∙ ap (option_map (λ (i : ImportContent). i.1)) new in let both : None ≡ Some x = sym none ∙ at in cc)
-        by false e = refl
+        by : (t : Bool) → class_eq q r ≡ t → cond t (Some (name, Instance own)) (import_of a.imports r) ≡ Some i
+        by true e = absurd (let none : None ≡ Some i = sym new ∙ ap (import_of a.imports) ((classes_decided q r).0 e) ∙ at in cc)
+        by false e = at
 
-    pub Takes-imported : AllStand a.types (item_keys k) → Each (IsCovered a.types (shared_keys a.shared.entries)) (item_keys k) → MayTake f a → Takes f a (record a { imports = is }) 0 (λ t. Unit {0})
-    Takes-imported stands covered may = record {
+    kept_at : (n : Text) (x : ItemKind) → import_at a.imports n ≡ Some x → import_at is n ≡ Some x
+    kept_at n x at = by (import_of a.imports (class_of n)) refl at
+      where
+        by : (o : Option ImportContent) → import_of a.imports (class_of n) ≡ o → option_map (λ (i : ImportContent). i.1) o ≡ Some x → import_at is n ≡ Some x
+        by None e h = absurd (cc)
+        by (Some i) e h = ap (option_map (λ (j : ImportContent). j.1)) (kept_of (class_of n) i e) ∙ h
+
+    some_kept : (n : Text) → IsSome (import_at a.imports n) → IsSome (import_at is n)
+    some_kept n h = by (import_at a.imports n) refl h
+      where
+        by : (o : Option ItemKind) → import_at a.imports n ≡ o → IsSome o → IsSome (import_at is n)
+        by None e k = absurd (cc)
+        by (Some x) e k = rw (kept_at n x e) refl
+
+    pub Takes-imported : (ks : List Key) (from : Key) (owner_name : Text) → IsAmong from ks → LeadsToOwner f from owner_name → class_of owner_name ≡ q → class_of name ≡ q → IsAmong (interface_key own) (shared_keys a.shared.entries) → identifier_at a.types (interface_key own) ≡ Some name
+        → MayTake f a → Takes f a (record a { imports = is }) 0 ks (λ t. IsSome (t.imports owner_name))
+    Takes-imported ks from owner_name among leads on of shared named may = record {
       low = λ j above none. none;
       run = Runs-import (RemembersTruly class_of) f (state_of a) (import_at is)
-          (λ kept. import_now (λ x. AllStand a.types (item_keys x)) stands kept.imports)
-          (λ kept. import_now (λ x. Each (IsCovered a.types (shared_keys a.shared.entries)) (item_keys x)) covered kept.imports_covered)
-          (λ kept n x at. subst (λ o. IsImportFor a.types o a.types x) (sym (import_kept n x at)) (ImportsFit-refl a.types (import_at a.imports) n x at))
+          (λ kept. import_now (λ x. AllStand a.types (item_keys x)) (shared_stands (state_of a) kept (interface_key own) shared, tt) kept.imports)
+          (λ kept. import_now (λ x. Each (IsCovered a.types (shared_keys a.shared.entries)) (item_keys x)) (shared_covered (state_of a) kept (interface_key own) shared, tt) kept.imports_covered)
+          (λ kept n x at. subst (λ o. IsImportFor a.types o a.types x) (at ∙ sym (kept_at n x at)) (ImportsFit-refl a.types (import_at a.imports) n x at))
           (λ g h. record { taken = h.taken; copies = h.copies; closed = h.closed });
       filed = may.filed;
-      holds = tt;
+      owners = λ g one h k o n taken number l. some_kept n (h k o n taken number l);
+      led = led;
+      stays = kept_of;
+      due = due;
+      shares = λ e m. inl m;
+      holds = rw (ap (λ c. option_map (λ (i : ImportContent). i.1) (import_of is c)) on ∙ ap (option_map (λ (i : ImportContent). i.1)) (puts q ∙ ap (λ t. cond t (Some (name, Instance own)) (import_of a.imports q)) ((classes_decided q q).1 refl))) refl;
     }
+      where
+        due : (r : Class) (i : ImportContent) → import_of is r ≡ Some i → (import_of a.imports r ≡ Some i) ⊎ IsOwnersImport f ks (record a { imports = is }) r i.0
+        due r i at = by (class_eq q r) refl (sym (puts r) ∙ at)
+          where
+            by : (t : Bool) → class_eq q r ≡ t → cond t (Some (name, Instance own)) (import_of a.imports r) ≡ Some i → (import_of a.imports r ≡ Some i) ⊎ IsOwnersImport f ks (record a { imports = is }) r i.0
+            by true e h =
+                let same : (name, Instance own) ≡ i = cc in
+                inr (record { from = from; among = among; owner_name = owner_name; leads = leads; on_track = on ∙ (classes_decided q r).0 e; entry = interface_key own; is_shared = shared; named = named ∙ ap (λ (j : ImportContent). Some j.0) same })
+            by false e h = inl h
+
+  -- there was one
+  pub Takes-imported_before : (a : Merging) (ks : List Key) (owner_name : Text) → IsSome (import_at a.imports owner_name) → MayTake f a → Takes f a a 0 ks (λ t. IsSome (t.imports owner_name))
+  Takes-imported_before a ks owner_name is_there may = Takes-none a 0 ks (λ t. IsSome (t.imports owner_name)) may is_there
 
 -- a list with one more last has one more
 pub adds_last : (ks : List Key) (k : Key) → AddsShared ks (ks ++ k ∷ []) k

@@ -1,6 +1,8 @@
 -- What becomes of the exports of a shared entry.
-use Rattle.std.specs.Prelude.{List}
+use Rattle.std.specs.Prelude.{List, [], ◌∷◌, Option, Some, None}
+use Rattle.wac_model.specs.ItemTree.{ItemTree}
 use Rattle.wac_model.specs.Order.{Fits}
+use Rattle.wac_bounds.specs.Bounds.{IsLowerBound}
 use Rattle.wac_component.specs.Collection.{Collection}
 use Rattle.wac_component.specs.Growth.{Extends}
 use Rattle.wac_component.specs.Key.{Key, Each, AllStand, item_keys}
@@ -24,6 +26,15 @@ pub record IsMetWith (c d : Collection) (a b m : ItemKind) : Type 0 where
   pub fits_first : Fits (item_tree d m) (item_tree c a)
   pub fits_second : Fits (item_tree d m) (item_tree c b)
   pub covered : (ss : List Key) → IsGood c ss → Each (IsCovered c ss) (item_keys a) → Each (IsCovered c ss) (item_keys b) → Each (IsCovered d ss) (item_keys m)
+
+-- no item fits where both of two items are asked for
+abbrev pub AreApartIn : Collection → ItemKind → ItemKind → Type 0
+AreApartIn c a b = (t : ItemTree) → ¬ (IsLowerBound t (item_tree c a ∷ item_tree c b ∷ []))
+
+-- such an item; or there is none, and entries were only added
+abbrev pub IsMetIfAny : Collection → Collection → ItemKind → ItemKind → Option ItemKind → Type 0
+IsMetIfAny c d a b (Some m) = IsMetWith c d a b m
+IsMetIfAny c d a b None = Extends c d × AreApartIn d a b
 
 -- the same of named items, which serve the names of either list
 pub record AreMetWith (c d : Collection) (es ts ms : Externs) : Type 0 where

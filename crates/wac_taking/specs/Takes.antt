@@ -1,21 +1,25 @@
 -- What taking in does to the state of merging.
-use Rattle.std.specs.Prelude.{◌≡◌, ◌<◌, ℕ, List, Option, Some, None, map}
+use Rattle.std.specs.Prelude.{◌≡◌, ◌<◌, ◌⊎◌, ℕ, List, Option, Some, None, IsSome, map, slice_get}
 use Rattle.std.specs.Map.{lookup}
+use Rattle.std.specs.Option.{option_and_then}
 use Rattle.wac_model.specs.Text.{Text}
 use Rattle.wac_component.specs.Collection.{Collection, AliasContent, UseContent, InterfaceContent}
-use Rattle.wac_component.specs.Entries.{identifier_at}
+use Rattle.wac_component.specs.Entries.{identifier_at, owner_at}
 use Rattle.wac_component.specs.Height.{height}
 use Rattle.wac_component.specs.Id.{Id}
-use Rattle.wac_component.specs.Key.{Key, alias_keys, interface_key}
+use Rattle.wac_component.specs.Key.{Key, alias_keys, resource_key, interface_key}
+use Rattle.wac_component.specs.Open.{OpenReaches}
+use Rattle.wac_component.specs.Reach.{IsAmong}
 use Rattle.wac_component.specs.Tree.{root_name}
 use Rattle.wac_component.specs.declared.items.ItemKind.{ItemKind}
 use Rattle.wac_names.specs.Class.{Class, class_eq, class_of}
 use Rattle.wac_narrowing.specs.Entering.{InterfaceIsTaken}
 use Rattle.wac_narrowing.specs.Remembers.{RemembersTruly}
-use Rattle.wac_narrowing.specs.State.{State, IsKept, Runs}
+use Rattle.wac_narrowing.specs.State.{State, IsKept, IsOneWith, Runs}
 use Rattle.wac_narrowing.specs.Taking.{AreTakenKeys, IsTakenKey}
+use Rattle.wac_narrowing.specs.Values.{IfAny}
 use Rattle.wac_copies.specs.Memo.{memo_of}
-use Rattle.wac_imports.specs.Import.{import_at}
+use Rattle.wac_imports.specs.Import.{ImportContent, import_of, import_at}
 use Rattle.wac_taking.specs.declared.state.Merging.{Merging}
 
 -- the shared entries
@@ -40,19 +44,77 @@ pub record MayTake (f : Collection) (a : Merging) : Type 0 where
   pub truly : RemembersTruly class_of f (state_of a)
   pub filed : AreFiledIn a.types a.shared.entries
 
--- what taking in from f does: the state runs on to one of which the fact holds, and no id above the height is noted
-pub record Takes (f : Collection) (a b : Merging) (top : ℕ) (Holds : State → Type 0) : Type 0 where
+-- an open walk leads from one of the ids to this one
+abbrev pub OpenlyFrom : Collection → List Key → Key → Type 0
+OpenlyFrom f ks t = (k : Key) × IsAmong k ks × OpenReaches f k t
+
+-- so it does from these to each of those
+abbrev pub AreWithin : Collection → List Key → List Key → Type 0
+AreWithin f ks js = (k : Key) → IsAmong k ks → OpenlyFrom f js k
+
+-- the id openly leads to a resource whose owner has this identifier
+pub record LeadsToOwner (f : Collection) (k : Key) (n : Text) : Type 0 where
+  pub resource : Id
+  pub owner : Id
+  pub walk : OpenReaches f k (resource_key resource)
+  pub owned : owner_at f resource ≡ Some owner
+  pub identified : identifier_at f (interface_key owner) ≡ Some n
+
+-- each owner to which an id that was taken in openly leads has an import on the track of its identifier
+abbrev pub OwnersImported : Collection → State → Type 0
+OwnersImported g s = (theirs own : Key) (n : Text) → s.taken theirs ≡ Some own → theirs.id.number ≡ g.number → LeadsToOwner g theirs n → IsSome (s.imports n)
+
+-- an import on the track of an owner to which the ids openly lead, under the identifier of a shared entry
+pub record IsOwnersImport (f : Collection) (ks : List Key) (b : Merging) (q : Class) (name : Text) : Type 0 where
+  pub from : Key
+  pub among : IsAmong from ks
+  pub owner_name : Text
+  pub leads : LeadsToOwner f from owner_name
+  pub on_track : class_of owner_name ≡ q
+  pub entry : Key
+  pub is_shared : IsAmong entry (shared_keys b.shared.entries)
+  pub named : identifier_at b.types entry ≡ Some name
+
+-- a shared entry with the identifier of an interface to which the ids openly lead
+pub record IsSharedFrom (f : Collection) (ks : List Key) (b : Merging) (e : Key) : Type 0 where
+  pub theirs : Key
+  pub name : Text
+  pub walk : OpenlyFrom f ks theirs
+  pub identified : identifier_at f theirs ≡ Some name
+  pub own_identified : identifier_at b.types e ≡ Some name
+
+-- what taking in from f does: the state runs on to one of which the fact holds, and no id above the height is noted; each owner is imported still. What is imported stays; what is new is an owner to which the ids openly lead, and each new shared entry has the identifier of an interface to which they do
+pub record Takes (f : Collection) (a b : Merging) (top : ℕ) (ks : List Key) (Holds : State → Type 0) : Type 0 where
   pub low : (k : Key) → top < height f k → memo_of a.taken k ≡ None → memo_of b.taken k ≡ None
   pub run : Runs (RemembersTruly class_of) f (state_of a) (state_of b)
   pub filed : AreFiledIn b.types b.shared.entries
+  pub owners : (g : Collection) → IsOneWith f g → OwnersImported g (state_of a) → OwnersImported g (state_of b)
+  pub led : b.imports.led ≡ a.imports.led
+  pub stays : (q : Class) (i : ImportContent) → import_of a.imports q ≡ Some i → import_of b.imports q ≡ Some i
+  pub due : (q : Class) (i : ImportContent) → import_of b.imports q ≡ Some i → (import_of a.imports q ≡ Some i) ⊎ IsOwnersImport f ks b q i.0
+  pub shares : (e : Key) → IsAmong e (shared_keys b.shared.entries) → IsAmong e (shared_keys a.shared.entries) ⊎ IsSharedFrom f ks b e
   pub holds : Holds (state_of b)
 
--- the own alias names what may be remembered for what the foreign one names; its source has the same name at the root
+-- what the resource is another name of, if it is
+abbrev pub alias_at : Collection → Id → Option AliasContent
+alias_at c r = option_and_then (λ e. e.alias) (slice_get c.resources r.index)
+
+-- an owner with an identifier is imported, on its track
+abbrev pub IsOwnerImported : Collection → State → Option Id → Type 0
+IsOwnerImported f s o = (i : Id) (n : Text) → o ≡ Some i → identifier_at f (interface_key i) ≡ Some n → IsSome (s.imports n)
+
+-- the own alias names what was taken in for what the foreign one names; its source has the same name at the root, and its owner is imported
 pub record IsTakenAlias (f : Collection) (s : State) (a b : AliasContent) : Type 0 where
   pub keys : AreTakenKeys class_of f s (alias_keys a) (alias_keys b)
   pub source : root_name s.own b.source ≡ root_name f a.source
+  pub owner : IsOwnerImported f s a.owner
 
--- the own use is of what may be remembered for the interface, under the same name
+-- the own owner was taken in for the foreign one, if there is one, and is imported
+pub record IsTakenOwner (f : Collection) (o r : Option Id) (s : State) : Type 0 where
+  pub taken : IfAny (λ a b. IsTakenKey class_of f s (interface_key a) (interface_key b)) o r
+  pub imported : IsOwnerImported f s o
+
+-- the own use is of what was taken in for the interface, under the same name
 pub record IsTakenUse (f : Collection) (s : State) (u v : UseContent) : Type 0 where
   pub name : v.name ≡ u.name
   pub interface : IsTakenKey class_of f s (interface_key u.interface) (interface_key v.interface)

@@ -1,6 +1,6 @@
 //! Interfaces all of whose parts were taken in.
 
-ghost use Rattle.std.specs.Prelude.{◌≡◌, Some, None, IfOk, string_bytes};
+ghost use Rattle.std.specs.Prelude.{◌≡◌, [], ◌∷◌, Some, None, IfOk, string_bytes};
 ghost use Rattle.wac_component.specs.Content.{named, use_content};
 ghost use Rattle.wac_component.specs.Entries.{identifier_at};
 ghost use Rattle.wac_component.specs.Height.{height};
@@ -10,11 +10,11 @@ ghost use Rattle.wac_narrowing.specs.Taking.{IsTakenKey};
 ghost use Rattle.wac_taking.specs.Takes.{MayTake, MayPut, Takes, shared_in};
 
 use super::growing::grow;
-use super::refusal::Refusal;
 use super::state::Merging;
 use indexmap::IndexMap;
 use wac_component::{Interface, InterfaceId, ItemKind, Types, UsedType};
 use wac_names::NameClass;
+use wac_refusals::AggregateError;
 
 // Puts an interface of which all parts were taken in: as an entry of its own, or into the shared one on its track.
 pub(crate) fn put_interface(
@@ -23,10 +23,10 @@ pub(crate) fn put_interface(
     id: InterfaceId,
     uses: IndexMap<String, UsedType>,
     exports: IndexMap<String, ItemKind>,
-) -> Result<InterfaceId, Refusal>
+) -> Result<InterfaceId, AggregateError>
     requires state { MayTake types.now state.old }
     requires taken { MayPut types.now state.old id (named use_content uses.entries) (named (λ k. k) exports.entries) }
-    ensures { IfOk result (λ r. Takes types.now state.old state.new (height types.now (interface_key id)) (λ t. IsTakenKey class_of types.now t (interface_key id) (interface_key r))) }
+    ensures { IfOk result (λ r. Takes types.now state.old state.new (height types.now (interface_key id)) (interface_key id ∷ []) (λ t. IsTakenKey class_of types.now t (interface_key id) (interface_key r))) }
 {
     let Some(name) = types[id].id.clone()? else {
         return put_plain(state, types, id, uses, exports);
@@ -45,11 +45,11 @@ pub(crate) fn put_plain(
     id: InterfaceId,
     uses: IndexMap<String, UsedType>,
     exports: IndexMap<String, ItemKind>,
-) -> Result<InterfaceId, Refusal>
+) -> Result<InterfaceId, AggregateError>
     requires state { MayTake types.now state.old }
     requires plain { identifier_at types.now (interface_key id) ≡ None }
     requires taken { MayPut types.now state.old id (named use_content uses.entries) (named (λ k. k) exports.entries) }
-    ensures { IfOk result (λ r. Takes types.now state.old state.new (height types.now (interface_key id)) (λ t. IsTakenKey class_of types.now t (interface_key id) (interface_key r))) }
+    ensures { IfOk result (λ r. Takes types.now state.old state.new (height types.now (interface_key id)) (interface_key id ∷ []) (λ t. IsTakenKey class_of types.now t (interface_key id) (interface_key r))) }
 {
     let own = state.types.add_interface(Interface {
         id: None,
@@ -69,13 +69,13 @@ pub(crate) fn put_shared(
     name: String,
     uses: IndexMap<String, UsedType>,
     exports: IndexMap<String, ItemKind>,
-) -> Result<InterfaceId, Refusal>
+) -> Result<InterfaceId, AggregateError>
     requires state { MayTake types.now state.old }
     requires identified { identifier_at types.now (interface_key id) ≡ Some (string_bytes name) }
     requires of { class ≡ class_of (string_bytes name) }
     requires new { shared_in state.old.shared.entries class ≡ None }
     requires taken { MayPut types.now state.old id (named use_content uses.entries) (named (λ k. k) exports.entries) }
-    ensures { IfOk result (λ r. Takes types.now state.old state.new (height types.now (interface_key id)) (λ t. IsTakenKey class_of types.now t (interface_key id) (interface_key r))) }
+    ensures { IfOk result (λ r. Takes types.now state.old state.new (height types.now (interface_key id)) (interface_key id ∷ []) (λ t. IsTakenKey class_of types.now t (interface_key id) (interface_key r))) }
 {
     let own = state.types.add_interface(Interface {
         id: Some(name),

@@ -14,15 +14,44 @@ ghost use Rattle.wac_narrowing.specs.Taking.{IsTakenKey};
 ghost use Rattle.wac_taking.specs.Growing.{IsMetWith, AreMetWith};
 ghost use Rattle.wac_taking.specs.Takes.{MayTake, MayPut, Takes, shared_in};
 
-use super::refusal::{Below, Clash, Refusal};
+use super::meeting::meet_own;
 use super::state::Merging;
-use super::uses::check_uses;
+use super::uses::{check_uses, check_uses_of};
 use indexmap::IndexMap;
 use std::alloc::{AllocError, Global};
+use wac_clashes::mismatch;
 use wac_component::{Interface, InterfaceId, ItemKind, ReplaceError, Types, UsedType};
 use wac_core_merge::add_new;
-use wac_merge::{extern_named, meet, put_extern};
-use wac_refusals::AggregateError;
+use wac_merge::{extern_named, put_extern};
+use wac_mismatch::SubtypeCheck;
+use wac_names::are_semver_compatible;
+use wac_refusals::{AggregateError, MergeFrame};
+
+// Where exports are met, for what is told of those that have no meet: the direction, and the identifier of the interface,
+// unless it is on the track of the item that was handed in.
+#[derive(Drop)]
+struct Place {
+    check: SubtypeCheck,
+    interface: Option<String>,
+}
+
+// The place of the exports of an interface with this identifier.
+fn place_of(state: &Merging, name: &String) -> Result<Place, AllocError> {
+    let check = state.check;
+    if let Some(handed_in) = &state.handed_in {
+        if are_semver_compatible(state.alloc(), handed_in.as_str(), name.as_str())? {
+            return Ok(Place {
+                check,
+                interface: None,
+            });
+        }
+    }
+    let interface = name.clone()?;
+    Ok(Place {
+        check,
+        interface: Some(interface),
+    })
+}
 
 // Merges an interface of which all parts were taken in into the shared entry on its track.
 pub(crate) fn grow(
@@ -33,18 +62,25 @@ pub(crate) fn grow(
     name: String,
     uses: IndexMap<String, UsedType>,
     exports: IndexMap<String, ItemKind>,
-) -> Result<InterfaceId, Refusal>
+) -> Result<InterfaceId, AggregateError>
     requires state { MayTake types.now state.old }
     requires identified { identifier_at types.now (interface_key id) ≡ Some (string_bytes name) }
     requires shared { shared_in state.old.shared.entries (class_of (string_bytes name)) ≡ Some own }
     requires taken { MayPut types.now state.old id (named use_content uses.entries) (named (λ k. k) exports.entries) }
-    ensures { IfOk result (λ r. Takes types.now state.old state.new (height types.now (interface_key id)) (λ t. IsTakenKey class_of types.now t (interface_key id) (interface_key r))) }
+    ensures { IfOk result (λ r. Takes types.now state.old state.new (height types.now (interface_key id)) (interface_key id ∷ []) (λ t. IsTakenKey class_of types.now t (interface_key id) (interface_key r))) }
 {
     let alloc = state.alloc();
     let mut entry = state.types[own].clone()?;
     check_uses(alloc, &state.types, &entry.uses, &uses)?;
     add_new(&mut entry.uses, uses)?;
-    meet_exports(alloc, &mut state.types, id, &mut entry.exports, &exports)?;
+    let place = place_of(state, &name)?;
+    meet_exports(
+        alloc,
+        &place,
+        &mut state.types,
+        &mut entry.exports,
+        &exports,
+    )?;
     replace(&mut state.types, own, entry, name)?;
     state.taken.put_interface(id, own)?;
     Ok(own)
@@ -53,17 +89,17 @@ pub(crate) fn grow(
 // Puts exports among those of an entry; what stands there under the name of one is met with it.
 fn meet_exports(
     alloc: Global,
+    place: &Place,
     types: &mut Types,
-    id: InterfaceId,
     existing: &mut IndexMap<String, ItemKind>,
     exports: &IndexMap<String, ItemKind>,
-) -> Result<(), Refusal>
+) -> Result<(), AggregateError>
     requires existing { AllStand types.old (extern_keys (extern_list existing.old)) }
     requires new { AllStand types.old (extern_keys (extern_list exports.now)) }
     ensures { IfOk result (λ u. AreMetWith types.old types.new (extern_list existing.old) (extern_list exports.now) (extern_list existing.new)) }
 {
     for (name, kind) in exports {
-        meet_export(alloc, types, id, existing, name, *kind)?;
+        meet_export(alloc, place, types, existing, name, *kind)?;
     }
     Ok(())
 }
@@ -71,12 +107,12 @@ fn meet_exports(
 // The same of one export.
 fn meet_export(
     alloc: Global,
+    place: &Place,
     types: &mut Types,
-    id: InterfaceId,
     existing: &mut IndexMap<String, ItemKind>,
     name: &String,
     kind: ItemKind,
-) -> Result<(), Refusal>
+) -> Result<(), AggregateError>
     requires existing { AllStand types.old (extern_keys (extern_list existing.old)) }
     requires new { AllStand types.old (item_keys kind) }
     ensures { IfOk result (λ u. AreMetWith types.old types.new (extern_list existing.old) ((string_bytes name.now, kind) ∷ []) (extern_list existing.new)) }
@@ -85,46 +121,43 @@ fn meet_export(
         put_extern(existing, name, kind)?;
         return Ok(());
     };
-    let met = meet_items(alloc, types, id, name, other, kind)?;
+    let met = meet_items(alloc, place, types, name, other, kind)?;
     put_extern(existing, name, met)?;
     Ok(())
 }
 
-// The meet of an export with another under its name.
+// The meet of an export of an interface with another under its name. Two interfaces or two worlds may not disagree in
+// what they use.
 fn meet_items(
     alloc: Global,
+    place: &Place,
     types: &mut Types,
-    id: InterfaceId,
     name: &String,
     existing: ItemKind,
     kind: ItemKind,
-) -> Result<ItemKind, Refusal>
+) -> Result<ItemKind, AggregateError>
     requires existing { AllStand types.old (item_keys existing) }
     requires new { AllStand types.old (item_keys kind) }
     ensures { IfOk result (IsMetWith types.old types.new existing kind) }
 {
-    types.sound();
-    let met = meet(alloc, types, existing, kind)?;
-    types.sound();
-    match met {
+    check_uses_of(alloc, types, existing, kind)?;
+    match meet_own(alloc, types, existing, kind)? {
         Some(met) => Ok(met),
-        None => Err(Refusal::Clash(no_meet(id, name, existing, kind)?)),
+        None => {
+            let frames = frames_to(alloc, place, name)?;
+            Err(mismatch(alloc, types, place.check, frames, existing, kind)?)
+        }
     }
 }
 
-// The refusal of two exports of one name that have no meet.
-fn no_meet(
-    interface: InterfaceId,
-    name: &String,
-    existing: ItemKind,
-    new: ItemKind,
-) -> Result<Clash, AllocError> {
-    let export = name.clone()?;
-    Ok(Clash {
-        below: Some(Below { interface, export }),
-        existing,
-        new,
-    })
+// The frames to an export.
+fn frames_to(alloc: Global, place: &Place, export: &String) -> Result<Vec<MergeFrame>, AllocError> {
+    let mut frames = Vec::new(alloc);
+    if let Some(interface) = &place.interface {
+        frames.push(MergeFrame::Interface(interface.clone()?))?;
+    }
+    frames.push(MergeFrame::Export(export.clone()?))?;
+    Ok(frames)
 }
 
 // Puts an interface in the place of a shared one.
@@ -133,7 +166,7 @@ fn replace(
     own: InterfaceId,
     entry: Interface,
     interface: String,
-) -> Result<(), Refusal>
+) -> Result<(), AggregateError>
     requires own { Stands types.old (interface_key own) }
     requires named { AllStand types.old (interface_keys (interface_content entry)) }
     ensures grown { OnOk result (types.new ≡ grown types.old own (interface_content entry)) }
@@ -141,7 +174,7 @@ fn replace(
 {
     match types.replace_interface(own, entry) {
         Ok(()) => Ok(()),
-        Err(ReplaceError::Cycle(_)) => Err(Refusal::Told(AggregateError::Cycle { interface })),
-        Err(ReplaceError::Memory(_)) => Err(Refusal::Told(AggregateError::Memory)),
+        Err(ReplaceError::Cycle(_)) => Err(AggregateError::Cycle { interface }),
+        Err(ReplaceError::Memory(_)) => Err(AggregateError::Memory),
     }
 }

@@ -3,12 +3,13 @@
 
 mod entering;
 mod growing;
+mod meeting;
 mod owners;
-mod refusal;
 mod state;
 mod taking;
 mod uses;
 
-pub use refusal::{Below, Clash, Refusal};
+pub use meeting::meet_own;
 pub use state::Merging;
 pub use taking::take_item;
+pub use uses::check_uses_of;

@@ -1,22 +1,35 @@
 //! The owners of resources.
 
-ghost use Rattle.std.specs.Prelude.{IfOk};
+ghost use Rattle.std.specs.Prelude.{◌≡◌, List, Some, IsSome, IfOk};
+ghost use Rattle.std.specs.Option.{option_map};
+ghost use Rattle.wac_model.specs.Text.{Text};
 ghost use Rattle.wac_component.specs.Collection.{Collection};
-ghost use Rattle.wac_component.specs.Key.{interface_key};
+ghost use Rattle.wac_component.specs.Content.{alias_content};
+ghost use Rattle.wac_component.specs.Entries.{identifier_at};
+ghost use Rattle.wac_component.specs.Key.{Key, Stands, interface_key, resource_key};
 ghost use Rattle.wac_component.specs.Reach.{IsAmong};
+ghost use Rattle.wac_names.specs.Class.{class_of};
 ghost use Rattle.wac_narrowing.specs.State.{IsKept};
-ghost use Rattle.wac_taking.specs.Takes.{shared_keys, state_of, MayTake, Takes};
+ghost use Rattle.wac_taking.specs.Takes.{shared_keys, state_of, LeadsToOwner, MayTake, Takes, alias_at};
 
-use super::refusal::Refusal;
 use super::state::Merging;
-use wac_component::{InterfaceId, ItemKind};
+use wac_component::{InterfaceId, ItemKind, ResourceAlias, ResourceId, Types};
 use wac_names::NameClass;
+use wac_refusals::AggregateError;
+
+// What a resource is another name of, if it is.
+pub(crate) fn alias_of(types: &Types, id: ResourceId) -> Option<ResourceAlias>
+    requires { Stands types.now (resource_key id) }
+    ensures { option_map alias_content result ≡ alias_at types.now id }
+{
+    types[id].alias
+}
 
 // Imports a shared entry under its identifier, unless there is an import on the track of that.
-pub(crate) fn import_owner(state: &mut Merging, own: InterfaceId) -> Result<(), Refusal>
+pub(crate) fn import_owner(state: &mut Merging, own: InterfaceId) -> Result<(), AggregateError>
     requires state { IsKept (state_of state.old) }
     requires shared { IsAmong (interface_key own) (shared_keys state.old.shared.entries) }
-    ensures { IfOk result (λ u. (f : Collection) → MayTake f state.old → Takes f state.old state.new 0 (λ t. Unit {0})) }
+    ensures { IfOk result (λ u. (f : Collection) (ks : List Key) (from : Key) (n m : Text) → MayTake f state.old → IsAmong from ks → LeadsToOwner f from n → identifier_at state.old.types (interface_key own) ≡ Some m → class_of m ≡ class_of n → Takes f state.old state.new 0 ks (λ t. IsSome (t.imports n))) }
 {
     let Some(name) = state.types[own].id.clone()? else {
         return Ok(());

@@ -5,6 +5,7 @@ use std::alloc::Global;
 use wac_component::{InterfaceId, Types};
 use wac_copies::Memo;
 use wac_imports::ImportList;
+use wac_mismatch::SubtypeCheck;
 use wac_names::NameClass;
 
 /// The own collection, and what stands in it for what.
@@ -20,11 +21,15 @@ pub struct Merging {
     pub taken: Memo,
     /// What was copied, below imports of components.
     pub copies: Memo,
+    /// The direction in which a mismatch is told.
+    pub check: SubtypeCheck,
+    /// The identifier of the interface that was handed in, if it is one that has an identifier.
+    pub handed_in: Option<String>,
 }
 
 impl Merging {
-    // Where its parts are allocated.
-    pub(crate) fn alloc(&self) -> Global {
+    /// Where its parts are allocated.
+    pub fn alloc(&self) -> Global {
         *self.shared.allocator()
     }
 }

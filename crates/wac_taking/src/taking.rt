@@ -3,6 +3,7 @@
 ghost use Rattle.std.specs.Prelude.{◌≡◌, ◌<◌, [], ◌∷◌, Some, length, slice_get, IfOk};
 ghost use Rattle.std.specs.List.{flat_map};
 ghost use Rattle.std.specs.Option.{option_map};
+ghost use Rattle.wac_component.specs.Entries.{owner_at};
 ghost use Rattle.wac_component.specs.Content.{alias_content, defined_content, named, use_content, types_of};
 ghost use Rattle.wac_component.specs.Height.{height, keys_height};
 ghost use Rattle.wac_component.specs.Id.{Id};
@@ -11,11 +12,10 @@ ghost use Rattle.wac_component.specs.declared.items.ItemKind.TheVariants.{«Type
 ghost use Rattle.wac_names.specs.Class.{class_of};
 ghost use Rattle.wac_narrowing.specs.Taking.{AreMapped, IsTakenItem, IsTakenKey};
 ghost use Rattle.wac_narrowing.specs.Values.{IsTakenValue, AreListed, IfAny, AreDefined};
-ghost use Rattle.wac_taking.specs.Takes.{MayTake, Takes, IsTakenAlias, IsTakenUse};
+ghost use Rattle.wac_taking.specs.Takes.{MayTake, Takes, IsTakenAlias, IsTakenOwner, IsTakenUse, alias_at};
 
 use super::entering::put_interface;
-use super::owners::import_owner;
-use super::refusal::Refusal;
+use super::owners::{alias_of, import_owner};
 use super::state::Merging;
 use indexmap::IndexMap;
 use std::alloc::AllocError;
@@ -32,10 +32,14 @@ use wac_refusals::AggregateError;
 
 /// Takes in an item.
 #[cycle(taking)]
-pub fn take_item(state: &mut Merging, types: &Types, kind: ItemKind) -> Result<ItemKind, Refusal>
+pub fn take_item(
+    state: &mut Merging,
+    types: &Types,
+    kind: ItemKind,
+) -> Result<ItemKind, AggregateError>
     requires source { AllStand types.now (item_keys kind) }
     requires state { MayTake types.now state.old }
-    ensures { IfOk result (λ k. Takes types.now state.old state.new (keys_height types.now (item_keys kind)) (λ t. IsTakenItem class_of types.now t kind k)) }
+    ensures { IfOk result (λ k. Takes types.now state.old state.new (keys_height types.now (item_keys kind)) (item_keys kind) (λ t. IsTakenItem class_of types.now t kind k)) }
 {
     match kind {
         ItemKind::Type(ty) => Ok(ItemKind::Type(take_type(state, types, ty)?)),
@@ -49,10 +53,10 @@ pub fn take_item(state: &mut Merging, types: &Types, kind: ItemKind) -> Result<I
 
 // Takes in a type.
 #[cycle(taking)]
-fn take_type(state: &mut Merging, types: &Types, ty: Type) -> Result<Type, Refusal>
+fn take_type(state: &mut Merging, types: &Types, ty: Type) -> Result<Type, AggregateError>
     requires source { AllStand types.now (type_keys ty) }
     requires state { MayTake types.now state.old }
-    ensures { IfOk result (λ r. Takes types.now state.old state.new (keys_height types.now (type_keys ty)) (λ t. IsTakenItem class_of types.now t (OfType ty) (OfType r))) }
+    ensures { IfOk result (λ r. Takes types.now state.old state.new (keys_height types.now (type_keys ty)) (type_keys ty) (λ t. IsTakenItem class_of types.now t (OfType ty) (OfType r))) }
 {
     match ty {
         Type::Resource(id) => Ok(Type::Resource(take_resource(state, types, id)?)),
@@ -66,10 +70,14 @@ fn take_type(state: &mut Merging, types: &Types, ty: Type) -> Result<Type, Refus
 
 // Takes in a value type.
 #[cycle(taking)]
-fn take_value(state: &mut Merging, types: &Types, ty: ValueType) -> Result<ValueType, Refusal>
+fn take_value(
+    state: &mut Merging,
+    types: &Types,
+    ty: ValueType,
+) -> Result<ValueType, AggregateError>
     requires source { AllStand types.now (value_keys ty) }
     requires state { MayTake types.now state.old }
-    ensures { IfOk result (λ v. Takes types.now state.old state.new (keys_height types.now (value_keys ty)) (λ t. IsTakenValue class_of types.now t ty v)) }
+    ensures { IfOk result (λ v. Takes types.now state.old state.new (keys_height types.now (value_keys ty)) (value_keys ty) (λ t. IsTakenValue class_of types.now t ty v)) }
 {
     match ty {
         ValueType::Primitive(ty) => Ok(ValueType::Primitive(ty)),
@@ -85,10 +93,10 @@ fn take_optional(
     state: &mut Merging,
     types: &Types,
     ty: Option<ValueType>,
-) -> Result<Option<ValueType>, Refusal>
+) -> Result<Option<ValueType>, AggregateError>
     requires source { AllStand types.now (optional_keys value_keys ty) }
     requires state { MayTake types.now state.old }
-    ensures { IfOk result (λ o. Takes types.now state.old state.new (keys_height types.now (optional_keys value_keys ty)) (λ t. IfAny (IsTakenValue class_of types.now t) ty o)) }
+    ensures { IfOk result (λ o. Takes types.now state.old state.new (keys_height types.now (optional_keys value_keys ty)) (optional_keys value_keys ty) (λ t. IfAny (IsTakenValue class_of types.now t) ty o)) }
 {
     match ty {
         Some(ty) => Ok(Some(take_value(state, types, ty)?)),
@@ -102,10 +110,10 @@ fn take_values(
     state: &mut Merging,
     types: &Types,
     values: &Vec<ValueType>,
-) -> Result<Vec<ValueType>, Refusal>
+) -> Result<Vec<ValueType>, AggregateError>
     requires source { AllStand types.now (flat_map value_keys values.now.items) }
     requires state { MayTake types.now state.old }
-    ensures { IfOk result (λ vs. Takes types.now state.old state.new (keys_height types.now (flat_map value_keys values.now.items)) (λ t. AreListed (IsTakenValue class_of types.now t) values.now.items vs.items)) }
+    ensures { IfOk result (λ vs. Takes types.now state.old state.new (keys_height types.now (flat_map value_keys values.now.items)) (flat_map value_keys values.now.items) (λ t. AreListed (IsTakenValue class_of types.now t) values.now.items vs.items)) }
 {
     let mut taken = values.clone()?;
     for i in 0..values.len() {
@@ -121,10 +129,10 @@ fn take_fields(
     state: &mut Merging,
     types: &Types,
     fields: &IndexMap<String, ValueType>,
-) -> Result<IndexMap<String, ValueType>, Refusal>
+) -> Result<IndexMap<String, ValueType>, AggregateError>
     requires source { AllStand types.now (flat_map value_keys (types_of fields.now.entries)) }
     requires state { MayTake types.now state.old }
-    ensures { IfOk result (λ m. Takes types.now state.old state.new (keys_height types.now (flat_map value_keys (types_of fields.now.entries))) (λ t. AreMapped (IsTakenValue class_of types.now t) (named (λ v. v) fields.now.entries) (named (λ v. v) m.entries))) }
+    ensures { IfOk result (λ m. Takes types.now state.old state.new (keys_height types.now (flat_map value_keys (types_of fields.now.entries))) (flat_map value_keys (types_of fields.now.entries)) (λ t. AreMapped (IsTakenValue class_of types.now t) (named (λ v. v) fields.now.entries) (named (λ v. v) m.entries))) }
 {
     let mut taken = fields.clone()?;
     for i in 0..fields.len() {
@@ -140,10 +148,10 @@ fn take_cases(
     state: &mut Merging,
     types: &Types,
     cases: &IndexMap<String, Option<ValueType>>,
-) -> Result<IndexMap<String, Option<ValueType>>, Refusal>
+) -> Result<IndexMap<String, Option<ValueType>>, AggregateError>
     requires source { AllStand types.now (flat_map (optional_keys value_keys) (types_of cases.now.entries)) }
     requires state { MayTake types.now state.old }
-    ensures { IfOk result (λ m. Takes types.now state.old state.new (keys_height types.now (flat_map (optional_keys value_keys) (types_of cases.now.entries))) (λ t. AreMapped (IfAny (IsTakenValue class_of types.now t)) (named (λ o. o) cases.now.entries) (named (λ o. o) m.entries))) }
+    ensures { IfOk result (λ m. Takes types.now state.old state.new (keys_height types.now (flat_map (optional_keys value_keys) (types_of cases.now.entries))) (flat_map (optional_keys value_keys) (types_of cases.now.entries)) (λ t. AreMapped (IfAny (IsTakenValue class_of types.now t)) (named (λ o. o) cases.now.entries) (named (λ o. o) m.entries))) }
 {
     let mut taken = cases.clone()?;
     for i in 0..cases.len() {
@@ -159,10 +167,10 @@ fn take_defined(
     state: &mut Merging,
     types: &Types,
     id: DefinedTypeId,
-) -> Result<DefinedTypeId, Refusal>
+) -> Result<DefinedTypeId, AggregateError>
     requires source { Stands types.now (defined_key id) }
     requires state { MayTake types.now state.old }
-    ensures { IfOk result (λ r. Takes types.now state.old state.new (height types.now (defined_key id)) (λ t. IsTakenKey class_of types.now t (defined_key id) (defined_key r))) }
+    ensures { IfOk result (λ r. Takes types.now state.old state.new (height types.now (defined_key id)) (defined_key id ∷ []) (λ t. IsTakenKey class_of types.now t (defined_key id) (defined_key r))) }
 {
     if let Some(own) = state.taken.defined(id) {
         return Ok(own);
@@ -180,10 +188,10 @@ fn take_content(
     state: &mut Merging,
     types: &Types,
     ty: &DefinedType,
-) -> Result<DefinedType, Refusal>
+) -> Result<DefinedType, AggregateError>
     requires source { AllStand types.now (defined_keys (defined_content ty.now)) }
     requires state { MayTake types.now state.old }
-    ensures { IfOk result (λ r. Takes types.now state.old state.new (keys_height types.now (defined_keys (defined_content ty.now))) (λ t. AreDefined (IsTakenValue class_of types.now t) (defined_content ty.now) (defined_content r))) }
+    ensures { IfOk result (λ r. Takes types.now state.old state.new (keys_height types.now (defined_keys (defined_content ty.now))) (defined_keys (defined_content ty.now)) (λ t. AreDefined (IsTakenValue class_of types.now t) (defined_content ty.now) (defined_content r))) }
 {
     match ty {
         DefinedType::Tuple(items) => {
@@ -234,10 +242,14 @@ fn take_content(
 
 // Takes in a function type, unless it was taken in.
 #[cycle(taking)]
-fn take_func(state: &mut Merging, types: &Types, id: FuncTypeId) -> Result<FuncTypeId, Refusal>
+fn take_func(
+    state: &mut Merging,
+    types: &Types,
+    id: FuncTypeId,
+) -> Result<FuncTypeId, AggregateError>
     requires source { Stands types.now (func_key id) }
     requires state { MayTake types.now state.old }
-    ensures { IfOk result (λ r. Takes types.now state.old state.new (height types.now (func_key id)) (λ t. IsTakenKey class_of types.now t (func_key id) (func_key r))) }
+    ensures { IfOk result (λ r. Takes types.now state.old state.new (height types.now (func_key id)) (func_key id ∷ []) (λ t. IsTakenKey class_of types.now t (func_key id) (func_key r))) }
 {
     if let Some(own) = state.taken.func(id) {
         return Ok(own);
@@ -257,10 +269,14 @@ fn take_func(state: &mut Merging, types: &Types, id: FuncTypeId) -> Result<FuncT
 
 // Takes in a resource, unless it was taken in.
 #[cycle(taking)]
-fn take_resource(state: &mut Merging, types: &Types, id: ResourceId) -> Result<ResourceId, Refusal>
+fn take_resource(
+    state: &mut Merging,
+    types: &Types,
+    id: ResourceId,
+) -> Result<ResourceId, AggregateError>
     requires source { Stands types.now (resource_key id) }
     requires state { MayTake types.now state.old }
-    ensures { IfOk result (λ r. Takes types.now state.old state.new (height types.now (resource_key id)) (λ t. IsTakenKey class_of types.now t (resource_key id) (resource_key r))) }
+    ensures { IfOk result (λ r. Takes types.now state.old state.new (height types.now (resource_key id)) (resource_key id ∷ []) (λ t. IsTakenKey class_of types.now t (resource_key id) (resource_key r))) }
 {
     if let Some(own) = state.taken.resource(id) {
         return Ok(own);
@@ -268,7 +284,7 @@ fn take_resource(state: &mut Merging, types: &Types, id: ResourceId) -> Result<R
     types.sound();
     let resource = &types[id];
     let name = resource.name.clone()?;
-    let alias = take_source(state, types, &resource.name, resource.alias)?;
+    let alias = take_source(state, types, id)?;
     let own = state.types.add_resource(Resource { name, alias })?;
     state.taken.put_resource(id, own)?;
     Ok(own)
@@ -279,15 +295,14 @@ fn take_resource(state: &mut Merging, types: &Types, id: ResourceId) -> Result<R
 fn take_source(
     state: &mut Merging,
     types: &Types,
-    name: &String,
-    alias: Option<ResourceAlias>,
-) -> Result<Option<ResourceAlias>, Refusal>
-    requires source { AllStand types.now (optional_keys alias_keys (option_map alias_content alias)) }
+    id: ResourceId,
+) -> Result<Option<ResourceAlias>, AggregateError>
+    requires source { Stands types.now (resource_key id) }
     requires state { MayTake types.now state.old }
-    ensures { IfOk result (λ r. Takes types.now state.old state.new (keys_height types.now (optional_keys alias_keys (option_map alias_content alias))) (λ t. IfAny (IsTakenAlias types.now t) (option_map alias_content alias) (option_map alias_content r))) }
+    ensures { IfOk result (λ r. Takes types.now state.old state.new (keys_height types.now (optional_keys alias_keys (alias_at types.now id))) (resource_key id ∷ []) (λ t. IfAny (IsTakenAlias types.now t) (alias_at types.now id) (option_map alias_content r))) }
 {
-    match alias {
-        Some(alias) => Ok(Some(take_alias(state, types, name, alias)?)),
+    match alias_of(types, id) {
+        Some(alias) => Ok(Some(take_alias(state, types, id, alias)?)),
         None => Ok(None),
     }
 }
@@ -297,37 +312,40 @@ fn take_source(
 fn take_alias(
     state: &mut Merging,
     types: &Types,
-    name: &String,
+    id: ResourceId,
     alias: ResourceAlias,
-) -> Result<ResourceAlias, Refusal>
-    requires source { AllStand types.now (alias_keys (alias_content alias)) }
+) -> Result<ResourceAlias, AggregateError>
+    requires source { Stands types.now (resource_key id) }
     requires state { MayTake types.now state.old }
-    ensures { IfOk result (λ r. Takes types.now state.old state.new (keys_height types.now (alias_keys (alias_content alias))) (λ t. IsTakenAlias types.now t (alias_content alias) (alias_content r))) }
+    requires of { alias_at types.now id ≡ Some (alias_content alias) }
+    ensures { IfOk result (λ r. Takes types.now state.old state.new (keys_height types.now (alias_keys (alias_content alias))) (resource_key id ∷ []) (λ t. IsTakenAlias types.now t (alias_content alias) (alias_content r))) }
 {
-    let owner = take_owner(state, types, name, alias.owner)?;
+    types.sound();
+    let owner = take_owner(state, types, id, alias.owner)?;
     let source = take_resource(state, types, alias.source)?;
     Ok(ResourceAlias { owner, source })
 }
 
-// Takes in the owner of the resource of this name, if it has one, and imports it.
+// Takes in the owner of a resource, if it has one, and imports it.
 #[cycle(taking)]
 fn take_owner(
     state: &mut Merging,
     types: &Types,
-    name: &String,
+    id: ResourceId,
     owner: Option<InterfaceId>,
-) -> Result<Option<InterfaceId>, Refusal>
-    requires source { AllStand types.now (optional_keys (λ o. interface_key o ∷ []) owner) }
+) -> Result<Option<InterfaceId>, AggregateError>
+    requires source { AllStand types.now (resource_key id ∷ optional_keys (λ o. interface_key o ∷ []) owner) }
     requires state { MayTake types.now state.old }
-    ensures { IfOk result (λ r. Takes types.now state.old state.new (keys_height types.now (optional_keys (λ o. interface_key o ∷ []) owner)) (λ t. IfAny (λ a b. IsTakenKey class_of types.now t (interface_key a) (interface_key b)) owner r)) }
+    requires of { owner_at types.now id ≡ owner }
+    ensures { IfOk result (λ r. Takes types.now state.old state.new (keys_height types.now (optional_keys (λ o. interface_key o ∷ []) owner)) (resource_key id ∷ []) (IsTakenOwner types.now owner r)) }
 {
     let Some(owner) = owner else {
         return Ok(None);
     };
     types.sound();
     if types[owner].id.is_none() {
-        let resource = name.clone()?;
-        return Err(Refusal::Told(AggregateError::OwnerWithoutIdentifier { resource }));
+        let resource = types[id].name.clone()?;
+        return Err(AggregateError::OwnerWithoutIdentifier { resource });
     }
     let own = take_interface(state, types, owner)?;
     import_owner(state, own)?;
@@ -340,10 +358,10 @@ fn take_interface(
     state: &mut Merging,
     types: &Types,
     id: InterfaceId,
-) -> Result<InterfaceId, Refusal>
+) -> Result<InterfaceId, AggregateError>
     requires source { Stands types.now (interface_key id) }
     requires state { MayTake types.now state.old }
-    ensures { IfOk result (λ r. Takes types.now state.old state.new (height types.now (interface_key id)) (λ t. IsTakenKey class_of types.now t (interface_key id) (interface_key r))) }
+    ensures { IfOk result (λ r. Takes types.now state.old state.new (height types.now (interface_key id)) (interface_key id ∷ []) (λ t. IsTakenKey class_of types.now t (interface_key id) (interface_key r))) }
 {
     if let Some(own) = state.taken.interface(id) {
         return Ok(own);
@@ -361,10 +379,10 @@ fn take_uses(
     state: &mut Merging,
     types: &Types,
     uses: &IndexMap<String, UsedType>,
-) -> Result<IndexMap<String, UsedType>, Refusal>
+) -> Result<IndexMap<String, UsedType>, AggregateError>
     requires source { AllStand types.now (named_keys use_keys (named use_content uses.now.entries)) }
     requires state { MayTake types.now state.old }
-    ensures { IfOk result (λ m. Takes types.now state.old state.new (keys_height types.now (named_keys use_keys (named use_content uses.now.entries))) (λ t. AreMapped (IsTakenUse types.now t) (named use_content uses.now.entries) (named use_content m.entries))) }
+    ensures { IfOk result (λ m. Takes types.now state.old state.new (keys_height types.now (named_keys use_keys (named use_content uses.now.entries))) (named_keys use_keys (named use_content uses.now.entries)) (λ t. AreMapped (IsTakenUse types.now t) (named use_content uses.now.entries) (named use_content m.entries))) }
 {
     let mut taken = uses.clone()?;
     for i in 0..uses.len() {
@@ -393,16 +411,16 @@ fn take_used(
     types: &Types,
     uses: &IndexMap<String, UsedType>,
     index: usize,
-) -> Result<InterfaceId, Refusal>
+) -> Result<InterfaceId, AggregateError>
     requires source { AllStand types.now (named_keys use_keys (named use_content uses.now.entries)) }
     requires state { MayTake types.now state.old }
     requires at { index < length uses.now.entries }
-    ensures { IfOk result (λ r. Takes types.now state.old state.new (keys_height types.now (named_keys use_keys (named use_content uses.now.entries))) (λ t. (p : Id) → option_map (λ u. u.interface) (slice_get (types_of uses.now.entries) index) ≡ Some p → IsTakenKey class_of types.now t (interface_key p) (interface_key r))) }
+    ensures { IfOk result (λ r. Takes types.now state.old state.new (keys_height types.now (named_keys use_keys (named use_content uses.now.entries))) (named_keys use_keys (named use_content uses.now.entries)) (λ t. (p : Id) → option_map (λ u. u.interface) (slice_get (types_of uses.now.entries) index) ≡ Some p → IsTakenKey class_of types.now t (interface_key p) (interface_key r))) }
 {
     let interface = used_at(uses, index);
     types.sound();
     if types[interface].id.is_none() {
-        return Err(Refusal::Told(no_identifier(uses, index)?));
+        return Err(no_identifier(uses, index)?);
     }
     take_interface(state, types, interface)
 }
@@ -413,10 +431,10 @@ pub fn take_externs(
     state: &mut Merging,
     types: &Types,
     externs: &IndexMap<String, ItemKind>,
-) -> Result<IndexMap<String, ItemKind>, Refusal>
+) -> Result<IndexMap<String, ItemKind>, AggregateError>
     requires source { AllStand types.now (named_keys item_keys (named (λ k. k) externs.now.entries)) }
     requires state { MayTake types.now state.old }
-    ensures { IfOk result (λ m. Takes types.now state.old state.new (keys_height types.now (named_keys item_keys (named (λ k. k) externs.now.entries))) (λ t. AreMapped (IsTakenItem class_of types.now t) (named (λ k. k) externs.now.entries) (named (λ k. k) m.entries))) }
+    ensures { IfOk result (λ m. Takes types.now state.old state.new (keys_height types.now (named_keys item_keys (named (λ k. k) externs.now.entries))) (named_keys item_keys (named (λ k. k) externs.now.entries)) (λ t. AreMapped (IsTakenItem class_of types.now t) (named (λ k. k) externs.now.entries) (named (λ k. k) m.entries))) }
 {
     let mut taken = externs.clone()?;
     for i in 0..externs.len() {
@@ -430,10 +448,10 @@ pub fn take_externs(
 
 // Takes in a world, unless it was taken in.
 #[cycle(taking)]
-fn take_world(state: &mut Merging, types: &Types, id: WorldId) -> Result<WorldId, Refusal>
+fn take_world(state: &mut Merging, types: &Types, id: WorldId) -> Result<WorldId, AggregateError>
     requires source { Stands types.now (world_key id) }
     requires state { MayTake types.now state.old }
-    ensures { IfOk result (λ r. Takes types.now state.old state.new (height types.now (world_key id)) (λ t. IsTakenKey class_of types.now t (world_key id) (world_key r))) }
+    ensures { IfOk result (λ r. Takes types.now state.old state.new (height types.now (world_key id)) (world_key id ∷ []) (λ t. IsTakenKey class_of types.now t (world_key id) (world_key r))) }
 {
     if let Some(own) = state.taken.world(id) {
         return Ok(own);
@@ -459,10 +477,10 @@ fn take_module(
     state: &mut Merging,
     types: &Types,
     id: ModuleTypeId,
-) -> Result<ModuleTypeId, Refusal>
+) -> Result<ModuleTypeId, AggregateError>
     requires source { Stands types.now (module_key id) }
     requires state { MayTake types.now state.old }
-    ensures { IfOk result (λ r. Takes types.now state.old state.new (height types.now (module_key id)) (λ t. IsTakenKey class_of types.now t (module_key id) (module_key r))) }
+    ensures { IfOk result (λ r. Takes types.now state.old state.new (height types.now (module_key id)) (module_key id ∷ []) (λ t. IsTakenKey class_of types.now t (module_key id) (module_key r))) }
 {
     if let Some(own) = state.taken.module(id) {
         return Ok(own);

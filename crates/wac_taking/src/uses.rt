@@ -1,14 +1,75 @@
 //! Uses of one name.
 
 ghost use Rattle.wac_component.specs.Content.{named, use_content};
-ghost use Rattle.wac_component.specs.Key.{Stands, AllStand, interface_key, named_keys, use_keys};
+ghost use Rattle.wac_component.specs.Key.{Stands, AllStand, item_keys, type_keys, interface_key, world_key, named_keys, use_keys};
 
-use super::refusal::Refusal;
 use indexmap::IndexMap;
 use std::alloc::{AllocError, Global};
-use wac_component::{Types, UsedType};
+use wac_component::{InterfaceId, ItemKind, Type, Types, UsedType, WorldId};
 use wac_names::are_semver_compatible;
 use wac_refusals::AggregateError;
+
+/// Refuses two interfaces, or two worlds, that use one name of interfaces on different tracks (`UsedInterface`), or of
+/// other names there (`UsedName`). What stands in them isn't looked at.
+pub fn check_uses_of(
+    alloc: Global,
+    types: &Types,
+    existing: ItemKind,
+    new: ItemKind,
+) -> Result<(), AggregateError>
+    requires existing { AllStand types.now (item_keys existing) }
+    requires new { AllStand types.now (item_keys new) }
+{
+    match (&existing, &new) {
+        (ItemKind::Instance(a), ItemKind::Instance(b)) => check_interfaces(alloc, types, *a, *b),
+        (ItemKind::Component(a), ItemKind::Component(b)) => check_worlds(alloc, types, *a, *b),
+        (ItemKind::Type(a), ItemKind::Type(b)) => check_types(alloc, types, *a, *b),
+        _ => Ok(()),
+    }
+}
+
+// The same of two types.
+fn check_types(
+    alloc: Global,
+    types: &Types,
+    existing: Type,
+    new: Type,
+) -> Result<(), AggregateError>
+    requires existing { AllStand types.now (type_keys existing) }
+    requires new { AllStand types.now (type_keys new) }
+{
+    match (&existing, &new) {
+        (Type::Interface(a), Type::Interface(b)) => check_interfaces(alloc, types, *a, *b),
+        (Type::World(a), Type::World(b)) => check_worlds(alloc, types, *a, *b),
+        _ => Ok(()),
+    }
+}
+
+// The same of two interfaces.
+fn check_interfaces(
+    alloc: Global,
+    types: &Types,
+    existing: InterfaceId,
+    new: InterfaceId,
+) -> Result<(), AggregateError>
+    requires existing { Stands types.now (interface_key existing) }
+    requires new { Stands types.now (interface_key new) }
+{
+    check_uses(alloc, types, &types[existing].uses, &types[new].uses)
+}
+
+// The same of two worlds.
+fn check_worlds(
+    alloc: Global,
+    types: &Types,
+    existing: WorldId,
+    new: WorldId,
+) -> Result<(), AggregateError>
+    requires existing { Stands types.now (world_key existing) }
+    requires new { Stands types.now (world_key new) }
+{
+    check_uses(alloc, types, &types[existing].uses, &types[new].uses)
+}
 
 // Refuses uses of one name of which one can't stand for the other.
 pub(crate) fn check_uses(
@@ -16,7 +77,7 @@ pub(crate) fn check_uses(
     types: &Types,
     existing: &IndexMap<String, UsedType>,
     new: &IndexMap<String, UsedType>,
-) -> Result<(), Refusal>
+) -> Result<(), AggregateError>
     requires existing { AllStand types.now (named_keys use_keys (named use_content existing.now.entries)) }
     requires new { AllStand types.now (named_keys use_keys (named use_content new.now.entries)) }
 {
@@ -35,7 +96,7 @@ fn check_use(
     name: &String,
     existing: &UsedType,
     new: &UsedType,
-) -> Result<(), Refusal>
+) -> Result<(), AggregateError>
     requires existing { Stands types.now (interface_key existing.now.interface) }
     requires new { Stands types.now (interface_key new.now.interface) }
 {
@@ -44,11 +105,11 @@ fn check_use(
         &types[new.interface].id,
     ) {
         if !are_semver_compatible(alloc, expected.as_str(), found.as_str())? {
-            return Err(Refusal::Told(used_interface(name, expected, found)?));
+            return Err(used_interface(name, expected, found)?);
         }
     }
     if existing.name != new.name {
-        return Err(Refusal::Told(used_name(name)?));
+        return Err(used_name(name)?);
     }
     Ok(())
 }

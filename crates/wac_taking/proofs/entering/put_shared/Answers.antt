@@ -1,4 +1,4 @@
-use Rattle.std.proofs.Common.{◌≡◌, ◌++◌, [], ◌∷◌, Some, refl, ap, sym, subst, ◌∙◌, None, string_bytes}
+use Rattle.std.proofs.Common.{◌≡◌, ◌++◌, [], ◌∷◌, Some, refl, ap, sym, subst, ◌∙◌, None, string_bytes, inl, inr}
 use Rattle.std.proofs.lemmas.List.{map-append}
 use Rattle.std.specs.Option.{option_map_or}
 use Rattle.indexmap.proofs.CallerLemmas.{insert_entry-new}
@@ -16,6 +16,9 @@ use Rattle.wac_narrowing.proofs.Entering.{interface_named, shared_interface_ente
 use Rattle.wac_copies.specs.Memo.{memo_of}
 use Rattle.wac_taking.specs.Takes.{shared_keys, state_of}
 use Rattle.wac_taking.proofs.TakeLemmas.{content_identifier, taken_as, Takes-entered, AreFiledIn-put, adds_last}
+use Rattle.wac_component.specs.Open.{stay}
+use Rattle.wac_component.specs.Reach.{here}
+use Rattle.wac_taking.proofs.Enters.{interface_owners}
 use Rattle.wac_taking.proofs.entering.put_shared.Goals as goal
 
 pub add_interface-requires : goal.add_interface-requires
@@ -37,6 +40,12 @@ returns c =
     let enters = shared_interface_enters class_of f (state_of was) c.requires.state.kept c.args.id c.requires.taken.content z (taken_as f (state_of was) c.args.id c.requires.taken.content _ _ z.id c.requires.taken.taken) (state_of now) (string_bytes c.args.name) (string_bytes c.args.name) (sym (content_identifier f c.args.id c.requires.taken.content c.requires.taken.taken.entry) ∙ c.requires.identified) refl refl adds shares in
     let identified : identifier_at now.types (interface_key c.in_ok-own.own) ≡ Some (string_bytes c.args.name) =
     (λ i. identifier_at (c.in_ok-own.ensures.added i) (last i)) ∙ ap (λ o. option_map_or entry_identifier o None) (last_at was.types (interface_entry z)).at in
-    Takes-entered f was now theirs (interface_key c.in_ok-own.own) pair
+    let taken = c.requires.taken.taken in
+    Takes-entered f was now theirs (interface_key c.in_ok-own.own) taken.sound taken.stands pair refl
     (AreFiledIn-put f (state_of was) (state_of now) was.shared.entries now.shared.entries c.args.class c.in_ok-own.own (string_bytes c.args.name) c.requires.state.kept refl enters.run identified (sym c.requires.of) c.in_ok-insert.ensures.updates.0 c.requires.state.filed)
+    (λ e among. elim (shares.only e among) [
+      | inl is ↦ inr (record { theirs = theirs; name = string_bytes c.args.name; walk = (theirs, here, stay); identified = c.requires.identified; own_identified = ap (identifier_at now.types) (is ∙ sym last) ∙ identified })
+      | inr stood ↦ inl stood
+    ])
+    (interface_owners f (state_of was) taken.sound c.requires.state.kept c.args.id c.requires.taken.content _ taken)
     (subst (λ k. IsEntered class_of f (state_of was) (state_of now) theirs k) (sym last) enters)

@@ -1,16 +1,16 @@
-use Rattle.std.proofs.Common.{◌≡◌, ◌+◌, ◌++◌, zero, [], ◌∷◌, Some, None, length, length-set, refl, ap, sym, subst, ◌∙◌, arith}
+use Rattle.std.proofs.Common.{◌≡◌, ◌+◌, ◌++◌, zero, [], ◌∷◌, Some, None, length, length-set, refl, ap, sym, subst, ◌∙◌, arith, IsSome}
 use Rattle.std.proofs.lemmas.List.Elements.{same_from_all_zip}
 use Rattle.std.proofs.lemmas.Result.{IfOk-weaker}
 use Rattle.std.specs.List.{flat_map}
-use Rattle.std.specs.Option.{option_map, option_to_list}
+use Rattle.std.specs.Option.{option_and_then, option_map, option_to_list}
 use Rattle.wac_model.specs.ItemTree.{item, type_item}
 use Rattle.wac_model.specs.ValueTree.{list, fixed_size_list, option, flags, enum, stream, future}
 use Rattle.wac_component.proofs.CloneLemmas.{named-clones, option-clone}
-use Rattle.wac_component.proofs.Keys.{Each-flat_map_at, largest-append, largest-flat_map_at}
+use Rattle.wac_component.proofs.Keys.{Each-flat_map_at, Each-left, Each-right, largest-append, largest-flat_map_at}
 use Rattle.wac_component.proofs.Members.{uses_stand, exports_stand, exports_lower, world_uses_stand, world_imports_stand, world_exports_stand, world_imports_lower, world_exports_lower}
 use Rattle.wac_component.specs.Content.{alias_content, defined_content, resource_content, func_content, interface_content, world_content, named, use_content, types_of, case_types}
 use Rattle.wac_component.specs.Height.{height, keys_height}
-use Rattle.wac_component.specs.Key.{Stands, AllStand, defined_entry, resource_entry, func_entry, world_entry, item_keys, type_keys, value_keys, alias_keys, optional_keys, named_keys, use_keys, defined_keys, func_keys, interface_keys, world_keys, defined_key, resource_key, func_key, interface_key, world_key, module_key}
+use Rattle.wac_component.specs.Key.{other_keys, Stands, AllStand, defined_entry, resource_entry, func_entry, world_entry, item_keys, type_keys, value_keys, alias_keys, optional_keys, named_keys, use_keys, defined_keys, func_keys, interface_keys, world_keys, defined_key, resource_key, func_key, interface_key, world_key, module_key}
 use Rattle.wac_component.specs.declared.defined.DefinedType.TheVariants.{List as ListOf, FixedSizeList, Option as OptionOf, Result, Variant, Record, Flags, Enum, Stream, Future}
 use Rattle.wac_component.specs.declared.interfaces.UsedType.{UsedType}
 use Rattle.wac_component.specs.declared.items.ItemKind.TheVariants.{«Type» as OfType, Func, Instance, Component, Module, Value}
@@ -28,10 +28,15 @@ use Rattle.wac_copies.proofs.Arms.{named_stands, named_lower, used_there, used_s
 use Rattle.wac_copies.proofs.Contents.{content_one, content_option, content_result, content_record, content_variant}
 use Rattle.wac_copies.proofs.Parts.{items_still as copies_still}
 use Rattle.wac_copies.proofs.Placed.{ArePlaced, set_start, set_whole, set_count, named_count, length-named, placed_start, placed_whole}
-use Rattle.wac_taking.specs.Takes.{state_of, Takes, IsTakenAlias, IsTakenUse}
+use Rattle.wac_taking.specs.Takes.{state_of, Takes, LeadsToOwner, IsTakenAlias, IsTakenOwner, IsTakenUse, alias_at}
+use Rattle.wac_taking.proofs.Within.{within_all, within_same, within_left, within_right, within_trans, within_first, within_others, within_option, within_params, within_at, within_named, within_used, within_parts, alias_within, alias_owner, alias_stands as alias_named, owned_within}
+use Rattle.wac_component.specs.Collection.{ResourceContent}
+use Rattle.wac_component.specs.Open.{stay}
+use Rattle.wac_component.specs.Reach.{here}
+use Rattle.wac_component.proofs.Reading.{defined_at, func_at, interface_at, world_at}
 use Rattle.wac_taking.proofs.Arms.{taken_item, taken_value, taken_content, Takes-set, Takes-place, Takes-use, used_index}
 use Rattle.wac_taking.proofs.Enters.{defined_stands, func_stands, alias_stands, world_stands, interface_is_taken, world_is_taken, defined_enters, func_enters, resource_enters, world_enters}
-use Rattle.wac_taking.proofs.Parts.{item_of_value, type_of_value, borrow_of_taken, own_of_taken, defined_of_taken, alias_of_taken, owner_still, uses_still, values_still, option_still}
+use Rattle.wac_taking.proofs.Parts.{item_of_value, type_of_value, borrow_of_taken, own_of_taken, defined_of_taken, alias_of_taken, owner_still, owner_taken, uses_still, values_still, option_still}
 use Rattle.wac_taking.proofs.TakeLemmas.{content_identifier, some_name, MayTake-Takes, MayTake-copies, Takes-copied, Takes-after, Takes-none, Takes-more, Takes-then, Takes-hit, Takes-enter}
 use Rattle.wac_taking.proofs.taking.+taking.Goals as goal
 
@@ -89,7 +94,7 @@ take_type-returns-in_ok-take_module-in-Module t c =
 
 pub take_value-returns-in-Primitive : goal.take_value-returns-in-Primitive
 take_value-returns-in-Primitive t c =
-    Takes-none c.args.types.now c.args.state.now (keys_height c.args.types.now (value_keys c.args.ty)) (λ s. IsTakenValue class_of c.args.types.now s c.args.ty (Primitive c.in-Primitive.ty)) c.requires.state (rw c.in-Primitive.is (record { stands = tt; same = refl; keys = no_keys }))
+    Takes-none c.args.types.now c.args.state.now (keys_height c.args.types.now (value_keys c.args.ty)) _ (λ s. IsTakenValue class_of c.args.types.now s c.args.ty (Primitive c.in-Primitive.ty)) c.requires.state (rw c.in-Primitive.is (record { stands = tt; same = refl; keys = no_keys }))
 
 pub take_value-returns-in_ok-take_resource-in-Borrow : goal.take_value-returns-in_ok-take_resource-in-Borrow
 take_value-returns-in_ok-take_resource-in-Borrow t c =
@@ -105,132 +110,120 @@ take_value-returns-in_ok-take_defined-in-Defined t c =
 
 pub take_optional-returns-in_ok-take_value-in-Some : goal.take_optional-returns-in_ok-take_value-in-Some
 take_optional-returns-in_ok-take_value-in-Some t c =
-    subst (λ o. Takes c.args.types.now c.args.state.now c.take_value.new.state (keys_height c.args.types.now (optional_keys value_keys o)) (λ s. IfAny (IsTakenValue class_of c.args.types.now s) o (Some c.in_ok-take_value-in-Some.field-0))) (sym c.in-Some.is) (Takes-more c.args.types.now c.args.state.now c.take_value.new.state _ _ _ _ (omega arith) c.requires.state (λ s kept h. both h) c.in_ok-take_value-in-Some.ensures)
+    subst (λ o. Takes c.args.types.now c.args.state.now c.take_value.new.state (keys_height c.args.types.now (optional_keys value_keys o)) (optional_keys value_keys o) (λ s. IfAny (IsTakenValue class_of c.args.types.now s) o (Some c.in_ok-take_value-in-Some.field-0))) (sym c.in-Some.is) (Takes-more c.args.types.now c.args.state.now c.take_value.new.state _ _ _ _ _ _ (omega arith) (within_all c.args.types.now _) c.requires.state (λ s kept h. both h) c.in_ok-take_value-in-Some.ensures)
 
 pub take_optional-returns-in-None : goal.take_optional-returns-in-None
 take_optional-returns-in-None t c =
-    subst (λ o. Takes c.args.types.now c.args.state.now c.args.state.now (keys_height c.args.types.now (optional_keys value_keys o)) (λ s. IfAny (IsTakenValue class_of c.args.types.now s) o None)) (sym c.in-None.is) (Takes-none c.args.types.now c.args.state.now _ _ c.requires.state neither)
-
-pub take_source-returns-in_ok-take_alias-in-Some : goal.take_source-returns-in_ok-take_alias-in-Some
-take_source-returns-in_ok-take_alias-in-Some t c =
-    subst (λ o. Takes c.args.types.now c.args.state.now c.take_alias.new.state (keys_height c.args.types.now (optional_keys alias_keys (option_map alias_content o))) (λ s. IfAny (IsTakenAlias c.args.types.now s) (option_map alias_content o) (option_map alias_content (Some c.in_ok-take_alias-in-Some.field-0)))) (sym c.in-Some.is) (Takes-more c.args.types.now c.args.state.now c.take_alias.new.state _ _ _ _ (omega arith) c.requires.state (λ s kept h. both h) c.in_ok-take_alias-in-Some.ensures)
-
-pub take_source-returns-in-None : goal.take_source-returns-in-None
-take_source-returns-in-None t c =
-    subst (λ o. Takes c.args.types.now c.args.state.now c.args.state.now (keys_height c.args.types.now (optional_keys alias_keys (option_map alias_content o))) (λ s. IfAny (IsTakenAlias c.args.types.now s) (option_map alias_content o) None)) (sym c.in-None.is) (Takes-none c.args.types.now c.args.state.now _ _ c.requires.state neither)
-
-pub take_alias-returns : goal.take_alias-returns
-take_alias-returns t c =
-    Takes-more c.args.types.now c.args.state.now c.take_resource.new.state (keys_height c.args.types.now (alias_keys (alias_content c.args.alias))) (keys_height c.args.types.now (alias_keys (alias_content c.args.alias))) _ _ (omega arith) c.requires.state (λ s kept h. alias_of_taken c.args.types.now s (alias_content c.args.alias) (record { owner = c.in_ok-owner.owner; source = c.in_ok-source.source }) h.0 h.1) (Takes-then c.args.types.now c.args.state.now c.take_owner.new.state c.take_resource.new.state _ _ (keys_height c.args.types.now (alias_keys (alias_content c.args.alias))) _ _ (omega (arith, largest-append (height c.args.types.now) (optional_keys (λ p. interface_key p ∷ []) c.args.alias.owner) (resource_key c.args.alias.source ∷ []))) (omega (arith, largest-append (height c.args.types.now) (optional_keys (λ p. interface_key p ∷ []) c.args.alias.owner) (resource_key c.args.alias.source ∷ []))) c.requires.state (λ s u kept run h. owner_still c.args.types.now s u kept (RemembersTruly class_of) c.args.types.now run c.args.alias.owner c.in_ok-owner.owner h) c.in_ok-owner.ensures c.in_ok-source.ensures)
+    subst (λ o. Takes c.args.types.now c.args.state.now c.args.state.now (keys_height c.args.types.now (optional_keys value_keys o)) (optional_keys value_keys o) (λ s. IfAny (IsTakenValue class_of c.args.types.now s) o None)) (sym c.in-None.is) (Takes-none c.args.types.now c.args.state.now _ _ _ c.requires.state neither)
 
 pub take_fields-loop-i-init : goal.take_fields-loop-i-init
 take_fields-loop-i-init t c =
     let shows = named-clones (λ v. v) (λ v w same. same) c.args.fields.now c.in_ok-taken.taken c.in_ok-taken.ensures.cases in
-    record { count = named_count (λ v. v) c.args.fields.now.entries c.in_ok-taken.taken.entries shows; takes = Takes-none c.args.types.now c.args.state.now (keys_height c.args.types.now (flat_map value_keys (types_of c.args.fields.now.entries))) _ c.requires.state (set_start (IsTakenValue class_of c.args.types.now (state_of c.args.state.now)) (named (λ v. v) c.args.fields.now.entries) (named (λ v. v) c.in_ok-taken.taken.entries) shows) }
+    record { count = named_count (λ v. v) c.args.fields.now.entries c.in_ok-taken.taken.entries shows; takes = Takes-none c.args.types.now c.args.state.now (keys_height c.args.types.now (flat_map value_keys (types_of c.args.fields.now.entries))) _ _ c.requires.state (set_start (IsTakenValue class_of c.args.types.now (state_of c.args.state.now)) (named (λ v. v) c.args.fields.now.entries) (named (λ v. v) c.in_ok-taken.taken.entries) shows) }
 
 pub take_fields-take_value-requires : goal.take_fields-take_value-requires
 take_fields-take_value-requires t c =
-    (omega (arith, largest-flat_map_at (height c.args.types.now) value_keys (types_of c.args.fields.now.entries) c.loop-i.i c.field_at.result c.field_at.ensures), (Each-flat_map_at (Stands c.args.types.now) value_keys (types_of c.args.fields.now.entries) c.loop-i.i c.field_at.result c.field_at.ensures c.requires.source, MayTake-Takes c.args.types.now c.args.state.now c.loop-i.state _ _ c.requires.state c.loop-i.invariant.takes))
+    (omega (arith, largest-flat_map_at (height c.args.types.now) value_keys (types_of c.args.fields.now.entries) c.loop-i.i c.field_at.result c.field_at.ensures), (Each-flat_map_at (Stands c.args.types.now) value_keys (types_of c.args.fields.now.entries) c.loop-i.i c.field_at.result c.field_at.ensures c.requires.source, MayTake-Takes c.args.types.now c.args.state.now c.loop-i.state _ _ _ c.requires.state c.loop-i.invariant.takes))
 
 pub take_fields-loop-i-preserved : goal.take_fields-loop-i-preserved
 take_fields-loop-i-preserved t c =
     record {
       count = set_count c.loop-i.taken.entries c.set_field.new.map.entries c.loop-i.i c.in_ok-own.own c.set_field.ensures ∙ c.loop-i.invariant.count;
-      takes = Takes-set (λ s. IsTakenValue class_of c.args.types.now s) c.args.types.now (λ s u kept run x y h. taken_value_still class_of c.args.types.now s u kept (RemembersTruly class_of) c.args.types.now run x y h) c.args.state.now c.loop-i.state c.take_value.new.state c.requires.state (keys_height c.args.types.now (flat_map value_keys (types_of c.args.fields.now.entries))) (keys_height c.args.types.now (value_keys c.field_at.result)) (largest-flat_map_at (height c.args.types.now) value_keys (types_of c.args.fields.now.entries) c.loop-i.i c.field_at.result c.field_at.ensures) c.loop-i.i c.field_at.result (λ v. v) c.in_ok-own.own (named (λ v. v) c.args.fields.now.entries) c.loop-i.taken.entries c.set_field.new.map.entries (types-named (λ v. v) c.args.fields.now.entries c.loop-i.i c.field_at.result c.field_at.ensures) c.set_field.ensures c.loop-i.invariant.takes c.in_ok-own.ensures;
+      takes = Takes-set (λ s. IsTakenValue class_of c.args.types.now s) c.args.types.now (λ s u kept run x y h. taken_value_still class_of c.args.types.now s u kept (RemembersTruly class_of) c.args.types.now run x y h) c.args.state.now c.loop-i.state c.take_value.new.state c.requires.state (keys_height c.args.types.now (flat_map value_keys (types_of c.args.fields.now.entries))) (keys_height c.args.types.now (value_keys c.field_at.result)) _ _ (largest-flat_map_at (height c.args.types.now) value_keys (types_of c.args.fields.now.entries) c.loop-i.i c.field_at.result c.field_at.ensures) (within_at c.args.types.now value_keys (types_of c.args.fields.now.entries) c.loop-i.i c.field_at.result c.field_at.ensures) c.loop-i.i c.field_at.result (λ v. v) c.in_ok-own.own (named (λ v. v) c.args.fields.now.entries) c.loop-i.taken.entries c.set_field.new.map.entries (types-named (λ v. v) c.args.fields.now.entries c.loop-i.i c.field_at.result c.field_at.ensures) c.set_field.ensures c.loop-i.invariant.takes c.in_ok-own.ensures;
     }
 
 pub take_fields-returns : goal.take_fields-returns
 take_fields-returns t c =
-    Takes-more c.args.types.now c.args.state.now c.loop-i.state (keys_height c.args.types.now (flat_map value_keys (types_of c.args.fields.now.entries))) (keys_height c.args.types.now (flat_map value_keys (types_of c.args.fields.now.entries))) _ _ (omega arith) c.requires.state (λ s kept q. set_whole (IsTakenValue class_of c.args.types.now s) c.loop-i.i (named (λ v. v) c.args.fields.now.entries) (named (λ v. v) c.loop-i.taken.entries) q (omega (arith, length-named (λ v. v) c.args.fields.now.entries, c.loop-i-test.false, c.len-i-end.ensures.len))) c.loop-i.invariant.takes
+    Takes-more c.args.types.now c.args.state.now c.loop-i.state (keys_height c.args.types.now (flat_map value_keys (types_of c.args.fields.now.entries))) (keys_height c.args.types.now (flat_map value_keys (types_of c.args.fields.now.entries))) _ _ _ _ (omega arith) (within_all c.args.types.now _) c.requires.state (λ s kept q. set_whole (IsTakenValue class_of c.args.types.now s) c.loop-i.i (named (λ v. v) c.args.fields.now.entries) (named (λ v. v) c.loop-i.taken.entries) q (omega (arith, length-named (λ v. v) c.args.fields.now.entries, c.loop-i-test.false, c.len-i-end.ensures.len))) c.loop-i.invariant.takes
 
 pub take_cases-loop-i-init : goal.take_cases-loop-i-init
 take_cases-loop-i-init t c =
     let shows = named-clones (λ o. o) (λ o q z. option-clone o q z) c.args.cases.now c.in_ok-taken.taken c.in_ok-taken.ensures.cases in
-    record { count = named_count (λ o. o) c.args.cases.now.entries c.in_ok-taken.taken.entries shows; takes = Takes-none c.args.types.now c.args.state.now (keys_height c.args.types.now (flat_map (optional_keys value_keys) (types_of c.args.cases.now.entries))) _ c.requires.state (set_start (IfAny (IsTakenValue class_of c.args.types.now (state_of c.args.state.now))) (named (λ o. o) c.args.cases.now.entries) (named (λ o. o) c.in_ok-taken.taken.entries) shows) }
+    record { count = named_count (λ o. o) c.args.cases.now.entries c.in_ok-taken.taken.entries shows; takes = Takes-none c.args.types.now c.args.state.now (keys_height c.args.types.now (flat_map (optional_keys value_keys) (types_of c.args.cases.now.entries))) _ _ c.requires.state (set_start (IfAny (IsTakenValue class_of c.args.types.now (state_of c.args.state.now))) (named (λ o. o) c.args.cases.now.entries) (named (λ o. o) c.in_ok-taken.taken.entries) shows) }
 
 pub take_cases-take_optional-requires : goal.take_cases-take_optional-requires
 take_cases-take_optional-requires t c =
-    (omega (arith, largest-flat_map_at (height c.args.types.now) (optional_keys value_keys) (types_of c.args.cases.now.entries) c.loop-i.i c.case_at.result c.case_at.ensures), (Each-flat_map_at (Stands c.args.types.now) (optional_keys value_keys) (types_of c.args.cases.now.entries) c.loop-i.i c.case_at.result c.case_at.ensures c.requires.source, MayTake-Takes c.args.types.now c.args.state.now c.loop-i.state _ _ c.requires.state c.loop-i.invariant.takes))
+    (omega (arith, largest-flat_map_at (height c.args.types.now) (optional_keys value_keys) (types_of c.args.cases.now.entries) c.loop-i.i c.case_at.result c.case_at.ensures), (Each-flat_map_at (Stands c.args.types.now) (optional_keys value_keys) (types_of c.args.cases.now.entries) c.loop-i.i c.case_at.result c.case_at.ensures c.requires.source, MayTake-Takes c.args.types.now c.args.state.now c.loop-i.state _ _ _ c.requires.state c.loop-i.invariant.takes))
 
 pub take_cases-loop-i-preserved : goal.take_cases-loop-i-preserved
 take_cases-loop-i-preserved t c =
     record {
       count = set_count c.loop-i.taken.entries c.set_case.new.map.entries c.loop-i.i c.in_ok-own.own c.set_case.ensures ∙ c.loop-i.invariant.count;
-      takes = Takes-set (λ s. IfAny (IsTakenValue class_of c.args.types.now s)) c.args.types.now (λ s u kept run x y h. option_still c.args.types.now s u kept (RemembersTruly class_of) c.args.types.now run x y h) c.args.state.now c.loop-i.state c.take_optional.new.state c.requires.state (keys_height c.args.types.now (flat_map (optional_keys value_keys) (types_of c.args.cases.now.entries))) (keys_height c.args.types.now (optional_keys value_keys c.case_at.result)) (largest-flat_map_at (height c.args.types.now) (optional_keys value_keys) (types_of c.args.cases.now.entries) c.loop-i.i c.case_at.result c.case_at.ensures) c.loop-i.i c.case_at.result (λ o. o) c.in_ok-own.own (named (λ o. o) c.args.cases.now.entries) c.loop-i.taken.entries c.set_case.new.map.entries (types-named (λ o. o) c.args.cases.now.entries c.loop-i.i c.case_at.result c.case_at.ensures) c.set_case.ensures c.loop-i.invariant.takes c.in_ok-own.ensures;
+      takes = Takes-set (λ s. IfAny (IsTakenValue class_of c.args.types.now s)) c.args.types.now (λ s u kept run x y h. option_still c.args.types.now s u kept (RemembersTruly class_of) c.args.types.now run x y h) c.args.state.now c.loop-i.state c.take_optional.new.state c.requires.state (keys_height c.args.types.now (flat_map (optional_keys value_keys) (types_of c.args.cases.now.entries))) (keys_height c.args.types.now (optional_keys value_keys c.case_at.result)) _ _ (largest-flat_map_at (height c.args.types.now) (optional_keys value_keys) (types_of c.args.cases.now.entries) c.loop-i.i c.case_at.result c.case_at.ensures) (within_at c.args.types.now (optional_keys value_keys) (types_of c.args.cases.now.entries) c.loop-i.i c.case_at.result c.case_at.ensures) c.loop-i.i c.case_at.result (λ o. o) c.in_ok-own.own (named (λ o. o) c.args.cases.now.entries) c.loop-i.taken.entries c.set_case.new.map.entries (types-named (λ o. o) c.args.cases.now.entries c.loop-i.i c.case_at.result c.case_at.ensures) c.set_case.ensures c.loop-i.invariant.takes c.in_ok-own.ensures;
     }
 
 pub take_cases-returns : goal.take_cases-returns
 take_cases-returns t c =
-    Takes-more c.args.types.now c.args.state.now c.loop-i.state (keys_height c.args.types.now (flat_map (optional_keys value_keys) (types_of c.args.cases.now.entries))) (keys_height c.args.types.now (flat_map (optional_keys value_keys) (types_of c.args.cases.now.entries))) _ _ (omega arith) c.requires.state (λ s kept q. set_whole (IfAny (IsTakenValue class_of c.args.types.now s)) c.loop-i.i (named (λ o. o) c.args.cases.now.entries) (named (λ o. o) c.loop-i.taken.entries) q (omega (arith, length-named (λ o. o) c.args.cases.now.entries, c.loop-i-test.false, c.len-i-end.ensures.len))) c.loop-i.invariant.takes
+    Takes-more c.args.types.now c.args.state.now c.loop-i.state (keys_height c.args.types.now (flat_map (optional_keys value_keys) (types_of c.args.cases.now.entries))) (keys_height c.args.types.now (flat_map (optional_keys value_keys) (types_of c.args.cases.now.entries))) _ _ _ _ (omega arith) (within_all c.args.types.now _) c.requires.state (λ s kept q. set_whole (IfAny (IsTakenValue class_of c.args.types.now s)) c.loop-i.i (named (λ o. o) c.args.cases.now.entries) (named (λ o. o) c.loop-i.taken.entries) q (omega (arith, length-named (λ o. o) c.args.cases.now.entries, c.loop-i-test.false, c.len-i-end.ensures.len))) c.loop-i.invariant.takes
 
 pub take_externs-loop-i-init : goal.take_externs-loop-i-init
 take_externs-loop-i-init t c =
     let shows = named-clones (λ k. k) (λ k l same. same) c.args.externs.now c.in_ok-taken.taken c.in_ok-taken.ensures.cases in
-    record { count = named_count (λ k. k) c.args.externs.now.entries c.in_ok-taken.taken.entries shows; takes = Takes-none c.args.types.now c.args.state.now (keys_height c.args.types.now (named_keys item_keys (named (λ k. k) c.args.externs.now.entries))) _ c.requires.state (set_start (IsTakenItem class_of c.args.types.now (state_of c.args.state.now)) (named (λ k. k) c.args.externs.now.entries) (named (λ k. k) c.in_ok-taken.taken.entries) shows) }
+    record { count = named_count (λ k. k) c.args.externs.now.entries c.in_ok-taken.taken.entries shows; takes = Takes-none c.args.types.now c.args.state.now (keys_height c.args.types.now (named_keys item_keys (named (λ k. k) c.args.externs.now.entries))) _ _ c.requires.state (set_start (IsTakenItem class_of c.args.types.now (state_of c.args.state.now)) (named (λ k. k) c.args.externs.now.entries) (named (λ k. k) c.in_ok-taken.taken.entries) shows) }
 
 pub take_externs-take_item-requires : goal.take_externs-take_item-requires
 take_externs-take_item-requires t c =
-    (omega (arith, named_lower item_keys (λ k. k) c.args.types.now c.args.externs.now.entries c.loop-i.i c.extern_at.result c.extern_at.ensures), (named_stands item_keys (λ k. k) c.args.types.now c.args.externs.now.entries c.loop-i.i c.extern_at.result c.extern_at.ensures c.requires.source, MayTake-Takes c.args.types.now c.args.state.now c.loop-i.state _ _ c.requires.state c.loop-i.invariant.takes))
+    (omega (arith, named_lower item_keys (λ k. k) c.args.types.now c.args.externs.now.entries c.loop-i.i c.extern_at.result c.extern_at.ensures), (named_stands item_keys (λ k. k) c.args.types.now c.args.externs.now.entries c.loop-i.i c.extern_at.result c.extern_at.ensures c.requires.source, MayTake-Takes c.args.types.now c.args.state.now c.loop-i.state _ _ _ c.requires.state c.loop-i.invariant.takes))
 
 pub take_externs-loop-i-preserved : goal.take_externs-loop-i-preserved
 take_externs-loop-i-preserved t c =
     record {
       count = set_count c.loop-i.taken.entries c.set_extern.new.map.entries c.loop-i.i c.in-Ok.own c.set_extern.ensures ∙ c.loop-i.invariant.count;
-      takes = Takes-set (λ s. IsTakenItem class_of c.args.types.now s) c.args.types.now (λ s u kept run x y h. taken_item_still class_of c.args.types.now s u kept (RemembersTruly class_of) c.args.types.now run x y h) c.args.state.now c.loop-i.state c.take_item.new.state c.requires.state (keys_height c.args.types.now (named_keys item_keys (named (λ k. k) c.args.externs.now.entries))) (keys_height c.args.types.now (item_keys c.extern_at.result)) (named_lower item_keys (λ k. k) c.args.types.now c.args.externs.now.entries c.loop-i.i c.extern_at.result c.extern_at.ensures) c.loop-i.i c.extern_at.result (λ k. k) c.in-Ok.own (named (λ k. k) c.args.externs.now.entries) c.loop-i.taken.entries c.set_extern.new.map.entries (types-named (λ k. k) c.args.externs.now.entries c.loop-i.i c.extern_at.result c.extern_at.ensures) c.set_extern.ensures c.loop-i.invariant.takes c.in-Ok.ensures;
+      takes = Takes-set (λ s. IsTakenItem class_of c.args.types.now s) c.args.types.now (λ s u kept run x y h. taken_item_still class_of c.args.types.now s u kept (RemembersTruly class_of) c.args.types.now run x y h) c.args.state.now c.loop-i.state c.take_item.new.state c.requires.state (keys_height c.args.types.now (named_keys item_keys (named (λ k. k) c.args.externs.now.entries))) (keys_height c.args.types.now (item_keys c.extern_at.result)) _ _ (named_lower item_keys (λ k. k) c.args.types.now c.args.externs.now.entries c.loop-i.i c.extern_at.result c.extern_at.ensures) (within_named c.args.types.now item_keys (λ k. k) c.args.externs.now.entries c.loop-i.i c.extern_at.result c.extern_at.ensures) c.loop-i.i c.extern_at.result (λ k. k) c.in-Ok.own (named (λ k. k) c.args.externs.now.entries) c.loop-i.taken.entries c.set_extern.new.map.entries (types-named (λ k. k) c.args.externs.now.entries c.loop-i.i c.extern_at.result c.extern_at.ensures) c.set_extern.ensures c.loop-i.invariant.takes c.in-Ok.ensures;
     }
 
 pub take_externs-returns : goal.take_externs-returns
 take_externs-returns t c =
-    Takes-more c.args.types.now c.args.state.now c.loop-i.state (keys_height c.args.types.now (named_keys item_keys (named (λ k. k) c.args.externs.now.entries))) (keys_height c.args.types.now (named_keys item_keys (named (λ k. k) c.args.externs.now.entries))) _ _ (omega arith) c.requires.state (λ s kept q. set_whole (IsTakenItem class_of c.args.types.now s) c.loop-i.i (named (λ k. k) c.args.externs.now.entries) (named (λ k. k) c.loop-i.taken.entries) q (omega (arith, length-named (λ k. k) c.args.externs.now.entries, c.loop-i-test.false, c.len-i-end.ensures.len))) c.loop-i.invariant.takes
+    Takes-more c.args.types.now c.args.state.now c.loop-i.state (keys_height c.args.types.now (named_keys item_keys (named (λ k. k) c.args.externs.now.entries))) (keys_height c.args.types.now (named_keys item_keys (named (λ k. k) c.args.externs.now.entries))) _ _ _ _ (omega arith) (within_all c.args.types.now _) c.requires.state (λ s kept q. set_whole (IsTakenItem class_of c.args.types.now s) c.loop-i.i (named (λ k. k) c.args.externs.now.entries) (named (λ k. k) c.loop-i.taken.entries) q (omega (arith, length-named (λ k. k) c.args.externs.now.entries, c.loop-i-test.false, c.len-i-end.ensures.len))) c.loop-i.invariant.takes
 
 pub take_values-loop-i-init : goal.take_values-loop-i-init
 take_values-loop-i-init t c =
     let same = same_from_all_zip _ c.args.values.now.items c.in_ok-taken.taken.items c.in_ok-taken.ensures.cases.0 (λ v w same. same) in
-    record { count = ap length same; takes = Takes-none c.args.types.now c.args.state.now (keys_height c.args.types.now (flat_map value_keys c.args.values.now.items)) _ c.requires.state (placed_start (IsTakenValue class_of c.args.types.now (state_of c.args.state.now)) c.args.values.now.items c.in_ok-taken.taken.items same) }
+    record { count = ap length same; takes = Takes-none c.args.types.now c.args.state.now (keys_height c.args.types.now (flat_map value_keys c.args.values.now.items)) _ _ c.requires.state (placed_start (IsTakenValue class_of c.args.types.now (state_of c.args.state.now)) c.args.values.now.items c.in_ok-taken.taken.items same) }
 
 pub take_values-take_value-requires : goal.take_values-take_value-requires
 take_values-take_value-requires t c =
-    (omega (arith, largest-flat_map_at (height c.args.types.now) value_keys c.args.values.now.items c.loop-i.i c.value_at.result c.value_at.ensures), (Each-flat_map_at (Stands c.args.types.now) value_keys c.args.values.now.items c.loop-i.i c.value_at.result c.value_at.ensures c.requires.source, MayTake-Takes c.args.types.now c.args.state.now c.loop-i.state _ _ c.requires.state c.loop-i.invariant.takes))
+    (omega (arith, largest-flat_map_at (height c.args.types.now) value_keys c.args.values.now.items c.loop-i.i c.value_at.result c.value_at.ensures), (Each-flat_map_at (Stands c.args.types.now) value_keys c.args.values.now.items c.loop-i.i c.value_at.result c.value_at.ensures c.requires.source, MayTake-Takes c.args.types.now c.args.state.now c.loop-i.state _ _ _ c.requires.state c.loop-i.invariant.takes))
 
 pub take_values-loop-i-preserved : goal.take_values-loop-i-preserved
 take_values-loop-i-preserved t c =
     record {
       count = ap length c.set_value.ensures ∙ length-set c.loop-i.taken.items c.loop-i.i c.in_ok-own.own ∙ c.loop-i.invariant.count;
-      takes = subst (λ ys. Takes c.args.types.now c.args.state.now c.take_value.new.state (keys_height c.args.types.now (flat_map value_keys c.args.values.now.items)) (λ s. ArePlaced (IsTakenValue class_of c.args.types.now s) (c.loop-i.i + 1) c.args.values.now.items ys)) (sym c.set_value.ensures)
-          (Takes-place (λ s. IsTakenValue class_of c.args.types.now s) c.args.types.now (λ s u kept run x y h. taken_value_still class_of c.args.types.now s u kept (RemembersTruly class_of) c.args.types.now run x y h) c.args.state.now c.loop-i.state c.take_value.new.state c.requires.state (keys_height c.args.types.now (flat_map value_keys c.args.values.now.items)) (keys_height c.args.types.now (value_keys c.value_at.result)) (largest-flat_map_at (height c.args.types.now) value_keys c.args.values.now.items c.loop-i.i c.value_at.result c.value_at.ensures) c.loop-i.i c.value_at.result c.in_ok-own.own c.args.values.now.items c.loop-i.taken.items c.value_at.ensures c.loop-i.invariant.takes c.in_ok-own.ensures);
+      takes = subst (λ ys. Takes c.args.types.now c.args.state.now c.take_value.new.state (keys_height c.args.types.now (flat_map value_keys c.args.values.now.items)) (flat_map value_keys c.args.values.now.items) (λ s. ArePlaced (IsTakenValue class_of c.args.types.now s) (c.loop-i.i + 1) c.args.values.now.items ys)) (sym c.set_value.ensures)
+          (Takes-place (λ s. IsTakenValue class_of c.args.types.now s) c.args.types.now (λ s u kept run x y h. taken_value_still class_of c.args.types.now s u kept (RemembersTruly class_of) c.args.types.now run x y h) c.args.state.now c.loop-i.state c.take_value.new.state c.requires.state (keys_height c.args.types.now (flat_map value_keys c.args.values.now.items)) (keys_height c.args.types.now (value_keys c.value_at.result)) _ _ (largest-flat_map_at (height c.args.types.now) value_keys c.args.values.now.items c.loop-i.i c.value_at.result c.value_at.ensures) (within_at c.args.types.now value_keys c.args.values.now.items c.loop-i.i c.value_at.result c.value_at.ensures) c.loop-i.i c.value_at.result c.in_ok-own.own c.args.values.now.items c.loop-i.taken.items c.value_at.ensures c.loop-i.invariant.takes c.in_ok-own.ensures);
     }
 
 pub take_values-returns : goal.take_values-returns
 take_values-returns t c =
-    Takes-more c.args.types.now c.args.state.now c.loop-i.state (keys_height c.args.types.now (flat_map value_keys c.args.values.now.items)) (keys_height c.args.types.now (flat_map value_keys c.args.values.now.items)) _ _ (omega arith) c.requires.state (λ s kept q. placed_whole (IsTakenValue class_of c.args.types.now s) c.loop-i.i c.args.values.now.items c.loop-i.taken.items q (omega (arith, c.loop-i-test.false, c.len-i-end.ensures))) c.loop-i.invariant.takes
+    Takes-more c.args.types.now c.args.state.now c.loop-i.state (keys_height c.args.types.now (flat_map value_keys c.args.values.now.items)) (keys_height c.args.types.now (flat_map value_keys c.args.values.now.items)) _ _ _ _ (omega arith) (within_all c.args.types.now _) c.requires.state (λ s kept q. placed_whole (IsTakenValue class_of c.args.types.now s) c.loop-i.i c.args.values.now.items c.loop-i.taken.items q (omega (arith, c.loop-i-test.false, c.len-i-end.ensures))) c.loop-i.invariant.takes
 
 pub take_content-returns-in_ok-item-in-List : goal.take_content-returns-in_ok-item-in-List
 take_content-returns-in_ok-item-in-List t c =
-    taken_content c.args.types.now c.args.state.now c.take_value.new.state c.requires.state (keys_height c.args.types.now (value_keys c.in-List.item)) (λ s. IsTakenValue class_of c.args.types.now s c.in-List.item c.in_ok-item-in-List.item) c.args.ty.now (ListOf c.in-List.item) (ListOf c.in_ok-item-in-List.item) c.in-List.is (one_lower c.args.types.now c.in-List.item) (λ s q. content_one (IsTakenValue class_of c.args.types.now s) list c.in-List.item c.in_ok-item-in-List.item q) c.in_ok-item-in-List.ensures
+    taken_content c.args.types.now c.args.state.now c.take_value.new.state c.requires.state (keys_height c.args.types.now (value_keys c.in-List.item)) _ (λ s. IsTakenValue class_of c.args.types.now s c.in-List.item c.in_ok-item-in-List.item) c.args.ty.now (ListOf c.in-List.item) (ListOf c.in_ok-item-in-List.item) c.in-List.is (one_lower c.args.types.now c.in-List.item) (within_left c.args.types.now (value_keys c.in-List.item) []) (λ s q. content_one (IsTakenValue class_of c.args.types.now s) list c.in-List.item c.in_ok-item-in-List.item q) c.in_ok-item-in-List.ensures
 
 pub take_content-returns-in_ok-item-in-FixedSizeList : goal.take_content-returns-in_ok-item-in-FixedSizeList
 take_content-returns-in_ok-item-in-FixedSizeList t c =
-    taken_content c.args.types.now c.args.state.now c.take_value-in-FixedSizeList.new.state c.requires.state (keys_height c.args.types.now (value_keys c.in-FixedSizeList.item)) (λ s. IsTakenValue class_of c.args.types.now s c.in-FixedSizeList.item c.in_ok-item-in-FixedSizeList.item) c.args.ty.now (FixedSizeList c.in-FixedSizeList.item c.in-FixedSizeList.size) (FixedSizeList c.in_ok-item-in-FixedSizeList.item c.in-FixedSizeList.size) c.in-FixedSizeList.is (one_lower c.args.types.now c.in-FixedSizeList.item) (λ s q. content_one (IsTakenValue class_of c.args.types.now s) (fixed_size_list c.in-FixedSizeList.size) c.in-FixedSizeList.item c.in_ok-item-in-FixedSizeList.item q) c.in_ok-item-in-FixedSizeList.ensures
+    taken_content c.args.types.now c.args.state.now c.take_value-in-FixedSizeList.new.state c.requires.state (keys_height c.args.types.now (value_keys c.in-FixedSizeList.item)) _ (λ s. IsTakenValue class_of c.args.types.now s c.in-FixedSizeList.item c.in_ok-item-in-FixedSizeList.item) c.args.ty.now (FixedSizeList c.in-FixedSizeList.item c.in-FixedSizeList.size) (FixedSizeList c.in_ok-item-in-FixedSizeList.item c.in-FixedSizeList.size) c.in-FixedSizeList.is (one_lower c.args.types.now c.in-FixedSizeList.item) (within_left c.args.types.now (value_keys c.in-FixedSizeList.item) []) (λ s q. content_one (IsTakenValue class_of c.args.types.now s) (fixed_size_list c.in-FixedSizeList.size) c.in-FixedSizeList.item c.in_ok-item-in-FixedSizeList.item q) c.in_ok-item-in-FixedSizeList.ensures
 
 pub take_content-returns-in_ok-item-in-Option : goal.take_content-returns-in_ok-item-in-Option
 take_content-returns-in_ok-item-in-Option t c =
-    taken_content c.args.types.now c.args.state.now c.take_value-in-Option.new.state c.requires.state (keys_height c.args.types.now (value_keys c.in-Option.item)) (λ s. IsTakenValue class_of c.args.types.now s c.in-Option.item c.in_ok-item-in-Option.item) c.args.ty.now (OptionOf c.in-Option.item) (OptionOf c.in_ok-item-in-Option.item) c.in-Option.is (one_lower c.args.types.now c.in-Option.item) (λ s q. content_one (IsTakenValue class_of c.args.types.now s) option c.in-Option.item c.in_ok-item-in-Option.item q) c.in_ok-item-in-Option.ensures
+    taken_content c.args.types.now c.args.state.now c.take_value-in-Option.new.state c.requires.state (keys_height c.args.types.now (value_keys c.in-Option.item)) _ (λ s. IsTakenValue class_of c.args.types.now s c.in-Option.item c.in_ok-item-in-Option.item) c.args.ty.now (OptionOf c.in-Option.item) (OptionOf c.in_ok-item-in-Option.item) c.in-Option.is (one_lower c.args.types.now c.in-Option.item) (within_left c.args.types.now (value_keys c.in-Option.item) []) (λ s q. content_one (IsTakenValue class_of c.args.types.now s) option c.in-Option.item c.in_ok-item-in-Option.item q) c.in_ok-item-in-Option.ensures
 
 pub take_content-returns-in_ok-payload-in-Stream : goal.take_content-returns-in_ok-payload-in-Stream
 take_content-returns-in_ok-payload-in-Stream t c =
-    taken_content c.args.types.now c.args.state.now c.take_optional-in-Stream.new.state c.requires.state (keys_height c.args.types.now (optional_keys value_keys c.in-Stream.payload)) (λ s. IfAny (IsTakenValue class_of c.args.types.now s) c.in-Stream.payload c.in_ok-payload-in-Stream.payload) c.args.ty.now (Stream c.in-Stream.payload) (Stream c.in_ok-payload-in-Stream.payload) c.in-Stream.is (last_lower c.args.types.now c.in-Stream.payload) (λ s q. content_option (IsTakenValue class_of c.args.types.now s) stream c.in-Stream.payload c.in_ok-payload-in-Stream.payload q) c.in_ok-payload-in-Stream.ensures
+    taken_content c.args.types.now c.args.state.now c.take_optional-in-Stream.new.state c.requires.state (keys_height c.args.types.now (optional_keys value_keys c.in-Stream.payload)) _ (λ s. IfAny (IsTakenValue class_of c.args.types.now s) c.in-Stream.payload c.in_ok-payload-in-Stream.payload) c.args.ty.now (Stream c.in-Stream.payload) (Stream c.in_ok-payload-in-Stream.payload) c.in-Stream.is (last_lower c.args.types.now c.in-Stream.payload) (within_option c.args.types.now c.in-Stream.payload) (λ s q. content_option (IsTakenValue class_of c.args.types.now s) stream c.in-Stream.payload c.in_ok-payload-in-Stream.payload q) c.in_ok-payload-in-Stream.ensures
 
 pub take_content-returns-in_ok-payload-in-Future : goal.take_content-returns-in_ok-payload-in-Future
 take_content-returns-in_ok-payload-in-Future t c =
-    taken_content c.args.types.now c.args.state.now c.take_optional-in-Future.new.state c.requires.state (keys_height c.args.types.now (optional_keys value_keys c.in-Future.payload)) (λ s. IfAny (IsTakenValue class_of c.args.types.now s) c.in-Future.payload c.in_ok-payload-in-Future.payload) c.args.ty.now (Future c.in-Future.payload) (Future c.in_ok-payload-in-Future.payload) c.in-Future.is (last_lower c.args.types.now c.in-Future.payload) (λ s q. content_option (IsTakenValue class_of c.args.types.now s) future c.in-Future.payload c.in_ok-payload-in-Future.payload q) c.in_ok-payload-in-Future.ensures
+    taken_content c.args.types.now c.args.state.now c.take_optional-in-Future.new.state c.requires.state (keys_height c.args.types.now (optional_keys value_keys c.in-Future.payload)) _ (λ s. IfAny (IsTakenValue class_of c.args.types.now s) c.in-Future.payload c.in_ok-payload-in-Future.payload) c.args.ty.now (Future c.in-Future.payload) (Future c.in_ok-payload-in-Future.payload) c.in-Future.is (last_lower c.args.types.now c.in-Future.payload) (within_option c.args.types.now c.in-Future.payload) (λ s q. content_option (IsTakenValue class_of c.args.types.now s) future c.in-Future.payload c.in_ok-payload-in-Future.payload q) c.in_ok-payload-in-Future.ensures
 
 pub take_content-returns-in_ok-err-in-Result : goal.take_content-returns-in_ok-err-in-Result
 take_content-returns-in_ok-err-in-Result t c =
-    taken_content c.args.types.now c.args.state.now c.take_optional-in-Result.new.state c.requires.state (keys_height c.args.types.now (flat_map value_keys (option_to_list c.in-Result.ok ++ option_to_list c.in-Result.err))) (λ s. IfAny (IsTakenValue class_of c.args.types.now s) c.in-Result.ok c.in_ok-ok-in-Result.ok × IfAny (IsTakenValue class_of c.args.types.now s) c.in-Result.err c.in_ok-err-in-Result.err) c.args.ty.now (Result c.in-Result.ok c.in-Result.err) (Result c.in_ok-ok-in-Result.ok c.in_ok-err-in-Result.err) c.in-Result.is (omega arith) (λ s q. content_result (IsTakenValue class_of c.args.types.now s) c.in-Result.ok c.in-Result.err c.in_ok-ok-in-Result.ok c.in_ok-err-in-Result.err q.0 q.1) (Takes-then c.args.types.now c.args.state.now c.take_optional.new.state c.take_optional-in-Result.new.state (keys_height c.args.types.now (optional_keys value_keys c.in-Result.ok)) (keys_height c.args.types.now (optional_keys value_keys c.in-Result.err)) (keys_height c.args.types.now (flat_map value_keys (option_to_list c.in-Result.ok ++ option_to_list c.in-Result.err))) (λ s. IfAny (IsTakenValue class_of c.args.types.now s) c.in-Result.ok c.in_ok-ok-in-Result.ok) (λ s. IfAny (IsTakenValue class_of c.args.types.now s) c.in-Result.err c.in_ok-err-in-Result.err) (first_lower c.args.types.now c.in-Result.ok (option_to_list c.in-Result.err)) (omega (arith, last_lower c.args.types.now c.in-Result.err, others_lower c.args.types.now c.in-Result.ok (option_to_list c.in-Result.err))) c.requires.state (λ s u kept run h. option_still c.args.types.now s u kept (RemembersTruly class_of) c.args.types.now run c.in-Result.ok c.in_ok-ok-in-Result.ok h) c.in_ok-ok-in-Result.ensures c.in_ok-err-in-Result.ensures)
+    taken_content c.args.types.now c.args.state.now c.take_optional-in-Result.new.state c.requires.state (keys_height c.args.types.now (flat_map value_keys (option_to_list c.in-Result.ok ++ option_to_list c.in-Result.err))) _ (λ s. IfAny (IsTakenValue class_of c.args.types.now s) c.in-Result.ok c.in_ok-ok-in-Result.ok × IfAny (IsTakenValue class_of c.args.types.now s) c.in-Result.err c.in_ok-err-in-Result.err) c.args.ty.now (Result c.in-Result.ok c.in-Result.err) (Result c.in_ok-ok-in-Result.ok c.in_ok-err-in-Result.err) c.in-Result.is (omega arith) (within_all c.args.types.now _) (λ s q. content_result (IsTakenValue class_of c.args.types.now s) c.in-Result.ok c.in-Result.err c.in_ok-ok-in-Result.ok c.in_ok-err-in-Result.err q.0 q.1) (Takes-then c.args.types.now c.args.state.now c.take_optional.new.state c.take_optional-in-Result.new.state (keys_height c.args.types.now (optional_keys value_keys c.in-Result.ok)) (keys_height c.args.types.now (optional_keys value_keys c.in-Result.err)) (keys_height c.args.types.now (flat_map value_keys (option_to_list c.in-Result.ok ++ option_to_list c.in-Result.err))) _ _ (flat_map value_keys (option_to_list c.in-Result.ok ++ option_to_list c.in-Result.err)) (λ s. IfAny (IsTakenValue class_of c.args.types.now s) c.in-Result.ok c.in_ok-ok-in-Result.ok) (λ s. IfAny (IsTakenValue class_of c.args.types.now s) c.in-Result.err c.in_ok-err-in-Result.err) (first_lower c.args.types.now c.in-Result.ok (option_to_list c.in-Result.err)) (omega (arith, last_lower c.args.types.now c.in-Result.err, others_lower c.args.types.now c.in-Result.ok (option_to_list c.in-Result.err))) (within_first c.args.types.now c.in-Result.ok (option_to_list c.in-Result.err)) (within_trans c.args.types.now (optional_keys value_keys c.in-Result.err) (flat_map value_keys (option_to_list c.in-Result.err)) _ (within_option c.args.types.now c.in-Result.err) (within_others c.args.types.now c.in-Result.ok (option_to_list c.in-Result.err))) c.requires.state (λ s u kept run h. option_still c.args.types.now s u kept (RemembersTruly class_of) c.args.types.now run c.in-Result.ok c.in_ok-ok-in-Result.ok h) c.in_ok-ok-in-Result.ensures c.in_ok-err-in-Result.ensures)
 
 pub take_content-returns-in_ok-cases-in-Variant : goal.take_content-returns-in_ok-cases-in-Variant
 take_content-returns-in_ok-cases-in-Variant t c =
-    taken_content c.args.types.now c.args.state.now c.take_cases.new.state c.requires.state (keys_height c.args.types.now (flat_map (optional_keys value_keys) (types_of c.in-Variant.variant.cases.entries))) (λ s. AreMapped (IfAny (IsTakenValue class_of c.args.types.now s)) (named (λ o. o) c.in-Variant.variant.cases.entries) (named (λ o. o) c.in_ok-cases-in-Variant.cases.entries)) c.args.ty.now (Variant c.in-Variant.variant) (Variant (record { cases = c.in_ok-cases-in-Variant.cases })) c.in-Variant.is (omega (arith, ap (keys_height c.args.types.now) (cases_flat c.args.types.now c.in-Variant.variant.cases.entries))) (λ s q. content_variant (IsTakenValue class_of c.args.types.now s) c.in-Variant.variant.cases.entries c.in_ok-cases-in-Variant.cases.entries q) c.in_ok-cases-in-Variant.ensures
+    taken_content c.args.types.now c.args.state.now c.take_cases.new.state c.requires.state (keys_height c.args.types.now (flat_map (optional_keys value_keys) (types_of c.in-Variant.variant.cases.entries))) _ (λ s. AreMapped (IfAny (IsTakenValue class_of c.args.types.now s)) (named (λ o. o) c.in-Variant.variant.cases.entries) (named (λ o. o) c.in_ok-cases-in-Variant.cases.entries)) c.args.ty.now (Variant c.in-Variant.variant) (Variant (record { cases = c.in_ok-cases-in-Variant.cases })) c.in-Variant.is (omega (arith, ap (keys_height c.args.types.now) (cases_flat c.args.types.now c.in-Variant.variant.cases.entries))) (within_same c.args.types.now (flat_map (optional_keys value_keys) (types_of c.in-Variant.variant.cases.entries)) (flat_map value_keys (case_types c.in-Variant.variant.cases.entries)) (cases_flat c.args.types.now c.in-Variant.variant.cases.entries)) (λ s q. content_variant (IsTakenValue class_of c.args.types.now s) c.in-Variant.variant.cases.entries c.in_ok-cases-in-Variant.cases.entries q) c.in_ok-cases-in-Variant.ensures
 
 pub take_content-take_cases-requires : goal.take_content-take_cases-requires
 take_content-take_cases-requires t c =
@@ -239,15 +232,15 @@ take_content-take_cases-requires t c =
 
 pub take_content-returns-in_ok-fields-in-Record : goal.take_content-returns-in_ok-fields-in-Record
 take_content-returns-in_ok-fields-in-Record t c =
-    taken_content c.args.types.now c.args.state.now c.take_fields.new.state c.requires.state (keys_height c.args.types.now (flat_map value_keys (types_of c.in-Record.record.fields.entries))) (λ s. AreMapped (IsTakenValue class_of c.args.types.now s) (named (λ v. v) c.in-Record.record.fields.entries) (named (λ v. v) c.in_ok-fields-in-Record.fields.entries)) c.args.ty.now (Record c.in-Record.record) (Record (record { fields = c.in_ok-fields-in-Record.fields })) c.in-Record.is (omega arith) (λ s q. content_record (IsTakenValue class_of c.args.types.now s) c.in-Record.record.fields.entries c.in_ok-fields-in-Record.fields.entries q) c.in_ok-fields-in-Record.ensures
+    taken_content c.args.types.now c.args.state.now c.take_fields.new.state c.requires.state (keys_height c.args.types.now (flat_map value_keys (types_of c.in-Record.record.fields.entries))) _ (λ s. AreMapped (IsTakenValue class_of c.args.types.now s) (named (λ v. v) c.in-Record.record.fields.entries) (named (λ v. v) c.in_ok-fields-in-Record.fields.entries)) c.args.ty.now (Record c.in-Record.record) (Record (record { fields = c.in_ok-fields-in-Record.fields })) c.in-Record.is (omega arith) (within_all c.args.types.now _) (λ s q. content_record (IsTakenValue class_of c.args.types.now s) c.in-Record.record.fields.entries c.in_ok-fields-in-Record.fields.entries q) c.in_ok-fields-in-Record.ensures
 
 pub take_content-returns-in_ok-clone-in-Flags : goal.take_content-returns-in_ok-clone-in-Flags
 take_content-returns-in_ok-clone-in-Flags t c =
-    taken_content c.args.types.now c.args.state.now c.args.state.now c.requires.state zero (λ s. Unit {0}) c.args.ty.now (Flags c.in-Flags.flags) (Flags c.in_ok-clone-in-Flags.field-0) c.in-Flags.is (omega arith) (λ s q. (ap flags c.in_ok-clone-in-Flags.ensures.cases, listed.none)) (Takes-none c.args.types.now c.args.state.now zero (λ s. Unit {0}) c.requires.state tt)
+    taken_content c.args.types.now c.args.state.now c.args.state.now c.requires.state zero [] (λ s. Unit {0}) c.args.ty.now (Flags c.in-Flags.flags) (Flags c.in_ok-clone-in-Flags.field-0) c.in-Flags.is (omega arith) (within_all c.args.types.now _) (λ s q. (ap flags c.in_ok-clone-in-Flags.ensures.cases, listed.none)) (Takes-none c.args.types.now c.args.state.now zero _ (λ s. Unit {0}) c.requires.state tt)
 
 pub take_content-returns-in_ok-clone-in-Enum : goal.take_content-returns-in_ok-clone-in-Enum
 take_content-returns-in_ok-clone-in-Enum t c =
-    taken_content c.args.types.now c.args.state.now c.args.state.now c.requires.state zero (λ s. Unit {0}) c.args.ty.now (Enum c.in-Enum.cases) (Enum c.in_ok-clone-in-Enum.field-0) c.in-Enum.is (omega arith) (λ s q. (ap enum c.in_ok-clone-in-Enum.ensures.cases, listed.none)) (Takes-none c.args.types.now c.args.state.now zero (λ s. Unit {0}) c.requires.state tt)
+    taken_content c.args.types.now c.args.state.now c.args.state.now c.requires.state zero [] (λ s. Unit {0}) c.args.ty.now (Enum c.in-Enum.cases) (Enum c.in_ok-clone-in-Enum.field-0) c.in-Enum.is (omega arith) (within_all c.args.types.now _) (λ s q. (ap enum c.in_ok-clone-in-Enum.ensures.cases, listed.none)) (Takes-none c.args.types.now c.args.state.now zero _ (λ s. Unit {0}) c.requires.state tt)
 
 pub take_func-take_fields-requires : goal.take_func-take_fields-requires
 take_func-take_fields-requires t c =
@@ -255,7 +248,7 @@ take_func-take_fields-requires t c =
 
 pub take_func-take_optional-requires : goal.take_func-take_optional-requires
 take_func-take_optional-requires t c =
-    (omega (arith, result_lower c.args.types.now c.index-func.result.now.params.entries c.index-func.result.now.«result», c.index-func.ensures.lower), (result_stands c.args.types.now c.index-func.result.now.params.entries c.index-func.result.now.«result» c.index-func.ensures.standing, MayTake-Takes c.args.types.now c.args.state.now c.take_fields.new.state _ _ c.requires.state c.in_ok-params.ensures))
+    (omega (arith, result_lower c.args.types.now c.index-func.result.now.params.entries c.index-func.result.now.«result», c.index-func.ensures.lower), (result_stands c.args.types.now c.index-func.result.now.params.entries c.index-func.result.now.«result» c.index-func.ensures.standing, MayTake-Takes c.args.types.now c.args.state.now c.take_fields.new.state _ _ _ c.requires.state c.in_ok-params.ensures))
 
 pub take_defined-returns : goal.take_defined-returns
 take_defined-returns t c =
@@ -264,7 +257,7 @@ take_defined-returns t c =
     let x = defined_content c.index.result.now in
     let z = defined_content c.in_ok-content.content in
     let parts = c.in_ok-content.ensures in
-    Takes-enter f c.args.state.now b (record b { types = c.add_defined_type.new.self; taken = c.put_defined.new.self }) (defined_key c.args.id) (defined_key c.in_ok-own.own) (defined_entry z) (keys_height f (defined_keys x)) (λ s. AreDefined (IsTakenValue class_of f s) x z) c.requires.state c.requires.source.0 (omega (arith, c.index.ensures.lower))
+    Takes-enter f c.args.state.now b (record b { types = c.add_defined_type.new.self; taken = c.put_defined.new.self }) (defined_key c.args.id) (defined_key c.in_ok-own.own) (defined_entry z) (keys_height f (defined_keys x)) _ (λ s. AreDefined (IsTakenValue class_of f s) x z) c.requires.state c.sound.ensures c.requires.source (omega (arith, c.index.ensures.lower)) (within_parts f (defined_key c.args.id) (defined_keys x) (ap (optional_keys other_keys) (defined_at f c.args.id x c.index.ensures.entry)))
     parts refl c.in_ok-own.ensures.added (ap defined_key c.in_ok-own.ensures.id) (c.in_ok-put_defined.ensures (parts.low (defined_key c.args.id) c.index.ensures.lower (sym c.in_default.ensures)))
     (λ u kept q adds same. defined_enters f (state_of b) c.sound.ensures kept u c.args.id x z c.requires.source c.index.ensures.entry q adds same)
 
@@ -272,20 +265,28 @@ pub take_defined-add_defined_type-requires : goal.take_defined-add_defined_type-
 take_defined-add_defined_type-requires t c =
     defined_stands c.args.types.now (state_of c.take_content.new.state) (defined_content c.index.result.now) (defined_content c.in_ok-content.content) c.in_ok-content.ensures.holds
 
+pub take_resource-take_source-requires : goal.take_resource-take_source-requires
+take_resource-take_source-requires t c =
+    let is = ap (option_and_then (λ (e : ResourceContent). e.alias)) c.index-resource.ensures.entry in
+    (omega (arith, c.index-resource.ensures.lower, ap (λ o. keys_height c.args.types.now (optional_keys alias_keys o)) is), (c.requires.source, c.requires.state))
+
 pub take_resource-returns : goal.take_resource-returns
 take_resource-returns t c =
     let f = c.args.types.now in
     let b = c.take_source.new.state in
     let x = resource_content c.index-resource.result.now in
     let z = resource_content (record { name = c.in_ok-name.name; alias = c.in_ok-alias.alias }) in
-    let parts = c.in_ok-alias.ensures in
-    Takes-enter f c.args.state.now b (record b { types = c.add_resource.new.self; taken = c.put_resource.new.self }) (resource_key c.args.id) (resource_key c.in_ok-own.own) (resource_entry z) (keys_height f (optional_keys alias_keys x.alias)) (λ s. IfAny (IsTakenAlias f s) x.alias z.alias) c.requires.state c.requires.source.0 (omega (arith, c.index-resource.ensures.lower))
+    let is : alias_at f c.args.id ≡ x.alias = ap (option_and_then (λ (e : ResourceContent). e.alias)) c.index-resource.ensures.entry in
+    let parts = subst (λ o. Takes f c.args.state.now b (keys_height f (optional_keys alias_keys o)) (resource_key c.args.id ∷ []) (λ s. IfAny (IsTakenAlias f s) o z.alias)) is c.in_ok-alias.ensures in
+    Takes-enter f c.args.state.now b (record b { types = c.add_resource.new.self; taken = c.put_resource.new.self }) (resource_key c.args.id) (resource_key c.in_ok-own.own) (resource_entry z) (keys_height f (optional_keys alias_keys x.alias)) _ (λ s. IfAny (IsTakenAlias f s) x.alias z.alias) c.requires.state c.sound.ensures c.requires.source (omega (arith, c.index-resource.ensures.lower)) (within_all f (resource_key c.args.id ∷ []))
     parts refl c.in_ok-own.ensures.added (ap resource_key c.in_ok-own.ensures.id) (c.in_ok-put_resource.ensures (parts.low (resource_key c.args.id) c.index-resource.ensures.lower (sym c.in_default.ensures)))
     (λ u kept q adds same. resource_enters f (state_of b) c.sound.ensures kept u c.args.id x z c.requires.source c.index-resource.ensures.entry c.in_ok-name.ensures.cases q adds same)
 
 pub take_resource-add_resource-requires : goal.take_resource-add_resource-requires
 take_resource-add_resource-requires t c =
-    alias_stands c.args.types.now (state_of c.take_source.new.state) (option_map alias_content c.index-resource.result.now.alias) (option_map alias_content c.in_ok-alias.alias) c.in_ok-alias.ensures.holds
+    let f = c.args.types.now in
+    let z = resource_content (record { name = c.in_ok-name.name; alias = c.in_ok-alias.alias }) in
+    alias_stands f (state_of c.take_source.new.state) (alias_at f c.args.id) z.alias c.in_ok-alias.ensures.holds
 
 pub take_func-returns : goal.take_func-returns
 take_func-returns t c =
@@ -296,9 +297,8 @@ take_func-returns t c =
     let z = func_content (record { params = c.in_ok-params.params; «result» = c.in_ok-result.result; is_async = c.index-func.result.now.is_async }) in
     let params : State → Type 0 = λ s. AreMapped (IsTakenValue class_of f s) x.params z.params in
     let answer : State → Type 0 = λ s. IfAny (IsTakenValue class_of f s) x.«result» z.«result» in
-    let parts = Takes-then f a c.take_fields.new.state b _ _ (keys_height f (func_keys x)) params answer (params_lower f c.index-func.result.now.params.entries x.«result») (result_lower f c.index-func.result.now.params.entries x.«result») c.requires.state
-    (λ s u kept run h. values_still f s u kept (RemembersTruly class_of) f run x.params z.params h) c.in_ok-params.ensures c.in_ok-result.ensures in
-    Takes-enter f a b (record b { types = c.add_func_type.new.self; taken = c.put_func.new.self }) (func_key c.args.id) (func_key c.in_ok-own.own) (func_entry z) (keys_height f (func_keys x)) (λ s. params s × answer s) c.requires.state c.requires.source.0 (omega (arith, c.index-func.ensures.lower))
+    let parts = Takes-then f a c.take_fields.new.state b _ _ (keys_height f (func_keys x)) _ _ (func_keys x) params answer (params_lower f c.index-func.result.now.params.entries x.«result») (result_lower f c.index-func.result.now.params.entries x.«result») (within_params f c.index-func.result.now.params.entries x.«result») (within_right f (named_keys value_keys x.params) (optional_keys value_keys x.«result»)) c.requires.state (λ s u kept run h. values_still f s u kept (RemembersTruly class_of) f run x.params z.params h) c.in_ok-params.ensures c.in_ok-result.ensures in
+    Takes-enter f a b (record b { types = c.add_func_type.new.self; taken = c.put_func.new.self }) (func_key c.args.id) (func_key c.in_ok-own.own) (func_entry z) (keys_height f (func_keys x)) _ (λ s. params s × answer s) c.requires.state c.sound.ensures c.requires.source (omega (arith, c.index-func.ensures.lower)) (within_parts f (func_key c.args.id) (func_keys x) (ap (optional_keys other_keys) (func_at f c.args.id x c.index-func.ensures.entry)))
     parts refl c.in_ok-own.ensures.added (ap func_key c.in_ok-own.ensures.id) (c.in_ok-put_func.ensures (parts.low (func_key c.args.id) c.index-func.ensures.lower (sym c.in_default.ensures)))
     (λ u kept q adds same. func_enters f (state_of b) c.sound.ensures kept u c.args.id x z c.requires.source c.index-func.ensures.entry (record { params = q.0; «result» = q.1; is_async = refl }) adds same)
 
@@ -310,38 +310,16 @@ take_func-add_func_type-requires t c =
     let z = func_content (record { params = c.in_ok-params.params; «result» = c.in_ok-result.result; is_async = c.index-func.result.now.is_async }) in
     let params : State → Type 0 = λ s. AreMapped (IsTakenValue class_of f s) x.params z.params in
     let answer : State → Type 0 = λ s. IfAny (IsTakenValue class_of f s) x.«result» z.«result» in
-    let parts = Takes-then f c.args.state.now c.take_fields.new.state b _ _ (keys_height f (func_keys x)) params answer (params_lower f c.index-func.result.now.params.entries x.«result») (result_lower f c.index-func.result.now.params.entries x.«result») c.requires.state
-    (λ s u kept run h. values_still f s u kept (RemembersTruly class_of) f run x.params z.params h) c.in_ok-params.ensures c.in_ok-result.ensures in
+    let parts = Takes-then f c.args.state.now c.take_fields.new.state b _ _ (keys_height f (func_keys x)) _ _ (func_keys x) params answer (params_lower f c.index-func.result.now.params.entries x.«result») (result_lower f c.index-func.result.now.params.entries x.«result») (within_params f c.index-func.result.now.params.entries x.«result») (within_right f (named_keys value_keys x.params) (optional_keys value_keys x.«result»)) c.requires.state (λ s u kept run h. values_still f s u kept (RemembersTruly class_of) f run x.params z.params h) c.in_ok-params.ensures c.in_ok-result.ensures in
     func_stands f (state_of b) x z (record { params = parts.holds.0; «result» = parts.holds.1; is_async = refl })
 
 pub take_item-returns-in_ok-take_value-in-Value : goal.take_item-returns-in_ok-take_value-in-Value
 take_item-returns-in_ok-take_value-in-Value t c =
-    subst (λ k. Takes c.args.types.now c.args.state.now c.take_value.new.state (keys_height c.args.types.now (item_keys k)) (λ s. IsTakenItem class_of c.args.types.now s k (Value c.in_ok-take_value-in-Value.field-0))) (sym c.in-Value.is) (Takes-more c.args.types.now c.args.state.now c.take_value.new.state _ _ _ _ (omega arith) c.requires.state (λ s kept h. item_of_value c.args.types.now s c.in-Value.ty c.in_ok-take_value-in-Value.field-0 h) c.in_ok-take_value-in-Value.ensures)
+    subst (λ k. Takes c.args.types.now c.args.state.now c.take_value.new.state (keys_height c.args.types.now (item_keys k)) (item_keys k) (λ s. IsTakenItem class_of c.args.types.now s k (Value c.in_ok-take_value-in-Value.field-0))) (sym c.in-Value.is) (Takes-more c.args.types.now c.args.state.now c.take_value.new.state _ _ _ _ _ _ (omega arith) (within_all c.args.types.now _) c.requires.state (λ s kept h. item_of_value c.args.types.now s c.in-Value.ty c.in_ok-take_value-in-Value.field-0 h) c.in_ok-take_value-in-Value.ensures)
 
 pub take_type-returns-in_ok-take_value-in-Value : goal.take_type-returns-in_ok-take_value-in-Value
 take_type-returns-in_ok-take_value-in-Value t c =
-    subst (λ k. Takes c.args.types.now c.args.state.now c.take_value.new.state (keys_height c.args.types.now (type_keys k)) (λ s. IsTakenItem class_of c.args.types.now s (OfType k) (OfType (TypeValue c.in_ok-take_value-in-Value.field-0)))) (sym c.in-Value.is) (Takes-more c.args.types.now c.args.state.now c.take_value.new.state _ _ _ _ (omega arith) c.requires.state (λ s kept h. type_of_value c.args.types.now s c.in-Value.ty c.in_ok-take_value-in-Value.field-0 h) c.in_ok-take_value-in-Value.ensures)
-
-pub take_owner-returns-in_default : goal.take_owner-returns-in_default
-take_owner-returns-in_default t c =
-    subst (λ o. Takes c.args.types.now c.args.state.now c.args.state.now (keys_height c.args.types.now (optional_keys (λ p. interface_key p ∷ []) o)) (λ s. IfAny (λ p q. IsTakenKey class_of c.args.types.now s (interface_key p) (interface_key q)) o None)) (sym c.in_default.is) (Takes-none c.args.types.now c.args.state.now _ _ c.requires.state neither)
-
-pub take_owner-import_owner-requires-clause-shared : goal.take_owner-import_owner-requires-clause-shared
-take_owner-import_owner-requires-clause-shared t c =
-    let name = some_name c.index.result.now.id c.if-is_none.ensures in
-    let identified = content_identifier c.args.types.now c.in-Some.owner (interface_content c.index.result.now) c.index.ensures.entry ∙ name.1 in
-    (c.in_ok-own.ensures.holds.remembered.shared name.0 identified).is_shared
-
-pub take_owner-returns : goal.take_owner-returns
-take_owner-returns t c =
-    let f = c.args.types.now in
-    let a = c.args.state.now in
-    let b = c.take_interface.new.state in
-    let taken : State → Type 0 = λ s. IsTakenKey class_of f s (interface_key c.in-Some.owner) (interface_key c.in_ok-own.own) in
-    let imported = c.in_ok-import_owner.ensures f (MayTake-Takes f a b _ _ c.requires.state c.in_ok-own.ensures) in
-    subst (λ o. Takes f a c.import_owner.new.state (keys_height f (optional_keys (λ p. interface_key p ∷ []) o)) (λ s. IfAny (λ p q. IsTakenKey class_of f s (interface_key p) (interface_key q)) o (Some c.in_ok-own.own))) (sym c.in-Some.is)
-    (Takes-more f a c.import_owner.new.state (height f (interface_key c.in-Some.owner)) _ (λ s. taken s × Unit {0}) _ (omega arith) c.requires.state (λ s kept h. both h.0)
-    (Takes-then f a b c.import_owner.new.state (height f (interface_key c.in-Some.owner)) 0 (height f (interface_key c.in-Some.owner)) taken (λ s. Unit {0}) (omega arith) (omega arith) c.requires.state (λ s u kept run h. taken_key_still class_of f s u kept (RemembersTruly class_of) f run (interface_key c.in-Some.owner) (interface_key c.in_ok-own.own) h) c.in_ok-own.ensures imported))
+    subst (λ k. Takes c.args.types.now c.args.state.now c.take_value.new.state (keys_height c.args.types.now (type_keys k)) (type_keys k) (λ s. IsTakenItem class_of c.args.types.now s (OfType k) (OfType (TypeValue c.in_ok-take_value-in-Value.field-0)))) (sym c.in-Value.is) (Takes-more c.args.types.now c.args.state.now c.take_value.new.state _ _ _ _ _ _ (omega arith) (within_all c.args.types.now _) c.requires.state (λ s kept h. type_of_value c.args.types.now s c.in-Value.ty c.in_ok-take_value-in-Value.field-0 h) c.in_ok-take_value-in-Value.ensures)
 
 pub take_interface-take_uses-requires : goal.take_interface-take_uses-requires
 take_interface-take_uses-requires t c =
@@ -349,7 +327,7 @@ take_interface-take_uses-requires t c =
 
 pub take_interface-take_externs-requires : goal.take_interface-take_externs-requires
 take_interface-take_externs-requires t c =
-    (omega (arith, exports_lower c.args.types.now (interface_content c.index-interface.result.now), c.index-interface.ensures.lower), (exports_stand c.args.types.now (interface_content c.index-interface.result.now) c.index-interface.ensures.standing, MayTake-Takes c.args.types.now c.args.state.now c.take_uses.new.state _ _ c.requires.state c.in_ok-uses.ensures))
+    (omega (arith, exports_lower c.args.types.now (interface_content c.index-interface.result.now), c.index-interface.ensures.lower), (exports_stand c.args.types.now (interface_content c.index-interface.result.now) c.index-interface.ensures.standing, MayTake-Takes c.args.types.now c.args.state.now c.take_uses.new.state _ _ _ c.requires.state c.in_ok-uses.ensures))
 
 pub take_interface-put_interface-requires-clause-taken : goal.take_interface-put_interface-requires-clause-taken
 take_interface-put_interface-requires-clause-taken t c =
@@ -359,8 +337,7 @@ take_interface-put_interface-requires-clause-taken t c =
     let es = named (λ k. k) c.in_ok-exports.exports.entries in
     let used : State → Type 0 = λ s. AreMapped (IsTakenUse f s) x.uses us in
     let exported : State → Type 0 = λ s. AreMapped (IsTakenItem class_of f s) x.exports es in
-    let parts = Takes-then f c.args.state.now c.take_uses.new.state c.take_externs.new.state _ _ (keys_height f (interface_keys x)) used exported (uses_lower f x) (exports_lower f x) c.requires.state
-    (λ s u kept run h. uses_still f s u kept (RemembersTruly class_of) f run x.uses us h) c.in_ok-uses.ensures c.in_ok-exports.ensures in
+    let parts = Takes-then f c.args.state.now c.take_uses.new.state c.take_externs.new.state _ _ (keys_height f (interface_keys x)) _ _ (interface_keys x) used exported (uses_lower f x) (exports_lower f x) (within_left f (named_keys use_keys x.uses) (named_keys item_keys x.exports)) (within_right f (named_keys use_keys x.uses) (named_keys item_keys x.exports)) c.requires.state (λ s u kept run h. uses_still f s u kept (RemembersTruly class_of) f run x.uses us h) c.in_ok-uses.ensures c.in_ok-exports.ensures in
     record {
       content = x;
       taken = interface_is_taken f (state_of c.take_externs.new.state) c.sound.ensures c.args.id x us es c.requires.source c.index-interface.ensures.entry parts.holds.0 parts.holds.1;
@@ -374,14 +351,13 @@ take_interface-returns t c =
     let us = named use_content c.in_ok-uses.uses.entries in
     let used : State → Type 0 = λ s. AreMapped (IsTakenUse f s) x.uses us in
     let exported : State → Type 0 = λ s. AreMapped (IsTakenItem class_of f s) x.exports (named (λ k. k) c.in_ok-exports.exports.entries) in
-    let parts = Takes-then f c.args.state.now c.take_uses.new.state c.take_externs.new.state _ _ (keys_height f (interface_keys x)) used exported (uses_lower f x) (exports_lower f x) c.requires.state
-    (λ s u kept run h. uses_still f s u kept (RemembersTruly class_of) f run x.uses us h) c.in_ok-uses.ensures c.in_ok-exports.ensures in
-    IfOk-weaker c.put_interface.result _ _ (λ r h. Takes-after f c.args.state.now c.take_externs.new.state c.put_interface.new.state (keys_height f (interface_keys x)) (height f (interface_key c.args.id)) (λ s. used s × exported s) (λ s. IsTakenKey class_of f s (interface_key c.args.id) (interface_key r)) (omega (arith, c.index-interface.ensures.lower)) parts h) c.put_interface.ensures
+    let parts = Takes-then f c.args.state.now c.take_uses.new.state c.take_externs.new.state _ _ (keys_height f (interface_keys x)) _ _ (interface_keys x) used exported (uses_lower f x) (exports_lower f x) (within_left f (named_keys use_keys x.uses) (named_keys item_keys x.exports)) (within_right f (named_keys use_keys x.uses) (named_keys item_keys x.exports)) c.requires.state (λ s u kept run h. uses_still f s u kept (RemembersTruly class_of) f run x.uses us h) c.in_ok-uses.ensures c.in_ok-exports.ensures in
+    IfOk-weaker c.put_interface.result _ _ (λ r h. Takes-after f c.args.state.now c.take_externs.new.state c.put_interface.new.state (keys_height f (interface_keys x)) (height f (interface_key c.args.id)) (interface_keys x) (interface_key c.args.id ∷ []) (λ s. used s × exported s) (λ s. IsTakenKey class_of f s (interface_key c.args.id) (interface_key r)) (omega (arith, c.index-interface.ensures.lower)) (within_parts f (interface_key c.args.id) (interface_keys x) (ap (optional_keys other_keys) (interface_at f c.args.id x c.index-interface.ensures.entry))) c.requires.state parts h) c.put_interface.ensures
 
 pub take_uses-loop-i-init : goal.take_uses-loop-i-init
 take_uses-loop-i-init t c =
     let shows = named-clones use_content (λ u v same. same) c.args.uses.now c.in_ok-taken.taken c.in_ok-taken.ensures.cases in
-    record { count = named_count use_content c.args.uses.now.entries c.in_ok-taken.taken.entries shows; takes = Takes-none c.args.types.now c.args.state.now (keys_height c.args.types.now (named_keys use_keys (named use_content c.args.uses.now.entries))) _ c.requires.state (set_start (IsTakenUse c.args.types.now (state_of c.args.state.now)) (named use_content c.args.uses.now.entries) (named use_content c.in_ok-taken.taken.entries) shows) }
+    record { count = named_count use_content c.args.uses.now.entries c.in_ok-taken.taken.entries shows; takes = Takes-none c.args.types.now c.args.state.now (keys_height c.args.types.now (named_keys use_keys (named use_content c.args.uses.now.entries))) _ _ c.requires.state (set_start (IsTakenUse c.args.types.now (state_of c.args.state.now)) (named use_content c.args.uses.now.entries) (named use_content c.in_ok-taken.taken.entries) shows) }
 
 pub take_uses-loop-i-preserved : goal.take_uses-loop-i-preserved
 take_uses-loop-i-preserved t c =
@@ -391,17 +367,17 @@ take_uses-loop-i-preserved t c =
     let there = used_there es c.loop-i.taken.entries c.loop-i.i u.0 u.1 c.loop-i.invariant.count in
     let put = c.set_used.ensures there.0 there.1 in
     let top = keys_height f (named_keys use_keys (named use_content es)) in
-    let may = MayTake-Takes f c.args.state.now c.loop-i.state _ _ c.requires.state c.loop-i.invariant.takes in
-    let one : Takes f c.loop-i.state c.take_used.new.state top (λ s. IsTakenKey class_of f s (interface_key u.0.interface) (interface_key c.in_ok-own.own)) =
-    Takes-more f c.loop-i.state c.take_used.new.state top top _ _ (omega arith) may (λ s kept h. h u.0.interface (ap (option_map (λ (v : UsedType). v.interface)) u.1)) c.in_ok-own.ensures in
+    let may = MayTake-Takes f c.args.state.now c.loop-i.state _ _ _ c.requires.state c.loop-i.invariant.takes in
+    let one : Takes f c.loop-i.state c.take_used.new.state top _ (λ s. IsTakenKey class_of f s (interface_key u.0.interface) (interface_key c.in_ok-own.own)) =
+    Takes-more f c.loop-i.state c.take_used.new.state top top _ _ _ _ (omega arith) (within_all f _) may (λ s kept h. h u.0.interface (ap (option_map (λ (v : UsedType). v.interface)) u.1)) c.in_ok-own.ensures in
     record {
       count = set_count c.loop-i.taken.entries c.set_used.new.uses.entries c.loop-i.i (record there.0 { interface = c.in_ok-own.own }) put ∙ c.loop-i.invariant.count;
-      takes = Takes-use f c.args.state.now c.loop-i.state c.take_used.new.state c.requires.state top top es c.loop-i.taken.entries c.set_used.new.uses.entries c.loop-i.i c.in_ok-own.own u.0 there.0 (omega arith) u.1 there.1 put c.loop-i.invariant.takes one;
+      takes = Takes-use f c.args.state.now c.loop-i.state c.take_used.new.state c.requires.state top _ es c.loop-i.taken.entries c.set_used.new.uses.entries c.loop-i.i c.in_ok-own.own u.0 there.0 u.1 there.1 put c.loop-i.invariant.takes one;
     }
 
 pub take_uses-returns : goal.take_uses-returns
 take_uses-returns t c =
-    Takes-more c.args.types.now c.args.state.now c.loop-i.state (keys_height c.args.types.now (named_keys use_keys (named use_content c.args.uses.now.entries))) (keys_height c.args.types.now (named_keys use_keys (named use_content c.args.uses.now.entries))) _ _ (omega arith) c.requires.state (λ s kept q. set_whole (IsTakenUse c.args.types.now s) c.loop-i.i (named use_content c.args.uses.now.entries) (named use_content c.loop-i.taken.entries) q (omega (arith, length-named use_content c.args.uses.now.entries, c.loop-i-test.false, c.len-i-end.ensures.len))) c.loop-i.invariant.takes
+    Takes-more c.args.types.now c.args.state.now c.loop-i.state (keys_height c.args.types.now (named_keys use_keys (named use_content c.args.uses.now.entries))) (keys_height c.args.types.now (named_keys use_keys (named use_content c.args.uses.now.entries))) _ _ _ _ (omega arith) (within_all c.args.types.now _) c.requires.state (λ s kept q. set_whole (IsTakenUse c.args.types.now s) c.loop-i.i (named use_content c.args.uses.now.entries) (named use_content c.loop-i.taken.entries) q (omega (arith, length-named use_content c.args.uses.now.entries, c.loop-i-test.false, c.len-i-end.ensures.len))) c.loop-i.invariant.takes
 
 pub take_used-index-requires : goal.take_used-index-requires
 take_used-index-requires t c = used_stands c.args.types.now c.args.uses.now.entries c.args.index c.used_at-interface.result c.used_at-interface.ensures c.requires.source
@@ -415,8 +391,7 @@ take_used-returns t c =
     let f = c.args.types.now in
     let p = c.used_at-interface.result in
     IfOk-weaker c.take_interface.result _ _ (λ r h.
-    Takes-more f c.args.state.now c.take_interface.new.state (height f (interface_key p)) _ _ _ (omega (arith, used_lower f c.args.uses.now.entries c.args.index p c.used_at-interface.ensures)) c.requires.state
-    (λ s kept taken q at. let both : Some p ≡ Some q = sym c.used_at-interface.ensures ∙ at in let same : p ≡ q = cc in subst (λ j. IsTakenKey class_of f s (interface_key j) (interface_key r)) same taken) h) c.take_interface.ensures
+    Takes-more f c.args.state.now c.take_interface.new.state (height f (interface_key p)) _ _ _ _ _ (omega (arith, used_lower f c.args.uses.now.entries c.args.index p c.used_at-interface.ensures)) (within_used f c.args.uses.now.entries c.args.index p c.used_at-interface.ensures) c.requires.state (λ s kept taken q at. let both : Some p ≡ Some q = sym c.used_at-interface.ensures ∙ at in let same : p ≡ q = cc in subst (λ j. IsTakenKey class_of f s (interface_key j) (interface_key r)) same taken) h) c.take_interface.ensures
 
 pub take_world-returns-in-Some : goal.take_world-returns-in-Some
 take_world-returns-in-Some t c =
@@ -430,16 +405,16 @@ pub take_world-copy_externs-requires-clause-source : goal.take_world-copy_extern
 take_world-copy_externs-requires-clause-source t c = world_imports_stand c.args.types.now (world_content c.index-world.result.now) c.index-world.ensures.standing
 
 pub take_world-copy_externs-requires-clause-state : goal.take_world-copy_externs-requires-clause-state
-take_world-copy_externs-requires-clause-state t c = MayTake-copies c.args.types.now c.take_uses.new.state (MayTake-Takes c.args.types.now c.args.state.now c.take_uses.new.state _ _ c.requires.state c.in_ok-uses.ensures)
+take_world-copy_externs-requires-clause-state t c = MayTake-copies c.args.types.now c.take_uses.new.state (MayTake-Takes c.args.types.now c.args.state.now c.take_uses.new.state _ _ _ c.requires.state c.in_ok-uses.ensures)
 
 pub take_world-take_externs-requires : goal.take_world-take_externs-requires
 take_world-take_externs-requires t c =
     let f = c.args.types.now in
     let b = c.take_uses.new.state in
     let x = world_content c.index-world.result.now in
-    let may = MayTake-Takes f c.args.state.now b _ _ c.requires.state c.in_ok-uses.ensures in
+    let may = MayTake-Takes f c.args.state.now b _ _ _ c.requires.state c.in_ok-uses.ensures in
     let now = record b { types = c.copy_externs.new.own; copies = c.copy_externs.new.copies } in
-    (omega (arith, world_exports_lower f x, c.index-world.ensures.lower), (world_exports_stand f x c.index-world.ensures.standing, MayTake-Takes f b now _ _ may (Takes-copied f b c.copy_externs.new.own c.copy_externs.new.copies _ _ may c.in_ok-imports.ensures)))
+    (omega (arith, world_exports_lower f x, c.index-world.ensures.lower), (world_exports_stand f x c.index-world.ensures.standing, MayTake-Takes f b now _ _ _ may (Takes-copied f b c.copy_externs.new.own c.copy_externs.new.copies _ (named_keys use_keys x.uses) _ may c.in_ok-imports.ensures)))
 
 pub take_world-add_world-requires : goal.take_world-add_world-requires
 take_world-add_world-requires t c =
@@ -453,11 +428,9 @@ take_world-add_world-requires t c =
     let used : State → Type 0 = λ s. AreMapped (IsTakenUse f s) x.uses z.uses in
     let imported : State → Type 0 = λ s. AreMapped (IsCopiedItem f s) x.imports z.imports in
     let exported : State → Type 0 = λ s. AreMapped (IsTakenItem class_of f s) x.exports z.exports in
-    let may = MayTake-Takes f a b _ _ c.requires.state c.in_ok-uses.ensures in
-    let first = Takes-then f a b now _ _ (keys_height f (world_keys x)) used imported (world_uses_lower f x) (world_imports_lower f x) c.requires.state (λ s u kept run h. uses_still f s u kept (RemembersTruly class_of) f run x.uses z.uses h) c.in_ok-uses.ensures
-    (Takes-copied f b c.copy_externs.new.own c.copy_externs.new.copies _ _ may c.in_ok-imports.ensures) in
-    let parts = Takes-then f a now e _ _ (keys_height f (world_keys x)) (λ s. used s × imported s) exported (omega arith) (world_exports_lower f x) c.requires.state
-    (λ s u kept run h. (uses_still f s u kept (RemembersTruly class_of) f run x.uses z.uses h.0, copies_still f s u kept (RemembersTruly class_of) f run x.imports z.imports h.1)) first c.in_ok-exports.ensures in
+    let may = MayTake-Takes f a b _ _ _ c.requires.state c.in_ok-uses.ensures in
+    let first = Takes-then f a b now _ _ (keys_height f (world_keys x)) _ _ (named_keys use_keys x.uses) used imported (world_uses_lower f x) (world_imports_lower f x) (within_all f _) (within_all f _) c.requires.state (λ s u kept run h. uses_still f s u kept (RemembersTruly class_of) f run x.uses z.uses h) c.in_ok-uses.ensures (Takes-copied f b c.copy_externs.new.own c.copy_externs.new.copies _ (named_keys use_keys x.uses) _ may c.in_ok-imports.ensures) in
+    let parts = Takes-then f a now e _ _ (keys_height f (world_keys x)) _ _ (named_keys use_keys x.uses ++ named_keys item_keys x.exports) (λ s. used s × imported s) exported (omega arith) (world_exports_lower f x) (within_left f (named_keys use_keys x.uses) (named_keys item_keys x.exports)) (within_right f (named_keys use_keys x.uses) (named_keys item_keys x.exports)) c.requires.state (λ s u kept run h. (uses_still f s u kept (RemembersTruly class_of) f run x.uses z.uses h.0, copies_still f s u kept (RemembersTruly class_of) f run x.imports z.imports h.1)) first c.in_ok-exports.ensures in
     world_stands f (state_of e) c.sound.ensures (parts.run.kept c.requires.state.kept) c.args.id x z (world_is_taken f (state_of e) c.sound.ensures c.args.id x z c.requires.source c.index-world.ensures.entry parts.holds.0.0 parts.holds.0.1 parts.holds.1)
 
 pub take_world-returns : goal.take_world-returns
@@ -472,11 +445,97 @@ take_world-returns t c =
     let used : State → Type 0 = λ s. AreMapped (IsTakenUse f s) x.uses z.uses in
     let imported : State → Type 0 = λ s. AreMapped (IsCopiedItem f s) x.imports z.imports in
     let exported : State → Type 0 = λ s. AreMapped (IsTakenItem class_of f s) x.exports z.exports in
-    let may = MayTake-Takes f a b _ _ c.requires.state c.in_ok-uses.ensures in
-    let first = Takes-then f a b now _ _ (keys_height f (world_keys x)) used imported (world_uses_lower f x) (world_imports_lower f x) c.requires.state (λ s u kept run h. uses_still f s u kept (RemembersTruly class_of) f run x.uses z.uses h) c.in_ok-uses.ensures
-    (Takes-copied f b c.copy_externs.new.own c.copy_externs.new.copies _ _ may c.in_ok-imports.ensures) in
-    let parts = Takes-then f a now e _ _ (keys_height f (world_keys x)) (λ s. used s × imported s) exported (omega arith) (world_exports_lower f x) c.requires.state
-    (λ s u kept run h. (uses_still f s u kept (RemembersTruly class_of) f run x.uses z.uses h.0, copies_still f s u kept (RemembersTruly class_of) f run x.imports z.imports h.1)) first c.in_ok-exports.ensures in
-    Takes-enter f a e (record e { types = c.add_world.new.self; taken = c.put_world.new.self }) (world_key c.args.id) (world_key c.in_ok-own.own) (world_entry z) (keys_height f (world_keys x)) (λ s. (used s × imported s) × exported s) c.requires.state c.requires.source.0 (omega (arith, c.index-world.ensures.lower))
+    let may = MayTake-Takes f a b _ _ _ c.requires.state c.in_ok-uses.ensures in
+    let first = Takes-then f a b now _ _ (keys_height f (world_keys x)) _ _ (named_keys use_keys x.uses) used imported (world_uses_lower f x) (world_imports_lower f x) (within_all f _) (within_all f _) c.requires.state (λ s u kept run h. uses_still f s u kept (RemembersTruly class_of) f run x.uses z.uses h) c.in_ok-uses.ensures (Takes-copied f b c.copy_externs.new.own c.copy_externs.new.copies _ (named_keys use_keys x.uses) _ may c.in_ok-imports.ensures) in
+    let parts = Takes-then f a now e _ _ (keys_height f (world_keys x)) _ _ (named_keys use_keys x.uses ++ named_keys item_keys x.exports) (λ s. used s × imported s) exported (omega arith) (world_exports_lower f x) (within_left f (named_keys use_keys x.uses) (named_keys item_keys x.exports)) (within_right f (named_keys use_keys x.uses) (named_keys item_keys x.exports)) c.requires.state (λ s u kept run h. (uses_still f s u kept (RemembersTruly class_of) f run x.uses z.uses h.0, copies_still f s u kept (RemembersTruly class_of) f run x.imports z.imports h.1)) first c.in_ok-exports.ensures in
+    Takes-enter f a e (record e { types = c.add_world.new.self; taken = c.put_world.new.self }) (world_key c.args.id) (world_key c.in_ok-own.own) (world_entry z) (keys_height f (world_keys x)) _ (λ s. (used s × imported s) × exported s) c.requires.state c.sound.ensures c.requires.source (omega (arith, c.index-world.ensures.lower)) (within_parts f (world_key c.args.id) (named_keys use_keys x.uses ++ named_keys item_keys x.exports) (ap (optional_keys other_keys) (world_at f c.args.id x c.index-world.ensures.entry)))
     parts refl c.in_ok-own.ensures.added (ap world_key c.in_ok-own.ensures.id) (c.in_ok-put_world.ensures (parts.low (world_key c.args.id) c.index-world.ensures.lower (sym c.in_default.ensures)))
     (λ u kept q adds same. world_enters f (state_of e) c.sound.ensures kept u c.args.id x z (world_is_taken f (state_of e) c.sound.ensures c.args.id x z c.requires.source c.index-world.ensures.entry q.0.0 q.0.1 q.1) adds same)
+
+pub take_source-returns-in-None : goal.take_source-returns-in-None
+take_source-returns-in-None t c =
+    let f = c.args.types.now in
+    let none : alias_at f c.args.id ≡ None = sym c.alias_of.ensures ∙ ap (option_map alias_content) c.in-None.is in
+    subst (λ o. Takes f c.args.state.now c.args.state.now (keys_height f (optional_keys alias_keys o)) (resource_key c.args.id ∷ []) (λ s. IfAny (IsTakenAlias f s) o None)) (sym none) (Takes-none f c.args.state.now _ _ _ c.requires.state neither)
+
+pub take_source-take_alias-requires : goal.take_source-take_alias-requires
+take_source-take_alias-requires t c =
+    let f = c.args.types.now in
+    let of : alias_at f c.args.id ≡ Some (alias_content c.in-Some.alias) = sym c.alias_of.ensures ∙ ap (option_map alias_content) c.in-Some.is in
+    (omega (arith, ap (λ o. keys_height f (optional_keys alias_keys o)) of), (c.requires.source, (c.requires.state, of)))
+
+pub take_source-returns-in_ok-take_alias-in-Some : goal.take_source-returns-in_ok-take_alias-in-Some
+take_source-returns-in_ok-take_alias-in-Some t c =
+    let f = c.args.types.now in
+    let of : alias_at f c.args.id ≡ Some (alias_content c.in-Some.alias) = sym c.alias_of.ensures ∙ ap (option_map alias_content) c.in-Some.is in
+    subst (λ o. Takes f c.args.state.now c.take_alias.new.state (keys_height f (optional_keys alias_keys o)) (resource_key c.args.id ∷ []) (λ s. IfAny (IsTakenAlias f s) o (Some (alias_content c.in_ok-take_alias-in-Some.field-0)))) (sym of)
+    (Takes-more f c.args.state.now c.take_alias.new.state _ _ _ _ _ _ (omega arith) (within_all f (resource_key c.args.id ∷ [])) c.requires.state (λ s kept h. both h) c.in_ok-take_alias-in-Some.ensures)
+
+pub take_alias-take_owner-requires : goal.take_alias-take_owner-requires
+take_alias-take_owner-requires t c =
+    let f = c.args.types.now in
+    let x = alias_content c.args.alias in
+    let stand = alias_named f c.sound.ensures c.args.id x c.requires.of c.requires.source in (
+      omega (arith, largest-append (height f) (optional_keys (λ p. interface_key p ∷ []) x.owner) (resource_key x.source ∷ [])),
+      ((c.requires.source, Each-left (Stands f) (optional_keys (λ p. interface_key p ∷ []) x.owner) (resource_key x.source ∷ []) stand), (c.requires.state, alias_owner f c.args.id x c.requires.of)),
+    )
+
+pub take_alias-take_resource-requires : goal.take_alias-take_resource-requires
+take_alias-take_resource-requires t c =
+    let f = c.args.types.now in
+    let x = alias_content c.args.alias in
+    let stand = alias_named f c.sound.ensures c.args.id x c.requires.of c.requires.source in (
+      omega (arith, largest-append (height f) (optional_keys (λ p. interface_key p ∷ []) x.owner) (resource_key x.source ∷ [])),
+      ((Each-right (Stands f) (optional_keys (λ p. interface_key p ∷ []) x.owner) (resource_key x.source ∷ []) stand).0, MayTake-Takes f c.args.state.now c.take_owner.new.state _ _ _ c.requires.state c.in_ok-owner.ensures),
+    )
+
+pub take_alias-returns : goal.take_alias-returns
+take_alias-returns t c =
+    let f = c.args.types.now in
+    let a = c.args.state.now in
+    let x = alias_content c.args.alias in
+    let z = alias_content (record { owner = c.in_ok-owner.owner; source = c.in_ok-source.source }) in
+    let source : State → Type 0 = λ s. IsTakenKey class_of f s (resource_key x.source) (resource_key z.source) in
+    let parts = Takes-then f a c.take_owner.new.state c.take_resource.new.state (keys_height f (optional_keys (λ p. interface_key p ∷ []) x.owner)) (height f (resource_key x.source)) (keys_height f (alias_keys x)) (resource_key c.args.id ∷ []) (resource_key x.source ∷ []) (resource_key c.args.id ∷ []) (IsTakenOwner f x.owner z.owner) source
+    (omega (arith, largest-append (height f) (optional_keys (λ p. interface_key p ∷ []) x.owner) (resource_key x.source ∷ []))) (omega (arith, largest-append (height f) (optional_keys (λ p. interface_key p ∷ []) x.owner) (resource_key x.source ∷ []))) (within_all f (resource_key c.args.id ∷ []))
+    (within_trans f (resource_key x.source ∷ []) (alias_keys x) (resource_key c.args.id ∷ []) (within_right f (optional_keys (λ p. interface_key p ∷ []) x.owner) (resource_key x.source ∷ [])) (alias_within f c.args.id x c.requires.of)) c.requires.state
+    (λ s u kept run h. owner_still f s u kept (RemembersTruly class_of) f run x.owner z.owner h) c.in_ok-owner.ensures c.in_ok-source.ensures in
+    Takes-more f a c.take_resource.new.state _ _ _ _ (λ s. IsTakenOwner f x.owner z.owner s × source s) _ (omega arith) (within_all f (resource_key c.args.id ∷ [])) c.requires.state (λ s kept h. alias_of_taken f s x z h.0 h.1) parts
+
+pub take_owner-returns-in_default : goal.take_owner-returns-in_default
+take_owner-returns-in_default t c =
+    let f = c.args.types.now in
+    subst (λ o. Takes f c.args.state.now c.args.state.now (keys_height f (optional_keys (λ p. interface_key p ∷ []) o)) (resource_key c.args.id ∷ []) (IsTakenOwner f o None)) (sym c.in_default.is)
+    (Takes-none f c.args.state.now _ _ _ c.requires.state (record { taken = neither; imported = λ i n is named. absurd (cc) }))
+
+pub take_owner-take_interface-requires : goal.take_owner-take_interface-requires
+take_owner-take_interface-requires t c =
+    let f = c.args.types.now in
+    let stand = subst (λ o. AllStand f (optional_keys (λ p. interface_key p ∷ []) o)) c.in-Some.is c.requires.source.1 in
+    (omega (arith, ap (λ o. keys_height f (optional_keys (λ p. interface_key p ∷ []) o)) c.in-Some.is), (stand.0, c.requires.state))
+
+pub take_owner-import_owner-requires-clause-shared : goal.take_owner-import_owner-requires-clause-shared
+take_owner-import_owner-requires-clause-shared t c =
+    let name = some_name c.index.result.now.id c.if-is_none.ensures in
+    let identified = content_identifier c.args.types.now c.in-Some.owner (interface_content c.index.result.now) c.index.ensures.entry ∙ name.1 in
+    (c.in_ok-own.ensures.holds.remembered.shared name.0 identified).is_shared
+
+pub take_owner-returns : goal.take_owner-returns
+take_owner-returns t c =
+    let f = c.args.types.now in
+    let a = c.args.state.now in
+    let b = c.take_interface.new.state in
+    let o = c.in-Some.owner in
+    let name = some_name c.index.result.now.id c.if-is_none.ensures in
+    let identified = content_identifier f o (interface_content c.index.result.now) c.index.ensures.entry ∙ name.1 in
+    let shared = c.in_ok-own.ensures.holds.remembered.shared name.0 identified in
+    let owned = c.requires.of ∙ c.in-Some.is in
+    let leads : LeadsToOwner f (resource_key c.args.id) name.0 = record { resource = c.args.id; owner = o; walk = stay; owned = owned; identified = identified } in
+    let taken : State → Type 0 = λ s. IsTakenKey class_of f s (interface_key o) (interface_key c.in_ok-own.own) in
+    let imported = c.in_ok-import_owner.ensures f (resource_key c.args.id ∷ []) (resource_key c.args.id) name.0 shared.name (MayTake-Takes f a b _ _ _ c.requires.state c.in_ok-own.ensures) here leads shared.identified shared.on_track in
+    subst (λ x. Takes f a c.import_owner.new.state (keys_height f (optional_keys (λ p. interface_key p ∷ []) x)) (resource_key c.args.id ∷ []) (IsTakenOwner f x (Some c.in_ok-own.own))) (sym c.in-Some.is)
+    (Takes-more f a c.import_owner.new.state _ _ _ _ (λ s. taken s × IsSome (s.imports name.0)) _ (omega arith) (within_all f (resource_key c.args.id ∷ [])) c.requires.state
+    (λ s kept h. owner_taken f s o c.in_ok-own.own name.0 identified h.0 h.1)
+    (Takes-then f a b c.import_owner.new.state (height f (interface_key o)) 0 (height f (interface_key o)) (interface_key o ∷ []) (resource_key c.args.id ∷ []) (resource_key c.args.id ∷ []) taken (λ s. IsSome (s.imports name.0)) (omega arith) (omega arith)
+    (owned_within f c.args.id o owned) (within_all f (resource_key c.args.id ∷ [])) c.requires.state
+    (λ s u kept run h. taken_key_still class_of f s u kept (RemembersTruly class_of) f run (interface_key o) (interface_key c.in_ok-own.own) h) c.in_ok-own.ensures imported))

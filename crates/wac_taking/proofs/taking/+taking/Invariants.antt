@@ -1,6 +1,5 @@
 use Rattle.std.proofs.Common.{◌≡◌, ◌+◌, ◌*◌, [], ◌∷◌, length}
 use Rattle.std.specs.List.{flat_map}
-use Rattle.std.specs.Option.{option_map}
 use Rattle.wac_component.specs.Content.{alias_content, defined_content, named, use_content, types_of}
 use Rattle.wac_component.specs.Height.{height, keys_height}
 use Rattle.wac_component.specs.Key.{item_keys, type_keys, value_keys, alias_keys, optional_keys, named_keys, use_keys, defined_keys, defined_key, resource_key, func_key, interface_key, world_key}
@@ -8,7 +7,7 @@ use Rattle.wac_names.specs.Class.{class_of}
 use Rattle.wac_narrowing.specs.Taking.{IsTakenItem}
 use Rattle.wac_narrowing.specs.Values.{IsTakenValue, IfAny}
 use Rattle.wac_copies.proofs.Placed.{ArePlaced, AreSet}
-use Rattle.wac_taking.specs.Takes.{Takes, IsTakenUse}
+use Rattle.wac_taking.specs.Takes.{alias_at, Takes, IsTakenUse}
 use Rattle.wac_taking.proofs.taking.+taking.Given as goal
 
 abbrev pub decreases-take_item : goal.decreases-take_item
@@ -45,7 +44,7 @@ abbrev pub decreases-take_resource : goal.decreases-take_resource
 decreases-take_resource l = 6 * height l.types.now (resource_key l.id)
 
 abbrev pub decreases-take_source : goal.decreases-take_source
-decreases-take_source l = 6 * keys_height l.types.now (optional_keys alias_keys (option_map alias_content l.alias)) + 3
+decreases-take_source l = 6 * keys_height l.types.now (optional_keys alias_keys (alias_at l.types.now l.id)) + 3
 
 abbrev pub decreases-take_alias : goal.decreases-take_alias
 decreases-take_alias l = 6 * keys_height l.types.now (alias_keys (alias_content l.alias)) + 2
@@ -71,29 +70,29 @@ decreases-take_world l = 6 * height l.types.now (world_key l.id)
 abbrev pub invariant-take_values-loop-i : goal.invariant-take_values-loop-i
 invariant-take_values-loop-i l = record {
   count : length l.taken.items ≡ length l.values.items;
-  takes : Takes l.types l.initial.state l.state (keys_height l.types (flat_map value_keys l.values.items)) (λ t. ArePlaced (IsTakenValue class_of l.types t) l.i l.values.items l.taken.items);
+  takes : Takes l.types l.initial.state l.state (keys_height l.types (flat_map value_keys l.values.items)) (flat_map value_keys l.values.items) (λ t. ArePlaced (IsTakenValue class_of l.types t) l.i l.values.items l.taken.items);
 }
 
 abbrev pub invariant-take_fields-loop-i : goal.invariant-take_fields-loop-i
 invariant-take_fields-loop-i l = record {
   count : length l.taken.entries ≡ length l.fields.entries;
-  takes : Takes l.types l.initial.state l.state (keys_height l.types (flat_map value_keys (types_of l.fields.entries))) (λ t. AreSet (IsTakenValue class_of l.types t) l.i (named (λ v. v) l.fields.entries) (named (λ v. v) l.taken.entries));
+  takes : Takes l.types l.initial.state l.state (keys_height l.types (flat_map value_keys (types_of l.fields.entries))) (flat_map value_keys (types_of l.fields.entries)) (λ t. AreSet (IsTakenValue class_of l.types t) l.i (named (λ v. v) l.fields.entries) (named (λ v. v) l.taken.entries));
 }
 
 abbrev pub invariant-take_cases-loop-i : goal.invariant-take_cases-loop-i
 invariant-take_cases-loop-i l = record {
   count : length l.taken.entries ≡ length l.cases.entries;
-  takes : Takes l.types l.initial.state l.state (keys_height l.types (flat_map (optional_keys value_keys) (types_of l.cases.entries))) (λ t. AreSet (IfAny (IsTakenValue class_of l.types t)) l.i (named (λ o. o) l.cases.entries) (named (λ o. o) l.taken.entries));
+  takes : Takes l.types l.initial.state l.state (keys_height l.types (flat_map (optional_keys value_keys) (types_of l.cases.entries))) (flat_map (optional_keys value_keys) (types_of l.cases.entries)) (λ t. AreSet (IfAny (IsTakenValue class_of l.types t)) l.i (named (λ o. o) l.cases.entries) (named (λ o. o) l.taken.entries));
 }
 
 abbrev pub invariant-take_uses-loop-i : goal.invariant-take_uses-loop-i
 invariant-take_uses-loop-i l = record {
   count : length l.taken.entries ≡ length l.uses.entries;
-  takes : Takes l.types l.initial.state l.state (keys_height l.types (named_keys use_keys (named use_content l.uses.entries))) (λ t. AreSet (IsTakenUse l.types t) l.i (named use_content l.uses.entries) (named use_content l.taken.entries));
+  takes : Takes l.types l.initial.state l.state (keys_height l.types (named_keys use_keys (named use_content l.uses.entries))) (named_keys use_keys (named use_content l.uses.entries)) (λ t. AreSet (IsTakenUse l.types t) l.i (named use_content l.uses.entries) (named use_content l.taken.entries));
 }
 
 abbrev pub invariant-take_externs-loop-i : goal.invariant-take_externs-loop-i
 invariant-take_externs-loop-i l = record {
   count : length l.taken.entries ≡ length l.externs.entries;
-  takes : Takes l.types l.initial.state l.state (keys_height l.types (named_keys item_keys (named (λ k. k) l.externs.entries))) (λ t. AreSet (IsTakenItem class_of l.types t) l.i (named (λ k. k) l.externs.entries) (named (λ k. k) l.taken.entries));
+  takes : Takes l.types l.initial.state l.state (keys_height l.types (named_keys item_keys (named (λ k. k) l.externs.entries))) (named_keys item_keys (named (λ k. k) l.externs.entries)) (λ t. AreSet (IsTakenItem class_of l.types t) l.i (named (λ k. k) l.externs.entries) (named (λ k. k) l.taken.entries));
 }

@@ -1,4 +1,4 @@
-use Rattle.std.proofs.Common.{Some, zero, refl, sym, ◌∙◌, ap, arith}
+use Rattle.std.proofs.Common.{[], Some, zero, refl, sym, ◌∙◌, ap, arith}
 use Rattle.wac_component.specs.Key.{module_key, module_entry}
 use Rattle.wac_core.specs.Content.{module_content}
 use Rattle.wac_taking.specs.Takes.{state_of}
@@ -14,6 +14,6 @@ returns c =
     let f = c.args.types.now in
     let a = c.args.state.now in
     let at = c.index.ensures.entry ∙ ap Some (sym c.in_ok-clone.ensures.cases) in
-    Takes-enter f a a (record a { types = c.add_module_type.new.self; taken = c.put_module.new.self }) (module_key c.args.id) (module_key c.in_ok-own.own) (module_entry (module_content c.in_ok-clone.field-0)) zero (λ s. Unit {0}) c.requires.state c.requires.source.0 (omega arith)
-    (Takes-none f a zero (λ s. Unit {0}) c.requires.state tt) refl c.in_ok-own.ensures.added (ap module_key c.in_ok-own.ensures.id) (c.in_ok-put_module.ensures (sym c.in_default.ensures))
+    Takes-enter f a a (record a { types = c.add_module_type.new.self; taken = c.put_module.new.self }) (module_key c.args.id) (module_key c.in_ok-own.own) (module_entry (module_content c.in_ok-clone.field-0)) zero [] (λ s. Unit {0}) c.requires.state c.sound.ensures c.requires.source (omega arith) (λ k m. elim m [ ])
+    (Takes-none f a zero [] (λ s. Unit {0}) c.requires.state tt) refl c.in_ok-own.ensures.added (ap module_key c.in_ok-own.ensures.id) (c.in_ok-put_module.ensures (sym c.in_default.ensures))
     (λ u kept q adds same. module_enters f (state_of a) c.sound.ensures kept u c.args.id (module_content c.in_ok-clone.field-0) c.requires.source at adds same)
