@@ -34,3 +34,11 @@ module _ (R : ItemTree → ItemTree → Type 0) (c d : Collection) (grown : Exte
 
   pub trees_after : R (item_tree c a) (item_tree c b) → R (item_tree d a) (item_tree d b)
   trees_after h = subst (λ s. R s (item_tree d b)) (sym (grown.trees a sa)) (subst (λ t. R (item_tree c a) t) (sym (grown.trees b sb)) h)
+
+-- two that a test says aren't apart
+pub not_apart_from : (c d : Collection) → Extends c d → (a b : ItemKind) → AllStand c (item_keys a) → AllStand c (item_keys b) → (r : Bool) → r ≡ false → IsTrue r ↔ AreApart (item_tree d a) (item_tree d b)
+    → (o : Option ItemKind) → o ≡ Some b → (y : ItemKind) → o ≡ Some y → ¬ (AreApart (item_tree c a) (item_tree c y))
+not_apart_from c d grown a b sa sb r false_is says o there y same apart =
+    let e : y ≡ b = cc in
+    let yes : IsTrue r = says.1 (trees_after AreApart c d grown a b sa sb (subst (λ z. AreApart (item_tree c a) (item_tree c z)) e apart)) in
+    absurd (cc)

@@ -1,5 +1,5 @@
 -- The way to where two items clash.
-use Rattle.std.proofs.Common.{◌≡◌, ◌∙◌, ◌<◌, ap, sym, subst, List, [], ◌∷◌, ◌++◌, Option, Some, IfSome, Result, IfOk, append_assoc}
+use Rattle.std.proofs.Common.{◌≡◌, ◌∙◌, ◌<◌, ap, sym, subst, List, [], ◌∷◌, ◌++◌, Option, Some, None, Result, IfOk, append_assoc}
 use Rattle.std.specs.declared.alloc.AllocError.{AllocError}
 use Rattle.std.proofs.lemmas.List.{append-nil}
 use Rattle.std.proofs.lemmas.Result.{IfOk-weaker}
@@ -19,28 +19,28 @@ use Rattle.wac_refusals.specs.declared.error.AggregateError.{AggregateError}
 use Rattle.wac_refusals.specs.declared.error.AggregateError.TheVariants.{Kinds, Mismatch, UsedInterface, UsedName, NoIdentifier, OwnerWithoutIdentifier, Taken, Cycle, Memory}
 use Rattle.wac_refusals.specs.declared.frame.MergeFrame.{MergeFrame}
 use Rattle.wac_refusals.specs.declared.frame.MergeFrame.TheVariants.{Export}
-use Rattle.wac_clashes.specs.Clashes.{AreApart, Says, ClashesAt, here, in_modules, below, IsMismatch}
-use Rattle.wac_clashes.specs.Found.{IsClashOf, IsCoreClashOf}
+use Rattle.wac_clashes.specs.Clashes.{AreApart, HasNoClash, Says, ClashesAt, here, in_modules, below, IsMismatch}
+use Rattle.wac_clashes.specs.Found.{IsClashOf, IsCoreClashOf, IsSearchBelow, IsCoreSearchBelow}
 use Rattle.wac_clashes.specs.declared.exports.Clash.{Clash}
 use Rattle.wac_clashes.specs.declared.modules.CoreClash.{CoreClash}
 use Rattle.wac_clashes.proofs.Apart.{trees_before, trees_after}
 
 -- no further frame
-pub ends_here : (check : SubtypeCheck) (e : SubtypeError) (a b : ItemTree) (frames : List MergeFrame) → Says e check (item_side a) (item_side b)
+pub ends_here : (check : SubtypeCheck) (e : SubtypeError) (a b : ItemTree) (frames : List MergeFrame) (o : Option CoreClash) → HasNoClash a b → o ≡ None → IsCoreSearchBelow a b o → Says e check (item_side a) (item_side b)
     → (rest : List MergeFrame) × (frames ≡ frames ++ rest) × ClashesAt check e rest a b
-ends_here check e a b frames says = ([], sym (append-nil frames), here says)
+ends_here check e a b frames o none is searched says = ([], sym (append-nil frames), here none (subst (IsCoreSearchBelow a b) is searched) says)
 
 -- one to the exports of core modules
-pub ends_in_modules : (check : SubtypeCheck) (a b : ItemTree) (frames more : List MergeFrame) (o : Option CoreClash) (found : CoreClash) → o ≡ Some found → IfSome o (IsCoreClashOf a b) → more ≡ frames ++ Export found.name ∷ []
+pub ends_in_modules : (check : SubtypeCheck) (a b : ItemTree) (frames more : List MergeFrame) (o : Option CoreClash) (found : CoreClash) → o ≡ Some found → IsCoreSearchBelow a b o → more ≡ frames ++ Export found.name ∷ []
     → (rest : List MergeFrame) × (more ≡ frames ++ rest) × ClashesAt check found.error rest a b
 ends_in_modules check a b frames more o found is clashes put =
-    let clash : IsCoreClashOf a b found = subst (λ x. IfSome x (IsCoreClashOf a b)) is clashes in
+    let clash : IsCoreClashOf a b found = subst (IsCoreSearchBelow a b) is clashes in
     (Export found.name ∷ [], put, in_modules found.name clash.left clash.right clash.alike clash.of_first clash.of_second clash.apart clash.says)
 
 -- two exports that clash, after the collection grew
-module _ (c d : Collection) (grown : Extends c d) (a b : ItemKind) (o : Option Clash) (found : Clash) (is : o ≡ Some found) (clashes : IfSome o (IsClashOf c a b)) where
+module _ (c d : Collection) (grown : Extends c d) (a b : ItemKind) (o : Option Clash) (found : Clash) (is : o ≡ Some found) (clashes : IsSearchBelow c a b o) where
   pub clash : IsClashOf c a b found
-  clash = subst (λ x. IfSome x (IsClashOf c a b)) is clashes
+  clash = subst (IsSearchBelow c a b) is clashes
 
   pub existing_stands : AllStand d (item_keys found.existing)
   existing_stands = AllStand-Extends c d grown (item_keys found.existing) clash.existing_stands
@@ -76,3 +76,7 @@ module _ (c d : Collection) (grown : Extends c d) (a b : ItemKind) (o : Option C
       go (Taken x) g = elim g [ ]
       go (Cycle x) g = elim g [ ]
       go Memory g = elim g [ ]
+
+-- nothing was found, and isn't after the collection grew
+pub still_none : (c d : Collection) → Extends c d → (a b : ItemKind) → AllStand c (item_keys a) → AllStand c (item_keys b) → (o : Option Clash) → o ≡ None → IsSearchBelow c a b o → HasNoClash (item_tree d a) (item_tree d b)
+still_none c d grown a b sa sb o is searched = trees_after HasNoClash c d grown a b sa sb (subst (IsSearchBelow c a b) is searched)

@@ -52,10 +52,18 @@ Says e c a b = IsNo e × Explains e c a b
 abbrev pub SaysOfCores : SubtypeError → CoreTree → CoreTree → Type 0
 SaysOfCores e a b = IsNo e × IsHere (λ f. Holds f (place Covariant (core_side a) (core_side b))) e
 
+-- of two items of one case, no exports of one name are apart
+abbrev pub HasNoClash : ItemTree → ItemTree → Type 0
+HasNoClash a b = AreAlike (item_side a) (item_side b) → (n : Text) (x y : ItemTree) → export_of a n ≡ Some x → export_of b n ≡ Some y → ¬ (AreApart x y)
+
+-- the same of core modules
+abbrev pub HasNoCoreClash : ItemTree → ItemTree → Type 0
+HasNoCoreClash a b = AreAlike (item_side a) (item_side b) → (n : Text) (x y : CoreTree) → core_export_of a n ≡ Some x → core_export_of b n ≡ Some y → ¬ (AreCoresApart x y)
+
 -- the frames lead on from two items that have no meet, from exports of one name to exports of one name that have none,
--- and the error is what is said of the last two
+-- to the innermost, and the error is what is said of these
 pub data ClashesAt (c : SubtypeCheck) (e : SubtypeError) : List MergeFrame → ItemTree → ItemTree → Type 0 where
-  here : {a b : ItemTree} → Says e c (item_side a) (item_side b) → ClashesAt c e [] a b
+  here : {a b : ItemTree} → HasNoClash a b → HasNoCoreClash a b → Says e c (item_side a) (item_side b) → ClashesAt c e [] a b
   in_modules : {a b : ItemTree} (name : String Global) (x y : CoreTree) → AreAlike (item_side a) (item_side b)
       → core_export_of a (string_bytes name) ≡ Some x → core_export_of b (string_bytes name) ≡ Some y → AreCoresApart x y → SaysOfCores e x y
       → ClashesAt c e (Export name ∷ []) a b

@@ -1,5 +1,6 @@
 -- What is found of two that clash, while they are looked for.
 use Rattle.std.specs.Prelude.{◌≡◌, ◌<◌, List, Option, Some, string_bytes}
+use Rattle.std.specs.Option.{MatchOption}
 use Rattle.std.specs.Str.{bytes_eq}
 use Rattle.wac_model.specs.Text.{Text, lookup}
 use Rattle.wac_model.specs.CoreTree.{CoreTree}
@@ -13,7 +14,7 @@ use Rattle.wac_merge.specs.Items.{Externs, extern_keys}
 use Rattle.wac_mismatch.specs.Path.{AreAlike}
 use Rattle.wac_mismatch.specs.Place.{item_side}
 use Rattle.wac_mismatch.specs.declared.error.SubtypeError.{SubtypeError}
-use Rattle.wac_clashes.specs.Clashes.{AreApart, AreCoresApart, export_of, core_export_of, SaysOfCores}
+use Rattle.wac_clashes.specs.Clashes.{AreApart, AreCoresApart, HasNoClash, HasNoCoreClash, export_of, core_export_of, SaysOfCores}
 use Rattle.wac_clashes.specs.declared.exports.Clash.{Clash}
 use Rattle.wac_clashes.specs.declared.modules.CoreClash.{CoreClash}
 
@@ -65,3 +66,30 @@ pub record IsCoreClashOf (a b : ItemTree) (found : CoreClash) : Type 0 where
   pub of_second : core_export_of b (string_bytes found.name) ≡ Some right
   pub apart : AreCoresApart left right
   pub says : SaysOfCores found.error left right
+
+-- what a search answers: nothing where it says that there is none, else what it says of what it found
+
+-- no name of both has two that are in the relation
+abbrev pub HasNone : {V : Type 0} → (V → V → Type 0) → List (Text × V) → List (Text × V) → Type 0
+HasNone {V} R es ts = (n : Text) (x y : V) → lookup bytes_eq es n ≡ Some x → lookup bytes_eq ts n ≡ Some y → ¬ (R x y)
+
+-- the trees of two items are apart
+abbrev pub AreItemsApart : Collection → ItemKind → ItemKind → Type 0
+AreItemsApart c x y = AreApart (item_tree c x) (item_tree c y)
+
+-- of named items, and of two items
+abbrev pub IsSearchOf : Collection → Externs → Externs → Option Clash → Type 0
+IsSearchOf c es ts o = MatchOption o (HasNone (AreItemsApart c) es ts) (AreFoundIn c es ts)
+
+abbrev pub IsSearchBelow : Collection → ItemKind → ItemKind → Option Clash → Type 0
+IsSearchBelow c a b o = MatchOption o (HasNoClash (item_tree c a) (item_tree c b)) (IsClashOf c a b)
+
+-- of what a core extern has beside it, of named core externs, and of two items
+abbrev pub IsSearchBeside : CoreTree → Option CoreTree → Option SubtypeError → Type 0
+IsSearchBeside a o r = MatchOption r ((b : CoreTree) → o ≡ Some b → ¬ (AreCoresApart a b)) (IsSaidOf a o)
+
+abbrev pub IsCoreSearchOf : List (Text × CoreTree) → List (Text × CoreTree) → Option CoreClash → Type 0
+IsCoreSearchOf es ts o = MatchOption o (HasNone AreCoresApart es ts) (AreFoundInCores es ts)
+
+abbrev pub IsCoreSearchBelow : ItemTree → ItemTree → Option CoreClash → Type 0
+IsCoreSearchBelow a b o = MatchOption o (HasNoCoreClash a b) (IsCoreClashOf a b)

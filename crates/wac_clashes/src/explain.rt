@@ -7,7 +7,7 @@ ghost use Rattle.wac_component.specs.Growth.{Extends};
 ghost use Rattle.wac_component.specs.Key.{AllStand, item_keys};
 ghost use Rattle.wac_component.specs.Tree.{item_tree};
 ghost use Rattle.wac_refusals.specs.declared.frame.MergeFrame.TheVariants.{Export};
-ghost use Rattle.wac_clashes.specs.Clashes.{IsMismatch, ClashesAt};
+ghost use Rattle.wac_clashes.specs.Clashes.{AreApart, HasNoClash, IsMismatch, ClashesAt};
 
 use crate::checks::item_error;
 use crate::exports::{Clash, clash_below};
@@ -57,7 +57,8 @@ fn innermost(
 ) -> Result<AggregateError, AllocError>
     requires existing { AllStand own.now (item_keys existing) }
     requires new { AllStand own.now (item_keys new) }
-    requires apart { (t : ItemTree) → ¬ (IsLowerBound t (item_tree own.now existing ∷ item_tree own.now new ∷ [])) }
+    requires apart { AreApart (item_tree own.now existing) (item_tree own.now new) }
+    requires innermost { HasNoClash (item_tree own.now existing) (item_tree own.now new) }
     ensures { IfOk result (IsMismatch frames.items (λ more e. ClashesAt check e more (item_tree own.now existing) (item_tree own.now new))) }
 {
     match module_clash(alloc, own, existing, new)? {

@@ -1,12 +1,12 @@
 //! Where the exports of two interfaces or of two worlds clash.
 
-ghost use Rattle.std.specs.Prelude.{IfOk, IfSome};
+ghost use Rattle.std.specs.Prelude.{IfOk};
 ghost use Rattle.wac_model.specs.ItemTree.{Kind};
 ghost use Rattle.wac_component.specs.Growth.{Extends};
 ghost use Rattle.wac_component.specs.Key.{AllStand, Stands, item_keys, type_keys, interface_key, world_key};
 ghost use Rattle.wac_component.specs.declared.items.ItemKind.TheVariants.{«Type» as OfType};
 ghost use Rattle.wac_merge.specs.Items.{entry_item, extern_keys, extern_list};
-ghost use Rattle.wac_clashes.specs.Found.{HasExports, AreFoundIn, IsClashOf};
+ghost use Rattle.wac_clashes.specs.Found.{HasExports, IsSearchOf, IsSearchBelow};
 
 use crate::checks::are_apart;
 use indexmap::IndexMap;
@@ -31,7 +31,7 @@ pub(crate) fn clash_below(
     requires existing { AllStand own.old (item_keys existing) }
     requires new { AllStand own.old (item_keys new) }
     ensures grows { Extends own.old own.new }
-    ensures clash { IfOk result (λ o. IfSome o (IsClashOf own.old existing new)) }
+    ensures clash { IfOk result (IsSearchBelow own.old existing new) }
 {
     match (&existing, &new) {
         (ItemKind::Instance(x), ItemKind::Instance(y)) => interface_clash(alloc, own, *x, *y),
@@ -51,7 +51,7 @@ fn type_clash(
     requires existing { AllStand own.old (type_keys existing) }
     requires new { AllStand own.old (type_keys new) }
     ensures grows { Extends own.old own.new }
-    ensures clash { IfOk result (λ o. IfSome o (IsClashOf own.old (OfType existing) (OfType new))) }
+    ensures clash { IfOk result (IsSearchBelow own.old (OfType existing) (OfType new)) }
 {
     match (&existing, &new) {
         (Type::Interface(x), Type::Interface(y)) => interface_clash(alloc, own, *x, *y),
@@ -70,7 +70,7 @@ fn interface_clash(
     requires existing { Stands own.old (interface_key existing) }
     requires new { Stands own.old (interface_key new) }
     ensures grows { Extends own.old own.new }
-    ensures clash { IfOk result (λ o. IfSome o (λ k. (kind : Kind) → IsClashOf own.old (entry_item kind (interface_key existing)) (entry_item kind (interface_key new)) k)) }
+    ensures clash { IfOk result (λ o. (k : Kind) → IsSearchBelow own.old (entry_item k (interface_key existing)) (entry_item k (interface_key new)) o) }
 {
     let first = interface_exports(own, existing)?;
     let second = interface_exports(own, new)?;
@@ -87,7 +87,7 @@ fn world_clash(
     requires existing { Stands own.old (world_key existing) }
     requires new { Stands own.old (world_key new) }
     ensures grows { Extends own.old own.new }
-    ensures clash { IfOk result (λ o. IfSome o (λ k. (kind : Kind) → IsClashOf own.old (entry_item kind (world_key existing)) (entry_item kind (world_key new)) k)) }
+    ensures clash { IfOk result (λ o. (k : Kind) → IsSearchBelow own.old (entry_item k (world_key existing)) (entry_item k (world_key new)) o) }
 {
     let first = world_exports(own, existing)?;
     let second = world_exports(own, new)?;
@@ -120,7 +120,7 @@ fn first_clash(
     requires first { AllStand own.old (extern_keys (extern_list first.now)) }
     requires second { AllStand own.old (extern_keys (extern_list second.now)) }
     ensures grows { Extends own.old own.new }
-    ensures clash { IfOk result (λ o. IfSome o (AreFoundIn own.old (extern_list first.now) (extern_list second.now))) }
+    ensures clash { IfOk result (IsSearchOf own.old (extern_list first.now) (extern_list second.now)) }
 {
     for (name, existing) in first {
         if let Some(new) = second.get(name) {

@@ -1,6 +1,6 @@
 //! Where the exports of two core modules clash.
 
-ghost use Rattle.std.specs.Prelude.{◌≡◌, IfOk, IfSome, Some};
+ghost use Rattle.std.specs.Prelude.{IfOk};
 ghost use Rattle.std.specs.Option.{option_map, option_copied};
 ghost use Rattle.wac_model.specs.ItemTree.{Kind};
 ghost use Rattle.wac_component.specs.Key.{AllStand, Stands, item_keys, type_keys, module_key};
@@ -9,7 +9,7 @@ ghost use Rattle.wac_component.specs.Tree.{item_tree};
 ghost use Rattle.wac_component.specs.declared.items.ItemKind.TheVariants.{«Type» as OfType};
 ghost use Rattle.wac_core.specs.Content.{core_tree};
 ghost use Rattle.wac_merge.specs.Items.{entry_item};
-ghost use Rattle.wac_clashes.specs.Found.{IsSaidOf, AreFoundInCores, IsCoreClashOf};
+ghost use Rattle.wac_clashes.specs.Found.{IsSearchBeside, IsCoreSearchOf, IsCoreSearchBelow};
 
 use crate::checks::core_error;
 use indexmap::IndexMap;
@@ -35,7 +35,7 @@ pub(crate) fn module_clash(
 ) -> Result<Option<CoreClash>, AllocError>
     requires existing { AllStand own.now (item_keys existing) }
     requires new { AllStand own.now (item_keys new) }
-    ensures { IfOk result (λ o. IfSome o (IsCoreClashOf (item_tree own.now existing) (item_tree own.now new))) }
+    ensures { IfOk result (IsCoreSearchBelow (item_tree own.now existing) (item_tree own.now new)) }
 {
     match (&existing, &new) {
         (ItemKind::Module(x), ItemKind::Module(y)) => module_type_clash(alloc, own, *x, *y),
@@ -53,7 +53,7 @@ fn type_clash(
 ) -> Result<Option<CoreClash>, AllocError>
     requires existing { AllStand own.now (type_keys existing) }
     requires new { AllStand own.now (type_keys new) }
-    ensures { IfOk result (λ o. IfSome o (IsCoreClashOf (item_tree own.now (OfType existing)) (item_tree own.now (OfType new)))) }
+    ensures { IfOk result (IsCoreSearchBelow (item_tree own.now (OfType existing)) (item_tree own.now (OfType new))) }
 {
     match (&existing, &new) {
         (Type::Module(x), Type::Module(y)) => module_type_clash(alloc, own, *x, *y),
@@ -70,7 +70,7 @@ fn module_type_clash(
 ) -> Result<Option<CoreClash>, AllocError>
     requires existing { Stands own.now (module_key existing) }
     requires new { Stands own.now (module_key new) }
-    ensures { IfOk result (λ o. IfSome o (λ c. (k : Kind) → IsCoreClashOf (item_tree own.now (entry_item k (module_key existing))) (item_tree own.now (entry_item k (module_key new))) c)) }
+    ensures { IfOk result (λ o. (k : Kind) → IsCoreSearchBelow (item_tree own.now (entry_item k (module_key existing))) (item_tree own.now (entry_item k (module_key new))) o) }
 {
     first_core_clash(alloc, &own[existing].exports, &own[new].exports)
 }
@@ -81,7 +81,7 @@ fn first_core_clash(
     first: &IndexMap<String, CoreExtern>,
     second: &IndexMap<String, CoreExtern>,
 ) -> Result<Option<CoreClash>, AllocError>
-    ensures { IfOk result (λ o. IfSome o (AreFoundInCores (named core_tree first.now.entries) (named core_tree second.now.entries))) }
+    ensures { IfOk result (IsCoreSearchOf (named core_tree first.now.entries) (named core_tree second.now.entries)) }
 {
     for (name, existing) in first {
         if let Some(error) = core_clash(alloc, existing, second.get(name))? {
@@ -100,7 +100,7 @@ fn core_clash(
     existing: &CoreExtern,
     other: Option<&CoreExtern>,
 ) -> Result<Option<SubtypeError>, AllocError>
-    ensures { IfOk result (λ o. IfSome o (IsSaidOf (core_tree existing.now) (option_map core_tree (option_copied other.entry)))) }
+    ensures { IfOk result (IsSearchBeside (core_tree existing.now) (option_map core_tree (option_copied other.entry))) }
 {
     let Some(new) = other else {
         return Ok(None);

@@ -10,7 +10,7 @@ use Rattle.wac_component.specs.Content.{named}
 use Rattle.wac_names.specs.Class.{Class, class_eq, class_of}
 use Rattle.wac_names.proofs.Classes.{classes_decided}
 use Rattle.std.specs.Prelude.{IsSome}
-use Rattle.wac_imports.specs.Import.{ImportContent, ImportsContent, import_of, led_of, canonical, AreFiled, PutsImport, KeepsImports, PutsName}
+use Rattle.wac_imports.specs.Import.{ImportContent, ImportsContent, import_of, led_of, canonical, AreFiled, PutsImport, PutsName}
 
 -- what a map finds under a text
 pub lookup-named : {V : Type 0} (es : List (String Global × V)) (n : Text) → lookup (λ k. bytes_eq n (string_bytes k)) es ≡ lookup (bytes_eq n) (named (λ v. v) es)
@@ -61,7 +61,7 @@ pub lookup-put : {V : Type 0} (es : List (String Global × V)) (k : String Globa
     → lookup (bytes_eq x) (named (λ v. v) (insert_entry string_eq es k v)) ≡ update bytes_eq (λ y. lookup (bytes_eq y) (named (λ v. v) es)) (string_bytes k) (Some v) x
 lookup-put es k v x = ap (lookup (bytes_eq x)) (named-put es k v) ∙ text-put (named (λ v. v) es) (string_bytes k) v x
 
-same_class : (c d : Class) → class_eq c d ≡ true → c ≡ d
+pub same_class : (c d : Class) → class_eq c d ≡ true → c ≡ d
 same_class c d h = (classes_decided c d).0 h
 
 module _ (before now : ImportsContent) (filed : AreFiled before) where
@@ -82,14 +82,6 @@ module _ (before now : ImportsContent) (filed : AreFiled before) where
           by : (b : Bool) → class_eq c q ≡ b → (j : ImportContent) × (import_of before q ≡ Some j) → (j : ImportContent) × (import_of now q ≡ Some j)
           by true e h = (i, puts q ∙ ap (λ b. cond b (Some i) (import_of before q)) e)
           by false e h = (h.0, puts q ∙ ap (λ b. cond b (Some i) (import_of before q)) e ∙ h.1)
-
-  -- the imports are put in another order
-  pub AreFiled-moved : IsDistinct class_eq (keys_of now.list) → KeepsImports before now → now.led ≡ before.led → AreFiled now
-  AreFiled-moved distinct keeps same = record {
-    distinct = distinct;
-    imports = λ q j at. filed.imports q j (sym (keeps q) ∙ at);
-    led = λ n q at. let was = filed.led n q (ap (λ l. lookup (bytes_eq n) l) (sym same) ∙ at) in (was.0, (was.1.0, keeps q ∙ was.1.1));
-  }
 
   -- a name leads to the import of its class
   pub AreFiled-led : (n : Text) (c : Class) (i : ImportContent) → class_of n ≡ c → import_of before c ≡ Some i → now.list ≡ before.list → PutsName before now n c → AreFiled now

@@ -1,2 +1,3 @@
 pub mod Filed
 pub mod Listed
+pub mod Places

@@ -1,9 +1,9 @@
 -- Imports one after another, found by their names and by the classes of these.
-use Rattle.std.proofs.Common.{◌≡◌, ◌⊎◌, inl, inr, Bool, true, false, cond, List, [], ◌∷◌, Option, Some, None, map, refl, ap, sym, ◌∙◌, subst, if◌then◌else◌, zero, suc, arith}
+use Rattle.std.proofs.Common.{◌≡◌, Bool, true, false, cond, List, [], ◌∷◌, Option, Some, map, refl, ap, sym, ◌∙◌, subst, if◌then◌else◌, zero, suc, arith}
 use Rattle.std.proofs.lemmas.List.Elements.{Contains-append_left, Contains-append_right, Contains-push}
-use Rattle.std.proofs.lemmas.Map.Views.{Contains-from_lookup, lookup-from_Contains}
+use Rattle.std.proofs.lemmas.Map.Views.{lookup-from_Contains}
 use Rattle.std.specs.Cmp.{IsEquivalence}
-use Rattle.std.specs.List.{Contains, IsDistinct}
+use Rattle.std.specs.List.{Contains}
 use Rattle.std.specs.Map.{lookup as lookup_by, keys_of}
 use Rattle.std.specs.Str.{bytes_eq}
 use Rattle.std.specs.Cmp.Lexicographic.{bytes_decides}

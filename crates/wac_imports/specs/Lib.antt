@@ -1,2 +1,3 @@
 pub mod Import
 pub mod Left
+pub mod Places

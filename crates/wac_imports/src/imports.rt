@@ -4,14 +4,14 @@ ghost use Rattle.std.specs.Iterator.{item_count, YieldsFirstBy};
 ghost use Rattle.wac_imports.specs.Left.{imports_left};
 
 use super::import::Import;
-use indexmap::map::Iter;
+use std::slice::Iter;
 use wac_component::ItemKind;
-use wac_names::NameClass;
 
 /// The imports in order, each with its name.
 #[derive(Drop)]
 pub struct Imports<'a> {
-    pub(crate) imports: Iter<'a, NameClass, Import>,
+    // Places, some of them empty.
+    pub(crate) places: Iter<'a, Option<Import>>,
 }
 
 impl<'a> Iterator for Imports<'a> {
@@ -22,7 +22,11 @@ impl<'a> Iterator for Imports<'a> {
     ghost remaining = { item_count imports_left };
 
     fn next(&mut self) -> Option<(&'a str, ItemKind)> {
-        let (_, import) = self.imports.next()?;
-        Some((import.name.as_str(), import.kind))
+        while let Some(place) = self.places.next() {
+            if let Some(import) = place {
+                return Some((import.name.as_str(), import.kind));
+            }
+        }
+        None
     }
 }

@@ -1,9 +1,10 @@
 //! Imports in order, found by the classes of names.
 
-ghost use Rattle.std.specs.Prelude.{◌≡◌, [], Some, IsSome, OnOk, IfOk, string_bytes};
-ghost use Rattle.std.specs.Option.{option_map};
-ghost use Rattle.wac_names.specs.Class.{class_of};
-ghost use Rattle.wac_imports.specs.Import.{ImportContent, import_of, canonical, AreFiled, PutsImport, KeepsImports, PutsName, IsNoted};
+ghost use Rattle.std.specs.Prelude.{◌≡◌, ℕ, ◌<◌, [], ◌∷◌, ◌++◌, Some, None, IsSome, OnOk, IfOk, MatchOption, slice_set, string_bytes, vec_len};
+ghost use Rattle.std.specs.Option.{option_copied, option_map};
+ghost use Rattle.indexmap.specs.IndexMap.{insert_entry};
+ghost use Rattle.wac_names.specs.Class.{class_eq, class_of};
+ghost use Rattle.wac_imports.specs.Import.{ImportContent, import_of, canonical, AreFiled, PutsImport, PutsName, IsNoted};
 ghost use Rattle.wac_imports.specs.Left.{imports_left, listed};
 
 use super::import::Import;
@@ -19,7 +20,10 @@ use wac_names::NameClass;
 /// class of a name, however many there are.
 #[derive(Debug, Drop)]
 pub struct ImportList {
-    by_class: IndexMap<NameClass, Import>,
+    // The imports in order. One that went last left an empty place.
+    places: Vec<Option<Import>>,
+    // The place of the import of each class.
+    by_class: IndexMap<NameClass, usize>,
     // The names that lead to an import of another name, each with its class.
     led: IndexMap<String, NameClass>,
 }
@@ -27,12 +31,14 @@ pub struct ImportList {
 impl Model for ImportList {
     ghost use Rattle.wac_component.specs.Content.{named};
     ghost use Rattle.wac_imports.specs.Import.{ImportsContent, AreFiled};
+    ghost use Rattle.wac_imports.specs.Places.{imports_in, ArePlaced};
 
     ghost Value = { ImportsContent };
 
-    ghost view = { λ a. record { list = a.by_class.entries; led = named (λ c. c) a.led.entries } };
+    ghost view = { λ a. record { list = imports_in a.places.items; led = named (λ c. c) a.led.entries } };
 
-    ghost invariant = { λ a. AreFiled (record { list = a.by_class.entries; led = named (λ c. c) a.led.entries }) };
+    ghost invariant = { λ a. ArePlaced a.places.items a.by_class.entries
+        × AreFiled (record { list = imports_in a.places.items; led = named (λ c. c) a.led.entries }) };
 }
 
 impl ImportList {
@@ -41,6 +47,7 @@ impl ImportList {
         ensures { result ≡ record { list = []; led = [] } }
     {
         ImportList {
+            places: Vec::new(alloc),
             by_class: IndexMap::new(alloc),
             led: IndexMap::new(alloc),
         }
@@ -57,7 +64,7 @@ impl ImportList {
     pub fn kind_of(&self, class: &NameClass) -> Option<ItemKind>
         ensures { result ≡ option_map (λ i. i.1) (import_of self.now class.now) }
     {
-        let import = self.by_class.get(class)?;
+        let import = self.get(class)?;
         Some(import.kind)
     }
 
@@ -68,7 +75,7 @@ impl ImportList {
         let Some(class) = self.led.get(name) else {
             return name;
         };
-        match self.by_class.get(class) {
+        match self.get(class) {
             Some(import) => import.name.as_str(),
             None => name,
         }
@@ -79,7 +86,7 @@ impl ImportList {
         ensures { imports_left result ≡ listed self.now }
     {
         Imports {
-            imports: self.by_class.iter(),
+            places: self.places.iter(),
         }
     }
 
@@ -87,9 +94,14 @@ impl ImportList {
     pub fn put(&mut self, class: NameClass, name: String, kind: ItemKind) -> Result<(), AllocError>
         requires of { class ≡ class_of (string_bytes name) }
         ensures import { OnOk result (PutsImport self.old self.new class (string_bytes name, kind)) }
+        ensures order { OnOk result (self.new.list ≡ insert_entry class_eq self.old.list class (string_bytes name, kind)) }
         ensures led { self.new.led ≡ self.old.led }
     {
-        self.by_class.insert(class, Import { name, kind })?;
+        let Some(place) = self.by_class.get(&class) else {
+            return self.put_last(class, name, kind);
+        };
+        let place = *place;
+        self.places[place] = Some(Import { name, kind });
         Ok(())
     }
 
@@ -106,7 +118,7 @@ impl ImportList {
         requires found { IsSome (import_of self.old class) }
         ensures { (i : ImportContent) → import_of self.old class ≡ Some i → OnOk result (IsNoted self.old self.new class i.0 (string_bytes name) kind) }
     {
-        let was = self.by_class.get(&class).unwrap().name.clone()?;
+        let was = self.get(&class).unwrap().name.clone()?;
         if name == was {
             return self.put(class, name, kind);
         }
@@ -115,6 +127,15 @@ impl ImportList {
         }
         self.lead(name, class.clone()?)?;
         self.put(class, was, kind)
+    }
+
+    // The import of a class.
+    fn get(&self, class: &NameClass) -> Option<&Import>
+        ensures value { option_copied result ≡ import_of self.now class.now }
+        ensures filed { AreFiled self.now }
+    {
+        let place = *self.by_class.get(class)?;
+        self.places[place].as_ref()
     }
 
     // Gives the import of a class another name, to which the old one leads, and puts it last.
@@ -132,8 +153,7 @@ impl ImportList {
         ensures led { OnOk result (PutsName self.old self.new (string_bytes was) class) }
     {
         self.lead(was, class.clone()?)?;
-        self.move_last(&class);
-        self.put(class, name, kind)
+        self.put_last(class, name, kind)
     }
 
     // Lets a name lead to the import of its class.
@@ -147,14 +167,28 @@ impl ImportList {
         Ok(())
     }
 
-    // Puts the import of a class last.
-    fn move_last(&mut self, class: &NameClass)
-        ensures imports { KeepsImports self.old self.new }
+    // Puts an import last. If its class had one, that leaves an empty place.
+    fn put_last(&mut self, class: NameClass, name: String, kind: ItemKind) -> Result<(), AllocError>
+        requires of { class ≡ class_of (string_bytes name) }
+        ensures import { OnOk result (PutsImport self.old self.new class (string_bytes name, kind)) }
+        ensures order { OnOk result (import_of self.old class ≡ None → self.new.list ≡ self.old.list ++ (class, (string_bytes name, kind)) ∷ []) }
         ensures led { self.new.led ≡ self.old.led }
     {
-        if let Some(index) = self.by_class.get_index_of(class) {
-            let last = self.by_class.len() - 1;
-            self.by_class.move_index(index, last);
-        }
+        let last = self.places.len();
+        self.places.push(None)?;
+        let left = self.by_class.insert(class, last)?;
+        clear(&mut self.places, left);
+        self.places[last] = Some(Import { name, kind });
+        Ok(())
+    }
+}
+
+// Empties a place, if one is given.
+fn clear(places: &mut Vec<Option<Import>>, place: Option<usize>)
+    requires { (k : ℕ) → place ≡ Some k → k < vec_len places.old }
+    ensures { MatchOption place (places.new.items ≡ places.old.items) (λ k. places.new.items ≡ slice_set places.old.items k None) }
+{
+    if let Some(place) = place {
+        places[place] = None;
     }
 }

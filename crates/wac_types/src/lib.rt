@@ -5,6 +5,9 @@
 
 pub mod laws;
 
+pub use wac_aggregator::{
+    AggregateAllError, AggregateError, Call, Imports, MergeFrame, TypeAggregator, aggregate_all,
+};
 pub use wac_checker::SubtypeChecker;
 pub use wac_component::{
     DefinedType, DefinedTypeId, Enum, ExternKind, Flags, FuncKind, FuncType, FuncTypeId, Interface,

@@ -1,7 +1,7 @@
 use Rattle.std.proofs.Common.{arith}
 use Rattle.wac_component.specs.Key.{item_keys}
 use Rattle.wac_component.proofs.Extended.{AllStand-Extends, Extends-trans}
-use Rattle.wac_clashes.proofs.Ways.{existing_stands, new_stands, still_apart, lower, goes_on}
+use Rattle.wac_clashes.proofs.Ways.{existing_stands, new_stands, still_apart, lower, goes_on, still_none}
 use Rattle.wac_clashes.proofs.explain.+mismatch.Goals as goal
 
 pub mismatch-requires : goal.mismatch-requires
@@ -30,3 +30,6 @@ returns-in_ok-with_export-in-Some-clause-mismatch t c =
 
 pub returns-in_ok-with_export-in-Some-clause-grows : goal.returns-in_ok-with_export-in-Some-clause-grows
 returns-in_ok-with_export-in-Some-clause-grows t c = Extends-trans c.args.own.now c.clash_below.new.own c.mismatch.new.own c.in_ok-name.ensures.grows c.mismatch.ensures.grows
+
+pub innermost-requires-clause-innermost : goal.innermost-requires-clause-innermost
+innermost-requires-clause-innermost t c = still_none c.args.own.now c.clash_below.new.own c.in_ok-name.ensures.grows c.args.existing c.args.new c.requires.existing c.requires.new c.in_ok-name.field-0 c.in-None.is c.in_ok-name.ensures.clash

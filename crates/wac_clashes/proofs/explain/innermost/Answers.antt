@@ -12,4 +12,4 @@ returns-in_ok-with_export-in-Some c =
 
 pub returns-in_ok-error-in-None : goal.returns-in_ok-error-in-None
 returns-in_ok-error-in-None c =
-    ends_here c.args.check c.in_ok-error-in-None.error (item_tree c.args.own.now c.args.existing) (item_tree c.args.own.now c.args.new) c.args.frames.items c.in_ok-error-in-None.ensures
+    ends_here c.args.check c.in_ok-error-in-None.error (item_tree c.args.own.now c.args.existing) (item_tree c.args.own.now c.args.new) c.args.frames.items c.in_ok-name.field-0 c.requires.innermost c.in-None.is c.in_ok-name.ensures c.in_ok-error-in-None.ensures

@@ -1,0 +1,54 @@
+-- The state before the first call is in order.
+use Rattle.std.proofs.Common.{◌≡◌, ℕ, List, [], Some, None, ap, sym, ◌∙◌, subst}
+use Rattle.wac_model.specs.Text.{Text}
+use Rattle.wac_component.specs.Id.{Id}
+use Rattle.wac_component.specs.Key.{Key, Stands}
+use Rattle.wac_component.specs.Open.{import_next}
+use Rattle.wac_component.specs.Reach.{IsAmong}
+use Rattle.wac_component.specs.Sound.{IsSound}
+use Rattle.wac_component.specs.declared.items.ItemKind.{ItemKind}
+use Rattle.wac_component.proofs.Among.{each_among}
+use Rattle.wac_names.specs.Class.{Class}
+use Rattle.wac_narrowing.specs.Apart.{IsApart, IsGood}
+use Rattle.wac_narrowing.specs.Identified.{IsCovered}
+use Rattle.wac_narrowing.specs.State.{IsKept}
+use Rattle.wac_copies.specs.Memo.{memo_of}
+use Rattle.wac_imports.specs.Import.{ImportsContent, import_at, AreFiled}
+use Rattle.wac_taking.specs.Takes.{shared_keys, shared_in, state_of, AreFiledIn}
+use Rattle.wac_taking.specs.declared.state.Merging.{Merging}
+use Rattle.wac_aggregator.specs.InOrder.{IsStart}
+
+none_among : (k : Key) → IsAmong k [] → ⊥
+none_among k m = elim m [ ]
+
+module _ (a : Merging) (number : ℕ) (sound : IsSound a.types) (number_is : a.types.number ≡ number) (imports : a.imports ≡ record { list = []; led = [] }) (imports_filed : AreFiled a.imports) (shared : a.shared.entries ≡ [])
+    (taken : (k : Key) → memo_of a.taken k ≡ None) (copies : (k : Key) → memo_of a.copies k ≡ None) where
+  none_shared : (k : Key) → IsAmong k (shared_keys a.shared.entries) → ⊥
+  none_shared k m = none_among k (subst (λ (es : List (Class × Id)). IsAmong k (shared_keys es)) shared m)
+
+  none_imported : (n : Text) (x : ItemKind) → import_at a.imports n ≡ Some x → ⊥
+  none_imported n x at = let no : None ≡ Some x = sym (ap (λ (is : ImportsContent). import_at is n) imports) ∙ at in cc
+
+  good : IsGood a.types (shared_keys a.shared.entries)
+  good = record {
+    sound = sound;
+    shared = each_among (Stands a.types) (shared_keys a.shared.entries) (λ k m. absurd (none_shared k m));
+    identified = λ s m. absurd (none_shared s m);
+    covered = each_among (IsCovered a.types (shared_keys a.shared.entries)) (shared_keys a.shared.entries) (λ k m. absurd (none_shared k m));
+    isolated = λ k st. each_among (IsApart a.types (shared_keys a.shared.entries)) (import_next a.types k) (λ j m s among walk. none_shared s among);
+  }
+
+  kept : IsKept (state_of a)
+  kept = record {
+    good = good;
+    imports = λ n x at. absurd (none_imported n x at);
+    imports_covered = λ n x at. absurd (none_imported n x at);
+    taken = λ theirs own at. absurd (let no : None ≡ Some own = sym (taken theirs) ∙ at in cc);
+    copies = λ theirs own at. absurd (let no : None ≡ Some own = sym (copies theirs) ∙ at in cc);
+  }
+
+  filed : AreFiledIn a.types a.shared.entries
+  filed q i at = absurd (let no : None ≡ Some i = sym (ap (λ (es : List (Class × Id)). shared_in es q) shared) ∙ at in cc)
+
+  pub starts : IsStart a number
+  starts = record { in_order = record { kept = kept; filed = filed; imports = imports_filed }; number_is = number_is; imports = imports; shared = shared; taken = taken; copies = copies }

@@ -1,0 +1,144 @@
+-- A call whose item was taken in advances the state.
+use Rattle.std.proofs.Common.{◌≡◌, Option, Some, None, IsSome, Result, Ok, Err, OnOk, IfOk, String, Global, refl, ap, sym, ◌∙◌, subst}
+use Rattle.std.specs.Option.{option_map}
+use Rattle.wac_model.specs.Text.{Text}
+use Rattle.wac_model.specs.Order.{Fits}
+use Rattle.wac_model.proofs.ItemOrder.{Fits-refl}
+use Rattle.wac_component.specs.Collection.{Collection}
+use Rattle.wac_component.specs.Height.{keys_height}
+use Rattle.wac_component.specs.Key.{Each, AllStand, item_keys}
+use Rattle.wac_component.specs.Tree.{item_tree}
+use Rattle.wac_component.specs.declared.items.ItemKind.{ItemKind}
+use Rattle.wac_names.specs.Class.{Class, class_of}
+use Rattle.wac_narrowing.specs.Identified.{IsCovered}
+use Rattle.wac_narrowing.specs.Taking.{IsTakenItem}
+use Rattle.wac_narrowing.proofs.Mapped.{taken_each}
+use Rattle.wac_call_lists.specs.Call.{Call, call_track}
+use Rattle.wac_imports.specs.Import.{ImportContent, ImportsContent, import_of, import_at, IsNoted}
+use Rattle.wac_taking.specs.Growing.{IsMetWith}
+use Rattle.wac_taking.specs.Takes.{shared_keys, state_of, MayTake, Takes}
+use Rattle.wac_taking.specs.declared.state.Merging.{Merging}
+use Rattle.wac_taking.proofs.GrowLemmas.{StepsOn-refl}
+use Rattle.wac_aggregator.specs.Advances.{added, noted, Advances, IsAdded, IsMerged}
+
+-- the import of which this is the item
+pub import_with : (o : Option ImportContent) (x : ItemKind) → option_map (λ (i : ImportContent). i.1) o ≡ Some x → (i : ImportContent) × (o ≡ Some i) × (i.1 ≡ x)
+import_with None x h = absurd (cc)
+import_with (Some i) x h = let same : i.1 ≡ x = cc in (i, refl, same)
+
+module _ (call : Call) (a mid : Merging) (own : ItemKind) (may : MayTake call.types a)
+    (takes : Takes call.types a mid (keys_height call.types (item_keys call.kind)) (item_keys call.kind) (λ t. IsTakenItem class_of call.types t call.kind own)) where
+  own_covered : Each (IsCovered mid.types (shared_keys mid.shared.entries)) (item_keys own)
+  own_covered = taken_each class_of call.types (state_of mid) (IsCovered mid.types (shared_keys mid.shared.entries)) (λ i j k. k.covered) (item_keys call.kind) (item_keys own) takes.holds.keys
+
+  -- as a new import
+  pub added_advances : (b : Merging) → IsAdded mid b call.name own → import_of a.imports (call_track call) ≡ None → Advances call a b
+  added_advances b h none = subst (λ (m : Merging). Advances call a m) (sym h.same) record {
+    taken = mid;
+    own = own;
+    takes = takes;
+    same = refl;
+    on = StepsOn-refl mid.types;
+    import = own;
+    stands = takes.holds.stands;
+    covered = own_covered;
+    fits = Fits-refl (item_tree mid.types own);
+    existing = λ i at. absurd (let no : None ≡ Some i = sym none ∙ at in cc);
+    placed = added none h.none h.puts h.led;
+  }
+
+  -- merged into one
+  module _ (existing : ItemKind) (found : option_map (λ (i : ImportContent). i.1) (import_of a.imports (call_track call)) ≡ Some existing) where
+    pub was : (i : ImportContent) × (import_of a.imports (call_track call) ≡ Some i) × (i.1 ≡ existing)
+    was = import_with (import_of a.imports (call_track call)) existing found
+
+    pub found_still : import_of mid.imports (call_track call) ≡ Some was.0
+    found_still = takes.stays (call_track call) was.0 was.1
+
+    pub some_still : IsSome (import_of mid.imports (call_track call))
+    some_still = rw found_still refl
+
+    at_still : import_at mid.imports call.name ≡ Some existing
+    at_still = ap (option_map (λ (i : ImportContent). i.1)) found_still ∙ ap (λ (x : ItemKind). Some x) was.2
+
+    pub existing_stands : AllStand mid.types (item_keys existing)
+    existing_stands = (takes.run.kept may.kept).imports call.name existing at_still
+
+    pub merged_advances : (b : Merging) → IsMerged mid b call.name existing own → Advances call a b
+    merged_advances b h = subst (λ (m : Merging). Advances call a m) (sym h.same) record {
+      taken = mid;
+      own = own;
+      takes = takes;
+      same = refl;
+      on = h.met.on;
+      import = h.import;
+      stands = h.met.stands;
+      covered = h.met.covered (shared_keys mid.shared.entries) (takes.run.kept may.kept).good ((takes.run.kept may.kept).imports_covered call.name existing at_still) own_covered;
+      fits = h.met.fits_second;
+      existing = λ i at.
+          let same : was.0 ≡ i = let both : Some was.0 ≡ Some i = sym was.1 ∙ at in cc in
+          subst (λ x. Fits (item_tree b.types h.import) (item_tree mid.types x)) (sym was.2 ∙ ap (λ (j : ImportContent). j.1) same) h.met.fits_first;
+      placed = noted was.0 was.1 (h.noted was.0 found_still);
+    }
+
+-- what is told of a mismatch changes nothing else
+module _ (a : Merging) (told : Option (String Global)) where
+  pub told_may : (f : Collection) → MayTake f a → MayTake f (record a { handed_in = told })
+  told_may f h = record { kept = h.kept; truly = h.truly; filed = h.filed }
+
+  pub told_advances : (call : Call) (b : Merging) → Advances call (record a { handed_in = told }) b → Advances call a b
+  told_advances call b h = record {
+    taken = h.taken;
+    own = h.own;
+    takes = record {
+      low = h.takes.low;
+      run = h.takes.run;
+      filed = h.takes.filed;
+      owners = h.takes.owners;
+      led = h.takes.led;
+      stays = h.takes.stays;
+      due = h.takes.due;
+      shares = h.takes.shares;
+      holds = h.takes.holds;
+    };
+    same = h.same;
+    on = h.on;
+    import = h.import;
+    stands = h.stands;
+    covered = h.covered;
+    fits = h.fits;
+    existing = h.existing;
+    placed = h.placed;
+  }
+
+-- no import where there is none of which to ask
+pub import_none : (o : Option ImportContent) → option_map (λ (i : ImportContent). i.1) o ≡ None → o ≡ None
+import_none None h = refl
+import_none (Some i) h = absurd (let no : Some i.1 ≡ None = h in cc)
+
+-- what an accepted call gives of each
+pub ok_each : {X T E : Type 0} (r : Result T E) (P Q : X → Type 0) → ((x : X) → P x → OnOk r (Q x)) → IfOk r (λ u. (x : X) → P x → Q x)
+ok_each (Ok u) P Q h = h
+ok_each (Err e) P Q h = tt
+
+-- once two are met, and then the import is noted
+module _ (a m b : Merging) (first : m ≡ record a { types = m.types }) (then : b ≡ record m { imports = b.imports }) where
+  same_types : b.types ≡ m.types
+  same_types = ap (λ (x : Merging). x.types) then
+
+  same_imports : m.imports ≡ a.imports
+  same_imports = ap (λ (x : Merging). x.imports) first
+
+  pub still_found : (c : Class) → IsSome (import_of a.imports c) → IsSome (import_of m.imports c)
+  still_found c h = subst (λ (is : ImportsContent). IsSome (import_of is c)) (sym same_imports) h
+
+  same_rest : b ≡ record a { types = b.types; imports = b.imports }
+  same_rest = then ∙ ap (λ (x : Merging). record x { imports = b.imports }) first ∙ ap (λ (t : Collection). record a { types = t; imports = b.imports }) (sym same_types)
+
+  pub is_merged : (name : Text) (existing own met : ItemKind) → IsMetWith a.types m.types existing own met → ((i : ImportContent) → import_of m.imports (class_of name) ≡ Some i → IsNoted m.imports b.imports (class_of name) i.0 name met) → IsMerged a b name existing own
+  is_merged name existing own met h leaves = record {
+    same = same_rest;
+    import = met;
+    met = subst (λ (t : Collection). IsMetWith a.types t existing own met) (sym same_types) h;
+    noted = subst (λ (is : ImportsContent). (i : ImportContent) → import_of is (class_of name) ≡ Some i → IsNoted is b.imports (class_of name) i.0 name met) same_imports leaves;
+  }

@@ -1,0 +1,48 @@
+-- What a call does to an aggregator.
+use Rattle.std.proofs.Common.{◌≡◌, ap, sym, ◌∙◌, subst}
+use Rattle.wac_mismatch.specs.declared.check.SubtypeCheck.{SubtypeCheck}
+use Rattle.wac_component.specs.Collection.{Collection}
+use Rattle.wac_component.specs.Key.{AllStand, item_keys}
+use Rattle.wac_component.specs.declared.items.ItemKind.{ItemKind}
+use Rattle.std.specs.List.{Contains}
+use Rattle.wac_model.specs.Text.{Text}
+use Rattle.wac_names.specs.Class.{class_of}
+use Rattle.wac_narrowing.specs.Remembers.{RemembersTruly}
+use Rattle.wac_narrowing.specs.State.{IsOneWith}
+use Rattle.wac_call_lists.specs.Aggregated.{IsStep}
+use Rattle.wac_call_lists.specs.Call.{Call}
+use Rattle.wac_imports.specs.Import.{AreFiled}
+use Rattle.wac_imports.specs.Left.{listed}
+use Rattle.wac_imports.proofs.Listed.{of_Contains}
+use Rattle.wac_taking.specs.Takes.{MayTake}
+use Rattle.wac_taking.specs.declared.state.Merging.{Merging}
+use Rattle.wac_aggregator.specs.Advances.{Advances}
+use Rattle.wac_aggregator.specs.Content.{AggregatorContent, shown, content_of, state_in}
+use Rattle.wac_aggregator.specs.InOrder.{IsInOrder}
+use Rattle.wac_aggregator.proofs.Advancing.{at_of, run, advances_step}
+use Rattle.wac_aggregator.proofs.Listing.{advances_in_order, advances_number}
+use Rattle.wac_aggregator.proofs.Remembering.{truly_in, truly_of}
+
+-- each import stands
+pub imports_stand : (a : Merging) → IsInOrder a → (n : Text) (k : ItemKind) → Contains (listed a.imports) (n, k) → AllStand a.types (item_keys k)
+imports_stand a h n k m = h.kept.imports n k (at_of a.imports n (n, k) (of_Contains a.imports h.imports (n, k) m))
+
+module _ (call : Call) (inside : Merging) (told : SubtypeCheck) (before : AggregatorContent) (is : content_of inside ≡ before) (order : IsInOrder inside) (truly : RemembersTruly class_of call.types (state_in before)) where
+  abbrev a : Merging
+  a = record inside { check = told }
+
+  pub call_may : MayTake call.types a
+  call_may = record { kept = order.kept; truly = truly_of call.types inside (subst (λ s. RemembersTruly class_of call.types (state_in s)) (sym is) truly); filed = order.filed }
+
+  module _ (b : Merging) (filed : AreFiled b.imports) (h : Advances call a b) where
+    pub call_in_order : IsInOrder b
+    call_in_order = advances_in_order call a b call_may order.imports filed h
+
+    pub call_number : b.types.number ≡ before.types.number
+    call_number = advances_number call a b call_may order.imports filed h ∙ ap (λ (s : AggregatorContent). s.types.number) is
+
+    pub call_step : IsStep (shown before) (shown (content_of b)) call
+    call_step = subst (λ s. IsStep (shown s) (shown (content_of b)) call) is (advances_step call a b call_may order.imports filed h)
+
+    pub call_truly : (g : Collection) → IsOneWith call.types g → RemembersTruly class_of g (state_in before) → RemembersTruly class_of g (state_in (content_of b))
+    call_truly g one t = truly_in g b ((run call a b call_may order.imports filed h).truly order.kept g one (truly_of g inside (subst (λ s. RemembersTruly class_of g (state_in s)) (sym is) t)))

@@ -1,0 +1,10 @@
+pub mod Newer
+pub mod Identifiers
+pub mod Leading
+pub mod Advancing
+pub mod Front
+pub mod Calls
+pub mod Beginning
+pub mod Listing
+pub mod Remembering
+pub mod Handing

@@ -1,0 +1,39 @@
+use Rattle.std.proofs.Common.{ap, ◌∙◌}
+use Rattle.wac_checker.specs.Cache.{without_number}
+use Rattle.wac_checker.specs.Checker.{remembered}
+use Rattle.wac_call_lists.specs.Call.{Call}
+use Rattle.wac_aggregator.specs.Content.{AggregatorContent}
+use Rattle.wac_aggregator.proofs.Advancing.{by_track}
+use Rattle.wac_aggregator.proofs.Handing.{call_may, call_in_order, call_number, call_step, call_truly}
+use Rattle.wac_aggregator.proofs.aggregator.TypeAggregator.aggregate.Goals as goal
+
+pub advance-requires-clause-state : goal.advance-requires-clause-state
+advance-requires-clause-state c =
+    let call : Call = record { name = c.args.name.now; types = c.args.types.now; kind = c.args.kind } in
+    call_may call c.self.inside.state c.direction-state.result c.args.self c.self.view_is c.self.invariant c.requires.remembered
+
+pub returns-in_err-advance-clause-forgotten : goal.returns-in_err-advance-clause-forgotten
+returns-in_err-advance-clause-forgotten c = c.forget.ensures.remembered ∙ ap (λ n. without_number n (remembered c.args.checker.now)) (c.number.ensures ∙ ap (λ (s : AggregatorContent). s.types.number) c.self.view_is)
+
+pub invariant_of-result : goal.invariant_of-result
+invariant_of-result c =
+    let call : Call = record { name = c.args.name.now; types = c.args.types.now; kind = c.args.kind } in
+    call_in_order call c.self.inside.state c.direction-state.result c.args.self c.self.view_is c.self.invariant c.requires.remembered c.advance.new.state c.filed.ensures c.in_ok-advance.ensures
+
+pub returns-clause-step : goal.returns-clause-step
+returns-clause-step c =
+    let call : Call = record { name = c.args.name.now; types = c.args.types.now; kind = c.args.kind } in
+    call_step call c.self.inside.state c.direction-state.result c.args.self c.self.view_is c.self.invariant c.requires.remembered c.advance.new.state c.filed.ensures c.in_ok-advance.ensures
+
+pub returns-clause-by_track : goal.returns-clause-by_track
+returns-clause-by_track c = by_track c.advance.new.state c.filed.ensures
+
+pub returns-clause-truly : goal.returns-clause-truly
+returns-clause-truly c =
+    let call : Call = record { name = c.args.name.now; types = c.args.types.now; kind = c.args.kind } in
+    call_truly call c.self.inside.state c.direction-state.result c.args.self c.self.view_is c.self.invariant c.requires.remembered c.advance.new.state c.filed.ensures c.in_ok-advance.ensures
+
+pub returns-clause-number : goal.returns-clause-number
+returns-clause-number c =
+    let call : Call = record { name = c.args.name.now; types = c.args.types.now; kind = c.args.kind } in
+    call_number call c.self.inside.state c.direction-state.result c.args.self c.self.view_is c.self.invariant c.requires.remembered c.advance.new.state c.filed.ensures c.in_ok-advance.ensures

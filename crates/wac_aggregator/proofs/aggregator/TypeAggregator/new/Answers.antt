@@ -1,0 +1,20 @@
+use Rattle.std.proofs.Common.{[], ap, arith}
+use Rattle.wac_imports.specs.Import.{ImportsContent, import_of}
+use Rattle.wac_imports.specs.Left.{listed}
+use Rattle.wac_aggregator.proofs.Front.{none_served}
+use Rattle.wac_aggregator.proofs.Remembering.{truly_in}
+use Rattle.wac_aggregator.proofs.aggregator.TypeAggregator.new.Goals as goal
+
+pub invariant_of-result : goal.invariant_of-result
+invariant_of-result c = c.no_imports.ensures.in_order
+
+pub returns-clause-number : goal.returns-clause-number
+returns-clause-number c = c.no_imports.ensures.number_is
+
+pub returns-clause-imports : goal.returns-clause-imports
+returns-clause-imports c = ap listed c.no_imports.ensures.imports
+
+pub returns-clause-remembers_nothing : goal.returns-clause-remembers_nothing
+returns-clause-remembers_nothing c =
+    let start = c.no_imports.ensures in
+    λ f. truly_in f c.no_imports.result ((none_served [] c.no_imports.result start.taken start.copies (λ q. ap (λ (is : ImportsContent). import_of is q) start.imports) start.shared).truly f (λ d m. absurd (omega (arith, m.1))))

@@ -1,0 +1,53 @@
+use Rattle.std.proofs.Common.{◌∙◌, ap, subst, add-one, arith, take}
+use Rattle.std.proofs.lemmas.List.{length-map, take_all}
+use Rattle.wac_imports.specs.Import.{ImportsContent, import_of}
+use Rattle.wac_aggregator.specs.HandedIn.{called, handed_in}
+use Rattle.wac_aggregator.specs.Served.{AreServed}
+use Rattle.wac_aggregator.proofs.Advancing.{by_track}
+use Rattle.wac_aggregator.proofs.Front.{none_served, all_aggregated}
+use Rattle.wac_aggregator.proofs.Listing.{Contains-at, called_at, advances_in_order, advances_number, may_take, one_more}
+use Rattle.wac_aggregator.proofs.all.aggregate_all.Goals as goal
+
+pub loop-at-init : goal.loop-at-init
+loop-at-init c =
+    let start = c.no_imports-state.ensures in
+    record {
+      order = start.in_order;
+      number = start.number_is;
+      served = none_served (handed_in c.args.calls.now) c.no_imports-state.result start.taken start.copies (λ q. ap (λ (is : ImportsContent). import_of is q) start.imports) start.shared;
+    }
+
+pub advance-requires-clause-source : goal.advance-requires-clause-source
+advance-requires-clause-source c =
+    let at = called_at c.args.calls.now c.loop-at.at c.index-calls-at.result c.loop-at-test.true c.index-calls-at.is in
+    c.requires.source (called c.index-calls-at.result) (Contains-at (handed_in c.args.calls.now) c.loop-at.at (called c.index-calls-at.result) at)
+
+pub advance-requires-clause-state : goal.advance-requires-clause-state
+advance-requires-clause-state c =
+    let calls = handed_in c.args.calls.now in
+    let call = called c.index-calls-at.result in
+    let at = called_at c.args.calls.now c.loop-at.at c.index-calls-at.result c.loop-at-test.true c.index-calls-at.is in
+    may_take calls c.requires.one (take c.loop-at.at calls) call c.loop-at.state (Contains-at calls c.loop-at.at call at) c.loop-at.invariant.order c.loop-at.invariant.served
+
+pub loop-at-preserved : goal.loop-at-preserved
+loop-at-preserved c =
+    let calls = handed_in c.args.calls.now in
+    let call = called c.index-calls-at.result in
+    let at = called_at c.args.calls.now c.loop-at.at c.index-calls-at.result c.loop-at-test.true c.index-calls-at.is in
+    let among = Contains-at calls c.loop-at.at call at in
+    let before = c.loop-at.invariant in
+    let may = may_take calls c.requires.one (take c.loop-at.at calls) call c.loop-at.state among before.order before.served in
+    record {
+      order = advances_in_order call c.loop-at.state c.advance.new.state may before.order.imports c.filed.ensures c.in_default.ensures;
+      number = advances_number call c.loop-at.state c.advance.new.state may before.order.imports c.filed.ensures c.in_default.ensures ∙ before.number;
+      served = rw add-one (one_more calls c.requires.one c.loop-at.at call c.loop-at.state c.advance.new.state at (c.requires.source call among) c.filed.ensures before.order before.served c.in_default.ensures);
+    }
+
+pub returns-clause-aggregated : goal.returns-clause-aggregated
+returns-clause-aggregated c =
+    let calls = handed_in c.args.calls.now in
+    all_aggregated calls c.loop-at.state c.loop-at.invariant.order.imports
+    (subst (λ front. AreServed calls front c.loop-at.state) (take_all c.loop-at.at calls (simp length-map (omega arith))) c.loop-at.invariant.served)
+
+pub returns-clause-by_track : goal.returns-clause-by_track
+returns-clause-by_track c = by_track c.loop-at.state c.loop-at.invariant.order.imports

@@ -1,0 +1,11 @@
+use Rattle.std.proofs.Common.{◌≡◌, None, subst}
+use Rattle.std.proofs.lemmas.Result.{IfOk-weaker}
+use Rattle.wac_imports.specs.Import.{import_of}
+use Rattle.wac_aggregator.proofs.Calls.{added_advances}
+use Rattle.wac_aggregator.proofs.importing.add_import.Goals as goal
+
+pub returns-in-Ok : goal.returns-in-Ok
+returns-in-Ok c =
+    IfOk-weaker c.put_import.result _ _ (λ u h.
+    added_advances (record { name = c.args.name.now; types = c.args.types.now; kind = c.args.kind }) c.args.state.now c.take_item.new.state c.in-Ok.own c.requires.state c.in-Ok.ensures c.put_import.new.state h
+    (subst (λ q. import_of c.args.state.now.imports q ≡ None) c.requires.of c.requires.new)) c.put_import.ensures

@@ -1,0 +1,18 @@
+use Rattle.std.proofs.Common.{sym, subst}
+use Rattle.std.proofs.lemmas.Result.{IfOk-weaker}
+use Rattle.wac_call_lists.specs.Call.{Call}
+use Rattle.wac_taking.specs.Takes.{MayTake}
+use Rattle.wac_taking.specs.declared.state.Merging.{Merging}
+use Rattle.wac_aggregator.specs.Advances.{Advances}
+use Rattle.wac_aggregator.proofs.Calls.{told_may, told_advances}
+use Rattle.wac_aggregator.proofs.importing.advance.Goals as goal
+
+pub import-requires-clause-state : goal.import-requires-clause-state
+import-requires-clause-state c =
+    subst (λ (m : Merging). MayTake c.args.types.now m) (sym c.note_handed_in.ensures) (told_may c.args.state.now c.note_handed_in.new.state.handed_in c.args.types.now c.requires.state)
+
+pub returns-in-Ok : goal.returns-in-Ok
+returns-in-Ok c =
+    let call : Call = record { name = c.args.name.now; types = c.args.types.now; kind = c.args.kind } in
+    IfOk-weaker c.import.result _ _
+    (λ u h. told_advances c.args.state.now c.note_handed_in.new.state.handed_in call c.import.new.state (subst (λ (m : Merging). Advances call m c.import.new.state) c.note_handed_in.ensures h)) c.import.ensures

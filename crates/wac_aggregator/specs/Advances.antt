@@ -1,0 +1,49 @@
+-- What a call does to the state of merging.
+use Rattle.std.specs.Prelude.{◌≡◌, Some, None}
+use Rattle.wac_model.specs.Text.{Text}
+use Rattle.wac_model.specs.Order.{Fits}
+use Rattle.wac_component.specs.Height.{keys_height}
+use Rattle.wac_component.specs.Key.{Each, AllStand, item_keys}
+use Rattle.wac_component.specs.Tree.{item_tree}
+use Rattle.wac_component.specs.declared.items.ItemKind.{ItemKind}
+use Rattle.wac_names.specs.Class.{class_of}
+use Rattle.wac_narrowing.specs.Identified.{IsCovered}
+use Rattle.wac_narrowing.specs.Taking.{IsTakenItem}
+use Rattle.wac_call_lists.specs.Call.{Call, call_track}
+use Rattle.wac_imports.specs.Import.{ImportContent, ImportsContent, import_of, PutsImport, IsNoted}
+use Rattle.wac_taking.specs.Growing.{StepsOn, IsMetWith}
+use Rattle.wac_taking.specs.Takes.{shared_keys, Takes}
+use Rattle.wac_taking.specs.declared.state.Merging.{Merging}
+
+-- what is imported on the name's track is this item now: under the name where there was no import before the call and none came with the item, else as the import that stood there is noted
+pub data IsPlaced (before taken now : ImportsContent) (name : Text) (k : ItemKind) : Type 0 where
+  added : import_of before (class_of name) ≡ None → import_of taken (class_of name) ≡ None → PutsImport taken now (class_of name) (name, k) → now.led ≡ taken.led → IsPlaced before taken now name k
+  noted : (i : ImportContent) → import_of before (class_of name) ≡ Some i → IsNoted taken now (class_of name) i.0 name k → IsPlaced before taken now name k
+
+-- the item is taken in; then an import is placed on the track of the name, which fits where the item is asked for, and where the import was that stood there
+pub record Advances (call : Call) (a b : Merging) : Type 0 where
+  pub taken : Merging
+  pub own : ItemKind
+  pub takes : Takes call.types a taken (keys_height call.types (item_keys call.kind)) (item_keys call.kind) (λ t. IsTakenItem class_of call.types t call.kind own)
+  pub same : b ≡ record taken { types = b.types; imports = b.imports }
+  pub on : StepsOn taken.types b.types
+  pub import : ItemKind
+  pub stands : AllStand b.types (item_keys import)
+  pub covered : Each (IsCovered b.types (shared_keys taken.shared.entries)) (item_keys import)
+  pub fits : Fits (item_tree b.types import) (item_tree taken.types own)
+  pub existing : (i : ImportContent) → import_of a.imports (call_track call) ≡ Some i → Fits (item_tree b.types import) (item_tree taken.types i.1)
+  pub placed : IsPlaced a.imports taken.imports b.imports call.name import
+
+-- an import under the name is put last, where none stood on its track
+pub record IsAdded (a b : Merging) (name : Text) (k : ItemKind) : Type 0 where
+  pub same : b ≡ record a { imports = b.imports }
+  pub none : import_of a.imports (class_of name) ≡ None
+  pub puts : PutsImport a.imports b.imports (class_of name) (name, k)
+  pub led : b.imports.led ≡ a.imports.led
+
+-- the import on the name's track is noted as what it is met with
+pub record IsMerged (a b : Merging) (name : Text) (existing own : ItemKind) : Type 0 where
+  pub same : b ≡ record a { types = b.types; imports = b.imports }
+  pub import : ItemKind
+  pub met : IsMetWith a.types b.types existing own import
+  pub noted : (i : ImportContent) → import_of a.imports (class_of name) ≡ Some i → IsNoted a.imports b.imports (class_of name) i.0 name import

@@ -1,0 +1,23 @@
+-- What is kept of the state of merging.
+use Rattle.std.specs.Prelude.{◌≡◌, ℕ, [], None}
+use Rattle.wac_component.specs.Key.{Key}
+use Rattle.wac_copies.specs.Memo.{memo_of}
+use Rattle.wac_imports.specs.Import.{AreFiled}
+use Rattle.wac_narrowing.specs.State.{IsKept}
+use Rattle.wac_taking.specs.Takes.{AreFiledIn, state_of}
+use Rattle.wac_taking.specs.declared.state.Merging.{Merging}
+
+-- entries, imports and what was taken in are in order, and shared entries and imports are filed under the classes of their names
+pub record IsInOrder (a : Merging) : Type 0 where
+  pub kept : IsKept (state_of a)
+  pub filed : AreFiledIn a.types a.shared.entries
+  pub imports : AreFiled a.imports
+
+-- nothing was handed in yet
+pub record IsStart (a : Merging) (number : ℕ) : Type 0 where
+  pub in_order : IsInOrder a
+  pub number_is : a.types.number ≡ number
+  pub imports : a.imports ≡ record { list = []; led = [] }
+  pub shared : a.shared.entries ≡ []
+  pub taken : (k : Key) → memo_of a.taken k ≡ None
+  pub copies : (k : Key) → memo_of a.copies k ≡ None

@@ -1,0 +1,5 @@
+pub mod Advances
+pub mod Content
+pub mod HandedIn
+pub mod InOrder
+pub mod Served

@@ -1,0 +1,111 @@
+//! The aggregator.
+
+ghost use Rattle.std.specs.Prelude.{◌≡◌, [], Contains, IfOk};
+ghost use Rattle.wac_model.specs.Text.{Text};
+ghost use Rattle.wac_component.specs.Collection.{Collection};
+ghost use Rattle.wac_component.specs.Key.{AllStand, item_keys};
+ghost use Rattle.wac_component.specs.declared.items.ItemKind.{ItemKind};
+ghost use Rattle.wac_checker.specs.Cache.{without_number};
+ghost use Rattle.wac_checker.specs.Checker.{direction, depth, remembered};
+ghost use Rattle.wac_call_lists.specs.Aggregated.{IsByTrack, IsStep};
+ghost use Rattle.wac_imports.specs.Left.{imports_left};
+ghost use Rattle.wac_names.specs.Class.{class_of};
+ghost use Rattle.wac_narrowing.specs.Remembers.{RemembersTruly};
+ghost use Rattle.wac_narrowing.specs.State.{IsOneWith};
+ghost use Rattle.wac_aggregator.specs.Content.{shown, state_in};
+
+use super::importing::advance;
+use super::start::no_imports;
+use std::alloc::Global;
+use std::marker::Model;
+use wac_checker::SubtypeChecker;
+use wac_component::{ItemKind, Types};
+use wac_imports::Imports;
+use wac_mismatch::SubtypeCheck;
+use wac_refusals::AggregateError;
+use wac_taking::Merging;
+
+/// Aggregates items of different collections into imports: items that are handed in under compatible names become
+/// one import, which fits where each of them is asked for.
+#[derive(Debug, Drop)]
+pub struct TypeAggregator {
+    pub(crate) state: Merging,
+}
+
+impl Model for TypeAggregator {
+    ghost use Rattle.wac_aggregator.specs.Content.{AggregatorContent, content_of};
+    ghost use Rattle.wac_aggregator.specs.InOrder.{IsInOrder};
+
+    ghost Value = { AggregatorContent };
+
+    ghost view = { λ a. content_of a.state };
+
+    ghost invariant = { λ a. IsInOrder a.state };
+}
+
+impl TypeAggregator {
+    /// An aggregator without imports. Its collection has this number.
+    pub fn new(alloc: Global, number: u64) -> TypeAggregator
+        ensures number { result.types.number ≡ number }
+        ensures imports { (shown result).imports ≡ [] }
+        ensures remembers_nothing { (f : Collection) → RemembersTruly class_of f (state_in result) }
+    {
+        TypeAggregator {
+            state: no_imports(alloc, number, SubtypeCheck::Covariant),
+        }
+    }
+
+    /// The collection of the imports.
+    pub fn types(&self) -> &Types
+        ensures { result.now ≡ (shown self.now).types }
+    {
+        &self.state.types
+    }
+
+    /// The imports in order, each with its name.
+    pub fn imports(&self) -> Imports<'_>
+        ensures listed { imports_left result ≡ (shown self.now).imports }
+        ensures standing { (n : Text) (k : ItemKind) → Contains (imports_left result) (n, k) → AllStand self.now.types (item_keys k) }
+    {
+        self.state.imports.iter()
+    }
+
+    /// The name of the import to which a name leads; any other name is its own.
+    pub fn canonical_import_name<'a>(&'a self, name: &'a str) -> &'a str
+        ensures { result.now ≡ (shown self.now).canonical name.now }
+    {
+        self.state.imports.canonical(name)
+    }
+
+    /// Aggregates an item of a collection under a name: merges it into the import on the name's track, or makes it
+    /// an import of its own, the last.
+    ///
+    /// Where the name has a higher version than the import that it is merged into, the import takes the name and goes
+    /// last, and its old name leads to it; else the name leads to the import. A refusal consumes the aggregator. No
+    /// pair with an id of the aggregator stays in the checker's cache; nothing else of the checker changes.
+    pub fn aggregate(
+        self,
+        name: &str,
+        types: &Types,
+        kind: ItemKind,
+        checker: &mut SubtypeChecker<'_>,
+    ) -> Result<TypeAggregator, AggregateError>
+        requires source { AllStand types.now (item_keys kind) }
+        requires remembered { RemembersTruly class_of types.now (state_in self) }
+        ensures step { IfOk result (λ a. IsStep (shown self) (shown a) (record { name = name.now; types = types.now; kind = kind })) }
+        ensures by_track { IfOk result (λ a. IsByTrack (shown a)) }
+        ensures truly { IfOk result (λ a. (g : Collection) → IsOneWith types.now g → RemembersTruly class_of g (state_in self) → RemembersTruly class_of g (state_in a)) }
+        ensures number { IfOk result (λ a. a.types.number ≡ self.types.number) }
+        ensures forgotten { remembered checker.new ≡ without_number self.types.number (remembered checker.old) }
+        ensures direction { direction checker.new ≡ direction checker.old }
+        ensures depth { depth checker.new ≡ depth checker.old }
+        ensures same_cache { checker.new.cache.ghost_name ≡ checker.old.cache.ghost_name }
+    {
+        let mut state = self.state;
+        checker.forget(state.types.number());
+        state.check = checker.direction();
+        advance(&mut state, name, types, kind)?;
+        state.imports.filed();
+        Ok(TypeAggregator { state })
+    }
+}

@@ -1,0 +1,62 @@
+//! Lists of calls.
+
+ghost use Rattle.std.specs.Prelude.{◌≡◌, ◌<◌, Contains, IfErr, IfOk, length};
+ghost use Rattle.wac_component.specs.Key.{AllStand, item_keys};
+ghost use Rattle.wac_checker.specs.Cache.{without_number};
+ghost use Rattle.wac_checker.specs.Checker.{direction, depth, remembered};
+ghost use Rattle.wac_call_lists.specs.Aggregated.{IsAggregated, IsByTrack};
+ghost use Rattle.wac_call_lists.specs.Call as listed;
+ghost use Rattle.wac_aggregator.specs.HandedIn.{handed_in};
+ghost use Rattle.wac_aggregator.specs.Content.{shown};
+
+use super::aggregator::TypeAggregator;
+use super::importing::advance;
+use super::start::no_imports;
+use std::alloc::Global;
+use wac_checker::SubtypeChecker;
+use wac_component::{ItemKind, Types};
+use wac_refusals::AggregateAllError;
+
+/// What is handed to an aggregator.
+#[derive(Clone, Copy)]
+pub struct Call<'a> {
+    /// The name of the import.
+    pub name: &'a str,
+    /// The collection of the item.
+    pub types: &'a Types,
+    /// The item.
+    pub kind: ItemKind,
+}
+
+/// Aggregates items one after the other, in a new aggregator whose collection has this number.
+///
+/// The first refusal is answered with the number of its call, from 0 on. No pair with an id of the number stays in the
+/// checker's cache; nothing else of the checker changes.
+pub fn aggregate_all(
+    alloc: Global,
+    number: u64,
+    calls: &[Call<'_>],
+    checker: &mut SubtypeChecker<'_>,
+) -> Result<TypeAggregator, AggregateAllError>
+    requires source { (c : listed.Call) → Contains (handed_in calls.now) c → AllStand c.types (item_keys c.kind) }
+    requires one { (c d : listed.Call) → Contains (handed_in calls.now) c → Contains (handed_in calls.now) d → c.types.number ≡ d.types.number → c.types ≡ d.types }
+    ensures aggregated { IfOk result (λ a. IsAggregated (handed_in calls.now) (shown a)) }
+    ensures by_track { IfOk result (λ a. IsByTrack (shown a)) }
+    ensures number { IfOk result (λ a. a.types.number ≡ number) }
+    ensures at { IfErr result (λ e. e.at < length calls.now) }
+    ensures forgotten { remembered checker.new ≡ without_number number (remembered checker.old) }
+    ensures direction { direction checker.new ≡ direction checker.old }
+    ensures depth { depth checker.new ≡ depth checker.old }
+    ensures same_cache { checker.new.cache.ghost_name ≡ checker.old.cache.ghost_name }
+{
+    checker.forget(number);
+    let mut state = no_imports(alloc, number, checker.direction());
+    for at in 0..calls.len() {
+        let call = &calls[at];
+        if let Err(error) = advance(&mut state, call.name, call.types, call.kind) {
+            return Err(AggregateAllError { at, error });
+        }
+        state.imports.filed();
+    }
+    Ok(TypeAggregator { state })
+}

@@ -1,0 +1,170 @@
+//! One call: an item becomes an import, or is merged into one.
+
+ghost use Rattle.std.specs.Prelude.{◌≡◌, Some, None, IfOk};
+ghost use Rattle.std.specs.Option.{option_map};
+ghost use Rattle.wac_component.specs.Key.{AllStand, item_keys};
+ghost use Rattle.wac_imports.specs.Import.{import_of};
+ghost use Rattle.wac_names.specs.Class.{class_of};
+ghost use Rattle.wac_taking.specs.Takes.{MayTake};
+ghost use Rattle.wac_aggregator.specs.Advances.{Advances, IsAdded};
+
+use super::cases::same_case;
+use super::noting::note_import;
+use std::alloc::AllocError;
+use wac_component::{ItemKind, Type, Types};
+use wac_names::NameClass;
+use wac_refusals::AggregateError;
+use wac_taking::{Merging, take_item};
+
+/// Imports an item under a name, and notes what is told of a mismatch.
+pub(crate) fn advance(
+    state: &mut Merging,
+    name: &str,
+    types: &Types,
+    kind: ItemKind,
+) -> Result<(), AggregateError>
+    requires source { AllStand types.now (item_keys kind) }
+    requires state { MayTake types.now state.old }
+    ensures { IfOk result (λ u. Advances (record { name = name.now; types = types.now; kind = kind }) state.old state.new) }
+{
+    match note_handed_in(state, types, &kind) {
+        Ok(()) => import(state, name, types, kind),
+        Err(_) => Err(AggregateError::Memory),
+    }
+}
+
+// Notes the identifier of what is handed in, for what is told of a mismatch.
+fn note_handed_in(state: &mut Merging, types: &Types, kind: &ItemKind) -> Result<(), AllocError>
+    requires { AllStand types.now (item_keys kind.now) }
+    ensures { state.new ≡ record state.old { handed_in = state.new.handed_in } }
+{
+    state.handed_in = identifier_of(types, *kind)?;
+    Ok(())
+}
+
+// The identifier of an interface, if the item is one and has one.
+fn identifier_of(types: &Types, kind: ItemKind) -> Result<Option<String>, AllocError>
+    requires { AllStand types.now (item_keys kind) }
+{
+    let Type::Interface(id) = kind.ty() else {
+        return Ok(None);
+    };
+    types[id].id.clone()
+}
+
+// Imports an item under a name: into the import on the name's track, if there is one.
+fn import(
+    state: &mut Merging,
+    name: &str,
+    types: &Types,
+    kind: ItemKind,
+) -> Result<(), AggregateError>
+    requires source { AllStand types.now (item_keys kind) }
+    requires state { MayTake types.now state.old }
+    ensures { IfOk result (λ u. Advances (record { name = name.now; types = types.now; kind = kind }) state.old state.new) }
+{
+    let class = NameClass::of(state.alloc(), name)?;
+    match state.imports.kind_of(&class) {
+        Some(existing) => merge_import(state, class, name, existing, types, kind),
+        None => add_import(state, class, name, types, kind),
+    }
+}
+
+// Takes in an item, and makes it an import.
+fn add_import(
+    state: &mut Merging,
+    class: NameClass,
+    name: &str,
+    types: &Types,
+    kind: ItemKind,
+) -> Result<(), AggregateError>
+    requires source { AllStand types.now (item_keys kind) }
+    requires state { MayTake types.now state.old }
+    requires of { class ≡ class_of name.now }
+    requires new { import_of state.old.imports class ≡ None }
+    ensures { IfOk result (λ u. Advances (record { name = name.now; types = types.now; kind = kind }) state.old state.new) }
+{
+    match take_item(state, types, kind) {
+        Ok(own) => put_import(state, class, name, own),
+        Err(error) => Err(error),
+    }
+}
+
+// Puts an import last, unless its class got one while its item was taken in: that of an owner.
+fn put_import(
+    state: &mut Merging,
+    class: NameClass,
+    name: &str,
+    own: ItemKind,
+) -> Result<(), AggregateError>
+    requires of { class ≡ class_of name.now }
+    ensures { IfOk result (λ u. IsAdded state.old state.new name.now own) }
+{
+    let name = String::from_str(state.alloc(), name)?;
+    if state.imports.kind_of(&class).is_some() {
+        return Err(AggregateError::Taken { name });
+    }
+    state.imports.put(class, name, own)?;
+    Ok(())
+}
+
+// Takes in an item, and merges it into the import of a class.
+fn merge_import(
+    state: &mut Merging,
+    class: NameClass,
+    name: &str,
+    existing: ItemKind,
+    types: &Types,
+    kind: ItemKind,
+) -> Result<(), AggregateError>
+    requires source { AllStand types.now (item_keys kind) }
+    requires state { MayTake types.now state.old }
+    requires of { class ≡ class_of name.now }
+    requires found { option_map (λ i. i.1) (import_of state.old.imports class) ≡ Some existing }
+    ensures { IfOk result (λ u. Advances (record { name = name.now; types = types.now; kind = kind }) state.old state.new) }
+{
+    match check_case(&state.types, &existing, types, &kind) {
+        Ok(()) => merge_taken(state, class, name, existing, types, kind),
+        Err(error) => Err(error),
+    }
+}
+
+// The same of an item of the import's case.
+fn merge_taken(
+    state: &mut Merging,
+    class: NameClass,
+    name: &str,
+    existing: ItemKind,
+    types: &Types,
+    kind: ItemKind,
+) -> Result<(), AggregateError>
+    requires source { AllStand types.now (item_keys kind) }
+    requires state { MayTake types.now state.old }
+    requires of { class ≡ class_of name.now }
+    requires found { option_map (λ i. i.1) (import_of state.old.imports class) ≡ Some existing }
+    ensures { IfOk result (λ u. Advances (record { name = name.now; types = types.now; kind = kind }) state.old state.new) }
+{
+    match take_item(state, types, kind) {
+        Ok(own) => note_import(state, class, name, existing, own),
+        Err(error) => Err(error),
+    }
+}
+
+// Refuses an item of another case than the import.
+fn check_case(
+    own: &Types,
+    existing: &ItemKind,
+    types: &Types,
+    kind: &ItemKind,
+) -> Result<(), AggregateError>
+    requires existing { AllStand own.now (item_keys existing.now) }
+    requires found { AllStand types.now (item_keys kind.now) }
+{
+    if same_case(*existing, *kind) {
+        return Ok(());
+    }
+    Err(AggregateError::Kinds {
+        existing: existing.desc(own),
+        found: kind.desc(types),
+    })
+}
