@@ -21,7 +21,7 @@ use Rattle.wac_aggregator.specs.InOrder.{IsStart}
 none_among : (k : Key) → IsAmong k [] → ⊥
 none_among k m = elim m [ ]
 
-module _ (a : Merging) (number : ℕ) (sound : IsSound a.types) (number_is : a.types.number ≡ number) (imports : a.imports ≡ record { list = []; led = [] }) (imports_filed : AreFiled a.imports) (shared : a.shared.entries ≡ [])
+module _ (a : Merging) (number : ℕ) (sound : IsSound a.types) (empty : a.types ≡ record { number = number; defined = []; resources = []; funcs = []; interfaces = []; worlds = []; modules = [] }) (imports : a.imports ≡ record { list = []; led = [] }) (imports_filed : AreFiled a.imports) (shared : a.shared.entries ≡ [])
     (taken : (k : Key) → memo_of a.taken k ≡ None) (copies : (k : Key) → memo_of a.copies k ≡ None) where
   none_shared : (k : Key) → IsAmong k (shared_keys a.shared.entries) → ⊥
   none_shared k m = none_among k (subst (λ (es : List (Class × Id)). IsAmong k (shared_keys es)) shared m)
@@ -51,4 +51,4 @@ module _ (a : Merging) (number : ℕ) (sound : IsSound a.types) (number_is : a.t
   filed q i at = absurd (let no : None ≡ Some i = sym (ap (λ (es : List (Class × Id)). shared_in es q) shared) ∙ at in cc)
 
   pub starts : IsStart a number
-  starts = record { in_order = record { kept = kept; filed = filed; imports = imports_filed }; number_is = number_is; imports = imports; shared = shared; taken = taken; copies = copies }
+  starts = record { in_order = record { kept = kept; filed = filed; imports = imports_filed }; empty = empty; imports = imports; shared = shared; taken = taken; copies = copies }

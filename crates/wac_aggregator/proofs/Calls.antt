@@ -1,22 +1,24 @@
 -- A call whose item was taken in advances the state.
-use Rattle.std.proofs.Common.{◌≡◌, Option, Some, None, IsSome, Result, Ok, Err, OnOk, IfOk, String, Global, refl, ap, sym, ◌∙◌, subst}
+use Rattle.std.proofs.Common.{◌≡◌, [], ◌∷◌, Option, Some, None, IsSome, IfSome, Result, Ok, Err, OnOk, IfOk, String, Global, refl, ap, sym, ◌∙◌, subst}
 use Rattle.std.specs.Option.{option_map}
 use Rattle.wac_model.specs.Text.{Text}
 use Rattle.wac_model.specs.Order.{Fits}
 use Rattle.wac_model.proofs.ItemOrder.{Fits-refl}
 use Rattle.wac_component.specs.Collection.{Collection}
 use Rattle.wac_component.specs.Height.{keys_height}
-use Rattle.wac_component.specs.Key.{Each, AllStand, item_keys}
+use Rattle.wac_component.specs.Id.{Id}
+use Rattle.wac_component.specs.Key.{Each, AllStand, item_keys, interface_key}
 use Rattle.wac_component.specs.Tree.{item_tree}
 use Rattle.wac_component.specs.declared.items.ItemKind.{ItemKind}
 use Rattle.wac_names.specs.Class.{Class, class_of}
 use Rattle.wac_narrowing.specs.Identified.{IsCovered}
+use Rattle.wac_narrowing.specs.State.{IsKept}
 use Rattle.wac_narrowing.specs.Taking.{IsTakenItem}
 use Rattle.wac_narrowing.proofs.Mapped.{taken_each}
 use Rattle.wac_call_lists.specs.Call.{Call, call_track}
 use Rattle.wac_imports.specs.Import.{ImportContent, ImportsContent, import_of, import_at, IsNoted}
 use Rattle.wac_taking.specs.Growing.{IsMetWith}
-use Rattle.wac_taking.specs.Takes.{shared_keys, state_of, MayTake, Takes}
+use Rattle.wac_taking.specs.Takes.{shared_keys, state_of, MayTake, IsOwnEntry, IsNear, Takes}
 use Rattle.wac_taking.specs.declared.state.Merging.{Merging}
 use Rattle.wac_taking.proofs.GrowLemmas.{StepsOn-refl}
 use Rattle.wac_aggregator.specs.Advances.{added, noted, Advances, IsAdded, IsMerged}
@@ -25,6 +27,15 @@ use Rattle.wac_aggregator.specs.Advances.{added, noted, Advances, IsAdded, IsMer
 pub import_with : (o : Option ImportContent) (x : ItemKind) → option_map (λ (i : ImportContent). i.1) o ≡ Some x → (i : ImportContent) × (o ≡ Some i) × (i.1 ≡ x)
 import_with None x h = absurd (cc)
 import_with (Some i) x h = let same : i.1 ≡ x = cc in (i, refl, same)
+
+-- the interface that an import is stands, and openly leads to shared ones alone
+pub near_import : (a : Merging) (name : Text) (existing : ItemKind) → IsKept (state_of a) → import_at a.imports name ≡ Some existing → (near : Option Id) → IfSome near (λ i. item_keys existing ≡ interface_key i ∷ []) → IsNear a near
+near_import a name existing kept at None h i is = absurd (cc)
+near_import a name existing kept at (Some j) h i is =
+    let same : j ≡ i = cc in
+    let stands : AllStand a.types (interface_key j ∷ []) = subst (AllStand a.types) h (kept.imports name existing at) in
+    let covered : Each (IsCovered a.types (shared_keys a.shared.entries)) (interface_key j ∷ []) = subst (Each (IsCovered a.types (shared_keys a.shared.entries))) h (kept.imports_covered name existing at) in
+    subst (λ x. IsOwnEntry a (interface_key x)) same (stands.0, covered.0)
 
 module _ (call : Call) (a mid : Merging) (own : ItemKind) (may : MayTake call.types a)
     (takes : Takes call.types a mid (keys_height call.types (item_keys call.kind)) (item_keys call.kind) (λ t. IsTakenItem class_of call.types t call.kind own)) where
@@ -84,7 +95,7 @@ module _ (call : Call) (a mid : Merging) (own : ItemKind) (may : MayTake call.ty
 -- what is told of a mismatch changes nothing else
 module _ (a : Merging) (told : Option (String Global)) where
   pub told_may : (f : Collection) → MayTake f a → MayTake f (record a { handed_in = told })
-  told_may f h = record { kept = h.kept; truly = h.truly; filed = h.filed }
+  told_may f h = record { apart = h.apart; kept = h.kept; truly = h.truly; filed = h.filed }
 
   pub told_advances : (call : Call) (b : Merging) → Advances call (record a { handed_in = told }) b → Advances call a b
   told_advances call b h = record {

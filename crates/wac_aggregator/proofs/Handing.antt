@@ -1,5 +1,5 @@
 -- What a call does to an aggregator.
-use Rattle.std.proofs.Common.{◌≡◌, ap, sym, ◌∙◌, subst}
+use Rattle.std.proofs.Common.{◌≡◌, ◌≢◌, ap, sym, ◌∙◌, subst}
 use Rattle.wac_mismatch.specs.declared.check.SubtypeCheck.{SubtypeCheck}
 use Rattle.wac_component.specs.Collection.{Collection}
 use Rattle.wac_component.specs.Key.{AllStand, item_keys}
@@ -27,12 +27,12 @@ use Rattle.wac_aggregator.proofs.Remembering.{truly_in, truly_of}
 pub imports_stand : (a : Merging) → IsInOrder a → (n : Text) (k : ItemKind) → Contains (listed a.imports) (n, k) → AllStand a.types (item_keys k)
 imports_stand a h n k m = h.kept.imports n k (at_of a.imports n (n, k) (of_Contains a.imports h.imports (n, k) m))
 
-module _ (call : Call) (inside : Merging) (told : SubtypeCheck) (before : AggregatorContent) (is : content_of inside ≡ before) (order : IsInOrder inside) (truly : RemembersTruly class_of call.types (state_in before)) where
+module _ (call : Call) (inside : Merging) (told : SubtypeCheck) (before : AggregatorContent) (is : content_of inside ≡ before) (order : IsInOrder inside) (apart : call.types.number ≢ before.types.number) (truly : RemembersTruly class_of call.types (state_in before)) where
   abbrev a : Merging
   a = record inside { check = told }
 
   pub call_may : MayTake call.types a
-  call_may = record { kept = order.kept; truly = truly_of call.types inside (subst (λ s. RemembersTruly class_of call.types (state_in s)) (sym is) truly); filed = order.filed }
+  call_may = record { apart = λ e. apart (e ∙ ap (λ (s : AggregatorContent). s.types.number) is); kept = order.kept; truly = truly_of call.types inside (subst (λ s. RemembersTruly class_of call.types (state_in s)) (sym is) truly); filed = order.filed }
 
   module _ (b : Merging) (filed : AreFiled b.imports) (h : Advances call a b) where
     pub call_in_order : IsInOrder b

@@ -1,5 +1,5 @@
 -- Calls one after another.
-use Rattle.std.proofs.Common.{◌≡◌, ◌<◌, ℕ, suc, List, [], ◌∷◌, ◌++◌, Some, Contains, take, length, slice_get, slice_index_or, refl, ap, sym, ◌∙◌, subst}
+use Rattle.std.proofs.Common.{◌≡◌, ◌≢◌, ◌<◌, ℕ, suc, List, [], ◌∷◌, ◌++◌, Some, Contains, take, length, slice_get, slice_index_or, refl, ap, sym, ◌∙◌, subst}
 use Rattle.std.proofs.Math.Seq.{take-suc}
 use Rattle.std.proofs.lemmas.List.Elements.{Contains-get_or}
 use Rattle.std.proofs.lemmas.Option.{slice_get_within, get_or_from_slice_get, slice_get-get_or}
@@ -46,14 +46,14 @@ advances_in_order call a b may filed_a filed_b h = record {
 pub advances_number : (call : Call) (a b : Merging) → MayTake call.types a → AreFiled a.imports → AreFiled b.imports → Advances call a b → b.types.number ≡ a.types.number
 advances_number call a b may filed_a filed_b h = ((run call a b may filed_a filed_b h).narrows may.kept).number
 
-module _ (calls : List Call) (one : (c d : Call) → Contains calls c → Contains calls d → c.types.number ≡ d.types.number → c.types ≡ d.types) where
+module _ (calls : List Call) (number : ℕ) (one : (c d : Call) → Contains calls c → Contains calls d → c.types.number ≡ d.types.number → c.types ≡ d.types) (apart : (c : Call) → Contains calls c → c.types.number ≢ number) where
   -- what a call finds
-  pub may_take : (front : List Call) (call : Call) (a : Merging) → Contains calls call → IsInOrder a → AreServed calls front a → MayTake call.types a
-  may_take front call a among order s = record { kept = order.kept; truly = s.truly call.types (λ c m. one call c among m); filed = order.filed }
+  pub may_take : (front : List Call) (call : Call) (a : Merging) → Contains calls call → a.types.number ≡ number → IsInOrder a → AreServed calls front a → MayTake call.types a
+  may_take front call a among number_is order s = record { apart = λ e. apart call among (e ∙ number_is); kept = order.kept; truly = s.truly call.types (λ c m. one call c among m); filed = order.filed }
 
   -- what it leaves
-  pub one_more : (i : ℕ) (call : Call) (a b : Merging) → slice_get calls i ≡ Some call → AllStand call.types (item_keys call.kind) → AreFiled b.imports → IsInOrder a → AreServed calls (take i calls) a → Advances call a b → AreServed calls (take (suc i) calls) b
-  one_more i call a b at item filed_b order s h =
+  pub one_more : (i : ℕ) (call : Call) (a b : Merging) → slice_get calls i ≡ Some call → AllStand call.types (item_keys call.kind) → AreFiled b.imports → a.types.number ≡ number → IsInOrder a → AreServed calls (take i calls) a → Advances call a b → AreServed calls (take (suc i) calls) b
+  one_more i call a b at item filed_b number_is order s h =
       let among = Contains-at calls i call at in
       subst (λ front. AreServed calls front b) (sym (take-next calls i call at))
-      (advances_served calls (take i calls) call a b among (λ c m. one call c among m) (may_take (take i calls) call a among order s) item order.imports filed_b s h)
+      (advances_served calls (take i calls) call a b among (λ c m. one call c among m) (may_take (take i calls) call a among number_is order s) item order.imports filed_b s h)

@@ -16,7 +16,7 @@ pub record IsInOrder (a : Merging) : Type 0 where
 -- nothing was handed in yet
 pub record IsStart (a : Merging) (number : ℕ) : Type 0 where
   pub in_order : IsInOrder a
-  pub number_is : a.types.number ≡ number
+  pub empty : a.types ≡ record { number = number; defined = []; resources = []; funcs = []; interfaces = []; worlds = []; modules = [] }
   pub imports : a.imports ≡ record { list = []; led = [] }
   pub shared : a.shared.entries ≡ []
   pub taken : (k : Key) → memo_of a.taken k ≡ None

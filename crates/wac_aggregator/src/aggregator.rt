@@ -1,6 +1,6 @@
 //! The aggregator.
 
-ghost use Rattle.std.specs.Prelude.{◌≡◌, [], Contains, IfOk};
+ghost use Rattle.std.specs.Prelude.{◌≡◌, ◌≢◌, [], Contains, IfOk};
 ghost use Rattle.wac_model.specs.Text.{Text};
 ghost use Rattle.wac_component.specs.Collection.{Collection};
 ghost use Rattle.wac_component.specs.Key.{AllStand, item_keys};
@@ -44,9 +44,10 @@ impl Model for TypeAggregator {
 }
 
 impl TypeAggregator {
-    /// An aggregator without imports. Its collection has this number.
+    /// An aggregator without imports. Its collection has this number, and is empty.
     pub fn new(alloc: Global, number: u64) -> TypeAggregator
         ensures number { result.types.number ≡ number }
+        ensures empty { result.types ≡ record { number = number; defined = []; resources = []; funcs = []; interfaces = []; worlds = []; modules = [] } }
         ensures imports { (shown result).imports ≡ [] }
         ensures remembers_nothing { (f : Collection) → RemembersTruly class_of f (state_in result) }
     {
@@ -83,6 +84,8 @@ impl TypeAggregator {
     /// Where the name has a higher version than the import that it is merged into, the import takes the name and goes
     /// last, and its old name leads to it; else the name leads to the import. A refusal consumes the aggregator. No
     /// pair with an id of the aggregator stays in the checker's cache; nothing else of the checker changes.
+    ///
+    /// The number of the collection handed in must differ from that of the aggregator's own.
     pub fn aggregate(
         self,
         name: &str,
@@ -91,6 +94,7 @@ impl TypeAggregator {
         checker: &mut SubtypeChecker<'_>,
     ) -> Result<TypeAggregator, AggregateError>
         requires source { AllStand types.now (item_keys kind) }
+        requires apart { types.now.number ≢ self.types.number }
         requires remembered { RemembersTruly class_of types.now (state_in self) }
         ensures step { IfOk result (λ a. IsStep (shown self) (shown a) (record { name = name.now; types = types.now; kind = kind })) }
         ensures by_track { IfOk result (λ a. IsByTrack (shown a)) }

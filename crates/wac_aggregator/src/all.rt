@@ -1,6 +1,6 @@
 //! Lists of calls.
 
-ghost use Rattle.std.specs.Prelude.{◌≡◌, ◌<◌, Contains, IfErr, IfOk, length};
+ghost use Rattle.std.specs.Prelude.{◌≡◌, ◌≢◌, ◌<◌, Contains, IfErr, IfOk, length};
 ghost use Rattle.wac_component.specs.Key.{AllStand, item_keys};
 ghost use Rattle.wac_checker.specs.Cache.{without_number};
 ghost use Rattle.wac_checker.specs.Checker.{direction, depth, remembered};
@@ -32,6 +32,8 @@ pub struct Call<'a> {
 ///
 /// The first refusal is answered with the number of its call, from 0 on. No pair with an id of the number stays in the
 /// checker's cache; nothing else of the checker changes.
+///
+/// The number of each collection handed in must differ from that of the aggregator's own.
 pub fn aggregate_all(
     alloc: Global,
     number: u64,
@@ -40,6 +42,7 @@ pub fn aggregate_all(
 ) -> Result<TypeAggregator, AggregateAllError>
     requires source { (c : listed.Call) → Contains (handed_in calls.now) c → AllStand c.types (item_keys c.kind) }
     requires one { (c d : listed.Call) → Contains (handed_in calls.now) c → Contains (handed_in calls.now) d → c.types.number ≡ d.types.number → c.types ≡ d.types }
+    requires apart { (c : listed.Call) → Contains (handed_in calls.now) c → c.types.number ≢ number }
     ensures aggregated { IfOk result (λ a. IsAggregated (handed_in calls.now) (shown a)) }
     ensures by_track { IfOk result (λ a. IsByTrack (shown a)) }
     ensures number { IfOk result (λ a. a.types.number ≡ number) }

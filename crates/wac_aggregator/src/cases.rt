@@ -1,6 +1,20 @@
 //! The cases of items.
 
-use wac_component::{ItemKind, Type};
+ghost use Rattle.std.specs.Prelude.{◌≡◌, [], ◌∷◌, IfSome};
+ghost use Rattle.wac_component.specs.Key.{item_keys, interface_key};
+
+use wac_component::{InterfaceId, ItemKind, Type};
+
+/// The interface that an item is an instance of, or that it is as a type.
+pub(crate) fn interface_of(kind: &ItemKind) -> Option<InterfaceId>
+    ensures { IfSome result (λ i. item_keys kind.now ≡ interface_key i ∷ []) }
+{
+    match kind {
+        ItemKind::Instance(id) => Some(*id),
+        ItemKind::Type(Type::Interface(id)) => Some(*id),
+        _ => None,
+    }
+}
 
 /// Whether two items are of one case, and where they are types, the types are.
 pub(crate) fn same_case(a: ItemKind, b: ItemKind) -> bool {

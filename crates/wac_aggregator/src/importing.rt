@@ -8,7 +8,7 @@ ghost use Rattle.wac_names.specs.Class.{class_of};
 ghost use Rattle.wac_taking.specs.Takes.{MayTake};
 ghost use Rattle.wac_aggregator.specs.Advances.{Advances, IsAdded};
 
-use super::cases::same_case;
+use super::cases::{interface_of, same_case};
 use super::noting::note_import;
 use std::alloc::AllocError;
 use wac_component::{ItemKind, Type, Types};
@@ -84,7 +84,7 @@ fn add_import(
     requires new { import_of state.old.imports class ≡ None }
     ensures { IfOk result (λ u. Advances (record { name = name.now; types = types.now; kind = kind }) state.old state.new) }
 {
-    match take_item(state, types, kind) {
+    match take_item(state, types, kind, None) {
         Ok(own) => put_import(state, class, name, own),
         Err(error) => Err(error),
     }
@@ -129,7 +129,7 @@ fn merge_import(
     }
 }
 
-// The same of an item of the import's case.
+// The same of an item of the import's case: the interface that it is merged with is near to it.
 fn merge_taken(
     state: &mut Merging,
     class: NameClass,
@@ -144,7 +144,8 @@ fn merge_taken(
     requires found { option_map (λ i. i.1) (import_of state.old.imports class) ≡ Some existing }
     ensures { IfOk result (λ u. Advances (record { name = name.now; types = types.now; kind = kind }) state.old state.new) }
 {
-    match take_item(state, types, kind) {
+    let near = interface_of(&existing);
+    match take_item(state, types, kind, near) {
         Ok(own) => note_import(state, class, name, existing, own),
         Err(error) => Err(error),
     }

@@ -5,3 +5,4 @@ pub mod Parts
 pub mod Arms
 pub mod Enters
 pub mod Within
+pub mod Alike

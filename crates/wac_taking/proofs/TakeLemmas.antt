@@ -101,7 +101,7 @@ module _ (f : Collection) (b : Merging) (ks js : List Key) (within : AreWithin f
 
 module _ (f : Collection) where
   pub MayTake-Takes : (a b : Merging) (top : ℕ) (ks : List Key) (Q : State → Type 0) → MayTake f a → Takes f a b top ks Q → MayTake f b
-  MayTake-Takes a b top ks Q may h = record { kept = h.run.kept may.kept; truly = h.run.truly may.kept f (λ e. refl) may.truly; filed = h.filed }
+  MayTake-Takes a b top ks Q may h = record { apart = λ e. may.apart (e ∙ (h.run.narrows may.kept).number); kept = h.run.kept may.kept; truly = h.run.truly may.kept f (λ e. refl) may.truly; filed = h.filed }
 
   -- nothing is taken in
   pub Takes-none : (a : Merging) (top : ℕ) (ks : List Key) (Q : State → Type 0) → MayTake f a → Q (state_of a) → Takes f a a top ks Q
@@ -228,7 +228,7 @@ module _ (f : Collection) where
         by_pair e is_f = of_theirs n (subst (λ x. OwnersImported x (state_of a)) is_f h) (subst (λ x. LeadsToOwner f x n) e (subst (λ x. LeadsToOwner x k n) is_f l))
 
   -- what was noted before is, once one more is
-  still_none : (before now : Remembered) (theirs own k : Key) → AddsPair before now theirs own → ¬ (k ≡ theirs) → before k ≡ None → (x : Option Key) → now k ≡ x → now k ≡ None
+  pub still_none : (before now : Remembered) (theirs own k : Key) → AddsPair before now theirs own → ¬ (k ≡ theirs) → before k ≡ None → (x : Option Key) → now k ≡ x → now k ≡ None
   still_none before now theirs own k adds other absent None at = at
   still_none before now theirs own k adds other absent (Some x) at = elim (adds.only k x at) [
     | inl e ↦ absurd (other e.0)

@@ -1,5 +1,6 @@
 -- What taking in does to the state of merging.
-use Rattle.std.specs.Prelude.{◌≡◌, ◌<◌, ◌⊎◌, ℕ, List, Option, Some, None, IsSome, map, slice_get}
+use Rattle.std.specs.Prelude.{◌≡◌, ◌<◌, ◌⊎◌, ℕ, List, [], ◌∷◌, Contains, Option, Some, None, IsSome, map, slice_get}
+use Rattle.std.specs.List.{flat_map}
 use Rattle.std.specs.Map.{lookup}
 use Rattle.std.specs.Option.{option_and_then}
 use Rattle.wac_model.specs.Text.{Text}
@@ -7,13 +8,14 @@ use Rattle.wac_component.specs.Collection.{Collection, AliasContent, UseContent,
 use Rattle.wac_component.specs.Entries.{identifier_at, owner_at}
 use Rattle.wac_component.specs.Height.{height}
 use Rattle.wac_component.specs.Id.{Id}
-use Rattle.wac_component.specs.Key.{Key, alias_keys, resource_key, interface_key}
-use Rattle.wac_component.specs.Open.{OpenReaches}
+use Rattle.wac_component.specs.Key.{Key, Stands, alias_keys, optional_keys, resource_key, interface_key}
+use Rattle.wac_component.specs.Open.{open_next, OpenReaches}
 use Rattle.wac_component.specs.Reach.{IsAmong}
 use Rattle.wac_component.specs.Tree.{root_name}
 use Rattle.wac_component.specs.declared.items.ItemKind.{ItemKind}
 use Rattle.wac_names.specs.Class.{Class, class_eq, class_of}
 use Rattle.wac_narrowing.specs.Entering.{InterfaceIsTaken}
+use Rattle.wac_narrowing.specs.Identified.{IsCovered}
 use Rattle.wac_narrowing.specs.Remembers.{RemembersTruly}
 use Rattle.wac_narrowing.specs.State.{State, IsKept, IsOneWith, Runs}
 use Rattle.wac_narrowing.specs.Taking.{AreTakenKeys, IsTakenKey}
@@ -38,11 +40,24 @@ shared_in ss q = lookup (class_eq q) ss
 abbrev pub AreFiledIn : Collection → List (Class × Id) → Type 0
 AreFiledIn c ss = (q : Class) (i : Id) → shared_in ss q ≡ Some i → (n : Text) × (identifier_at c (interface_key i) ≡ Some n) × (class_of n ≡ q)
 
--- entries of f may be taken in
+-- entries of f, which is not the own collection, may be taken in
 pub record MayTake (f : Collection) (a : Merging) : Type 0 where
+  pub apart : ¬ (f.number ≡ a.types.number)
   pub kept : IsKept (state_of a)
   pub truly : RemembersTruly class_of f (state_of a)
   pub filed : AreFiledIn a.types a.shared.entries
+
+-- an own entry stands, and openly leads to shared ones alone
+abbrev pub IsOwnEntry : Merging → Key → Type 0
+IsOwnEntry a k = Stands a.types k × IsCovered a.types (shared_keys a.shared.entries) k
+
+-- the interface that is merged with, if there is one, is such an entry
+abbrev pub IsNear : Merging → Option Id → Type 0
+IsNear a near = (i : Id) → near ≡ Some i → IsOwnEntry a (interface_key i)
+
+-- the near interface's entry names each of these ids
+abbrev pub AreLedTo : Collection → Option Id → List Key → Type 0
+AreLedTo c near ks = (i : Id) × (near ≡ Some i) × ((k : Key) → IsAmong k ks → IsAmong k (open_next c (interface_key i)))
 
 -- an open walk leads from one of the ids to this one
 abbrev pub OpenlyFrom : Collection → List Key → Key → Type 0
@@ -113,6 +128,14 @@ pub record IsTakenAlias (f : Collection) (s : State) (a b : AliasContent) : Type
 pub record IsTakenOwner (f : Collection) (o r : Option Id) (s : State) : Type 0 where
   pub taken : IfAny (λ a b. IsTakenKey class_of f s (interface_key a) (interface_key b)) o r
   pub imported : IsOwnerImported f s o
+
+-- the owners of these resources
+abbrev pub owners_keys : Collection → List Id → List Key
+owners_keys f rs = flat_map (λ r. optional_keys (λ o. interface_key o ∷ []) (owner_at f r)) rs
+
+-- the owner of each of these resources was taken in, and is imported
+abbrev pub AreOwnersTaken : Collection → List Id → State → Type 0
+AreOwnersTaken f rs s = (r : Id) → Contains rs r → (o : Option Id) × IsTakenOwner f (owner_at f r) o s
 
 -- the own use is of what was taken in for the interface, under the same name
 pub record IsTakenUse (f : Collection) (s : State) (u v : UseContent) : Type 0 where

@@ -4,6 +4,7 @@
 mod entering;
 mod growing;
 mod meeting;
+mod near;
 mod owners;
 mod state;
 mod taking;

@@ -1,11 +1,11 @@
 //! The owners of resources.
 
-ghost use Rattle.std.specs.Prelude.{◌≡◌, List, Some, IsSome, IfOk};
+ghost use Rattle.std.specs.Prelude.{◌≡◌, ◌<◌, List, Some, IsSome, IfOk, IfSome, length, slice_get};
 ghost use Rattle.std.specs.Option.{option_map};
 ghost use Rattle.wac_model.specs.Text.{Text};
 ghost use Rattle.wac_component.specs.Collection.{Collection};
 ghost use Rattle.wac_component.specs.Content.{alias_content};
-ghost use Rattle.wac_component.specs.Entries.{identifier_at};
+ghost use Rattle.wac_component.specs.Entries.{identifier_at, owner_at};
 ghost use Rattle.wac_component.specs.Key.{Key, Stands, interface_key, resource_key};
 ghost use Rattle.wac_component.specs.Reach.{IsAmong};
 ghost use Rattle.wac_names.specs.Class.{class_of};
@@ -23,6 +23,23 @@ pub(crate) fn alias_of(types: &Types, id: ResourceId) -> Option<ResourceAlias>
     ensures { option_map alias_content result ≡ alias_at types.now id }
 {
     types[id].alias
+}
+
+// The owner of a resource, if it has one.
+pub(crate) fn owner_of(types: &Types, id: ResourceId) -> Option<InterfaceId>
+    requires { Stands types.now (resource_key id) }
+    ensures owner { result ≡ owner_at types.now id }
+    ensures stands { IfSome result (λ o. Stands types.now (interface_key o)) }
+{
+    types[id].alias?.owner
+}
+
+// The resource at an index of a list.
+pub(crate) fn resource_at(resources: &Vec<ResourceId>, index: usize) -> ResourceId
+    requires { index < length resources.now.items }
+    ensures { slice_get resources.now.items index ≡ Some result }
+{
+    resources[index]
 }
 
 // Imports a shared entry under its identifier, unless there is an import on the track of that.

@@ -1,24 +1,26 @@
 //! Entries of other collections, each taken in once.
 
-ghost use Rattle.std.specs.Prelude.{◌≡◌, ◌<◌, [], ◌∷◌, Some, length, slice_get, IfOk};
+ghost use Rattle.std.specs.Prelude.{◌≡◌, ◌<◌, [], ◌∷◌, Some, length, map, slice_get, IfOk, IfSome};
 ghost use Rattle.std.specs.List.{flat_map};
 ghost use Rattle.std.specs.Option.{option_map};
 ghost use Rattle.wac_component.specs.Entries.{owner_at};
 ghost use Rattle.wac_component.specs.Content.{alias_content, defined_content, named, use_content, types_of};
 ghost use Rattle.wac_component.specs.Height.{height, keys_height};
 ghost use Rattle.wac_component.specs.Id.{Id};
-ghost use Rattle.wac_component.specs.Key.{Stands, AllStand, item_keys, type_keys, value_keys, alias_keys, optional_keys, named_keys, use_keys, defined_keys, defined_key, resource_key, func_key, interface_key, world_key, module_key};
+ghost use Rattle.wac_component.specs.Key.{Stands, Each, AllStand, item_keys, type_keys, value_keys, alias_keys, optional_keys, named_keys, use_keys, defined_keys, defined_key, resource_key, func_key, interface_key, world_key, module_key};
 ghost use Rattle.wac_component.specs.declared.items.ItemKind.TheVariants.{«Type» as OfType};
 ghost use Rattle.wac_names.specs.Class.{class_of};
 ghost use Rattle.wac_narrowing.specs.Taking.{AreMapped, IsTakenItem, IsTakenKey};
 ghost use Rattle.wac_narrowing.specs.Values.{IsTakenValue, AreListed, IfAny, AreDefined};
-ghost use Rattle.wac_taking.specs.Takes.{MayTake, Takes, IsTakenAlias, IsTakenOwner, IsTakenUse, alias_at};
+ghost use Rattle.wac_taking.specs.Takes.{MayTake, IsOwnEntry, IsNear, Takes, owners_keys, AreOwnersTaken, IsTakenAlias, IsTakenOwner, IsTakenUse, alias_at};
 
 use super::entering::put_interface;
-use super::owners::{alias_of, import_owner};
+use super::near::{near_export, near_interface, nearest};
+use super::owners::{alias_of, import_owner, owner_of, resource_at};
 use super::state::Merging;
 use indexmap::IndexMap;
 use std::alloc::AllocError;
+use wac_alike::{alike_resources, alike_values};
 use wac_component::{
     DefinedType, DefinedTypeId, FuncType, FuncTypeId, InterfaceId, ItemKind, ModuleTypeId, Record,
     Resource, ResourceAlias, ResourceId, Type, Types, UsedType, ValueType, Variant, World, WorldId,
@@ -30,21 +32,23 @@ use wac_copies::places::{
 };
 use wac_refusals::AggregateError;
 
-/// Takes in an item.
+/// Takes in an item. The own interface that it will be merged with is near, if there is one.
 #[cycle(taking)]
 pub fn take_item(
     state: &mut Merging,
     types: &Types,
     kind: ItemKind,
+    near: Option<InterfaceId>,
 ) -> Result<ItemKind, AggregateError>
     requires source { AllStand types.now (item_keys kind) }
     requires state { MayTake types.now state.old }
+    requires near { IsNear state.old near }
     ensures { IfOk result (λ k. Takes types.now state.old state.new (keys_height types.now (item_keys kind)) (item_keys kind) (λ t. IsTakenItem class_of types.now t kind k)) }
 {
     match kind {
-        ItemKind::Type(ty) => Ok(ItemKind::Type(take_type(state, types, ty)?)),
+        ItemKind::Type(ty) => Ok(ItemKind::Type(take_type(state, types, ty, near)?)),
         ItemKind::Func(id) => Ok(ItemKind::Func(take_func(state, types, id)?)),
-        ItemKind::Instance(id) => Ok(ItemKind::Instance(take_interface(state, types, id)?)),
+        ItemKind::Instance(id) => Ok(ItemKind::Instance(take_interface(state, types, id, near)?)),
         ItemKind::Component(id) => Ok(ItemKind::Component(take_world(state, types, id)?)),
         ItemKind::Module(id) => Ok(ItemKind::Module(take_module(state, types, id)?)),
         ItemKind::Value(ty) => Ok(ItemKind::Value(take_value(state, types, ty)?)),
@@ -53,16 +57,22 @@ pub fn take_item(
 
 // Takes in a type.
 #[cycle(taking)]
-fn take_type(state: &mut Merging, types: &Types, ty: Type) -> Result<Type, AggregateError>
+fn take_type(
+    state: &mut Merging,
+    types: &Types,
+    ty: Type,
+    near: Option<InterfaceId>,
+) -> Result<Type, AggregateError>
     requires source { AllStand types.now (type_keys ty) }
     requires state { MayTake types.now state.old }
+    requires near { IsNear state.old near }
     ensures { IfOk result (λ r. Takes types.now state.old state.new (keys_height types.now (type_keys ty)) (type_keys ty) (λ t. IsTakenItem class_of types.now t (OfType ty) (OfType r))) }
 {
     match ty {
         Type::Resource(id) => Ok(Type::Resource(take_resource(state, types, id)?)),
         Type::Func(id) => Ok(Type::Func(take_func(state, types, id)?)),
         Type::Value(ty) => Ok(Type::Value(take_value(state, types, ty)?)),
-        Type::Interface(id) => Ok(Type::Interface(take_interface(state, types, id)?)),
+        Type::Interface(id) => Ok(Type::Interface(take_interface(state, types, id, near)?)),
         Type::World(id) => Ok(Type::World(take_world(state, types, id)?)),
         Type::Module(id) => Ok(Type::Module(take_module(state, types, id)?)),
     }
@@ -347,20 +357,22 @@ fn take_owner(
         let resource = types[id].name.clone()?;
         return Err(AggregateError::OwnerWithoutIdentifier { resource });
     }
-    let own = take_interface(state, types, owner)?;
+    let own = take_interface(state, types, owner, None)?;
     import_owner(state, own)?;
     Ok(Some(own))
 }
 
-// Takes in an interface, unless it was taken in.
+// Takes in an interface, unless it was taken in. Types that the nearest interface exports alike are taken first.
 #[cycle(taking)]
 fn take_interface(
     state: &mut Merging,
     types: &Types,
     id: InterfaceId,
+    near: Option<InterfaceId>,
 ) -> Result<InterfaceId, AggregateError>
     requires source { Stands types.now (interface_key id) }
     requires state { MayTake types.now state.old }
+    requires near { IsNear state.old near }
     ensures { IfOk result (λ r. Takes types.now state.old state.new (height types.now (interface_key id)) (interface_key id ∷ []) (λ t. IsTakenKey class_of types.now t (interface_key id) (interface_key r))) }
 {
     if let Some(own) = state.taken.interface(id) {
@@ -369,7 +381,9 @@ fn take_interface(
     types.sound();
     let interface = &types[id];
     let uses = take_uses(state, types, &interface.uses)?;
-    let exports = take_externs(state, types, &interface.exports)?;
+    let near = nearest(state, &interface.id, near)?;
+    take_alike(state, types, &interface.exports, &near)?;
+    let exports = take_externs(state, types, &interface.exports, &near)?;
     put_interface(state, types, id, uses, exports)
 }
 
@@ -422,28 +436,147 @@ fn take_used(
     if types[interface].id.is_none() {
         return Err(no_identifier(uses, index)?);
     }
-    take_interface(state, types, interface)
+    take_interface(state, types, interface, None)
 }
 
-/// Takes in items under names.
+/// Takes in items under names. What the near interface exports under a name is near to the item under it.
 #[cycle(taking)]
 pub fn take_externs(
     state: &mut Merging,
     types: &Types,
     externs: &IndexMap<String, ItemKind>,
+    near: &Option<InterfaceId>,
 ) -> Result<IndexMap<String, ItemKind>, AggregateError>
     requires source { AllStand types.now (named_keys item_keys (named (λ k. k) externs.now.entries)) }
     requires state { MayTake types.now state.old }
+    requires near { IsNear state.old near.now }
     ensures { IfOk result (λ m. Takes types.now state.old state.new (keys_height types.now (named_keys item_keys (named (λ k. k) externs.now.entries))) (named_keys item_keys (named (λ k. k) externs.now.entries)) (λ t. AreMapped (IsTakenItem class_of types.now t) (named (λ k. k) externs.now.entries) (named (λ k. k) m.entries))) }
 {
     let mut taken = externs.clone()?;
     for i in 0..externs.len() {
-        match take_item(state, types, extern_at(externs, i)) {
+        let below = near_interface(&state.types, *near, externs, i);
+        match take_item(state, types, extern_at(externs, i), below) {
             Ok(own) => set_extern(&mut taken, i, own),
             Err(refusal) => return Err(refusal),
         }
     }
     Ok(taken)
+}
+
+// Takes in the owners of the types that an interface exports like the near one, and remembers these as that one's.
+#[cycle(taking)]
+fn take_alike(
+    state: &mut Merging,
+    types: &Types,
+    externs: &IndexMap<String, ItemKind>,
+    near: &Option<InterfaceId>,
+) -> Result<(), AggregateError>
+    requires source { AllStand types.now (named_keys item_keys (named (λ k. k) externs.now.entries)) }
+    requires state { MayTake types.now state.old }
+    requires near { IsNear state.old near.now }
+    ensures { IfOk result (λ u. Takes types.now state.old state.new (keys_height types.now (named_keys item_keys (named (λ k. k) externs.now.entries))) (named_keys item_keys (named (λ k. k) externs.now.entries)) (λ t. Unit {0})) }
+{
+    for i in 0..externs.len() {
+        let own = near_export(&state.types, *near, externs, i);
+        match take_alike_item(state, types, extern_at(externs, i), own) {
+            Ok(()) => (),
+            Err(refusal) => return Err(refusal),
+        }
+    }
+    Ok(())
+}
+
+// The same of one export, and what the near one exports under its name, if it does.
+#[cycle(taking)]
+fn take_alike_item(
+    state: &mut Merging,
+    types: &Types,
+    kind: ItemKind,
+    own: Option<ItemKind>,
+) -> Result<(), AggregateError>
+    requires source { AllStand types.now (item_keys kind) }
+    requires state { MayTake types.now state.old }
+    requires own { IfSome own (λ k. Each (IsOwnEntry state.old) (item_keys k)) }
+    ensures { IfOk result (λ u. Takes types.now state.old state.new (keys_height types.now (item_keys kind)) (item_keys kind) (λ t. Unit {0})) }
+{
+    match (&kind, &own) {
+        (ItemKind::Type(Type::Resource(id)), Some(ItemKind::Type(Type::Resource(own)))) => {
+            take_alike_resource(state, types, *id, *own)
+        }
+        (
+            ItemKind::Type(Type::Value(ValueType::Defined(id))),
+            Some(ItemKind::Type(Type::Value(ValueType::Defined(own)))),
+        ) => take_alike_defined(state, types, *id, *own),
+        _ => Ok(()),
+    }
+}
+
+// The same of a resource.
+#[cycle(taking)]
+fn take_alike_resource(
+    state: &mut Merging,
+    types: &Types,
+    id: ResourceId,
+    own: ResourceId,
+) -> Result<(), AggregateError>
+    requires source { Stands types.now (resource_key id) }
+    requires state { MayTake types.now state.old }
+    requires own { IsOwnEntry state.old (resource_key own) }
+    ensures { IfOk result (λ u. Takes types.now state.old state.new (height types.now (resource_key id)) (resource_key id ∷ []) (λ t. Unit {0})) }
+{
+    if state.taken.resource(id).is_some() {
+        return Ok(());
+    }
+    types.sound();
+    let Some(owned) = alike_resources(state.alloc(), &state.types, own, types, id)? else {
+        return Ok(());
+    };
+    take_owners(state, types, &owned)?;
+    state.taken.put_resource(id, own)?;
+    Ok(())
+}
+
+// The same of a defined type.
+#[cycle(taking)]
+fn take_alike_defined(
+    state: &mut Merging,
+    types: &Types,
+    id: DefinedTypeId,
+    own: DefinedTypeId,
+) -> Result<(), AggregateError>
+    requires source { Stands types.now (defined_key id) }
+    requires state { MayTake types.now state.old }
+    requires own { IsOwnEntry state.old (defined_key own) }
+    ensures { IfOk result (λ u. Takes types.now state.old state.new (height types.now (defined_key id)) (defined_key id ∷ []) (λ t. Unit {0})) }
+{
+    if state.taken.defined(id).is_some() {
+        return Ok(());
+    }
+    types.sound();
+    let Some(owned) = alike_values(state.alloc(), &state.types, own, types, id)? else {
+        return Ok(());
+    };
+    take_owners(state, types, &owned)?;
+    state.taken.put_defined(id, own)?;
+    Ok(())
+}
+
+// Takes in the owners of resources, and imports them.
+#[cycle(taking)]
+fn take_owners(
+    state: &mut Merging,
+    types: &Types,
+    resources: &Vec<ResourceId>,
+) -> Result<(), AggregateError>
+    requires source { AllStand types.now (map resource_key resources.now.items) }
+    requires state { MayTake types.now state.old }
+    ensures { IfOk result (λ u. Takes types.now state.old state.new (keys_height types.now (owners_keys types.now resources.now.items)) (map resource_key resources.now.items) (AreOwnersTaken types.now resources.now.items)) }
+{
+    for i in 0..resources.len() {
+        let id = resource_at(resources, i);
+        take_owner(state, types, id, owner_of(types, id))?;
+    }
+    Ok(())
 }
 
 // Takes in a world, unless it was taken in.
@@ -461,7 +594,7 @@ fn take_world(state: &mut Merging, types: &Types, id: WorldId) -> Result<WorldId
     let identifier = world.id.clone()?;
     let uses = take_uses(state, types, &world.uses)?;
     let imports = copy_externs(&mut state.types, &mut state.copies, types, &world.imports)?;
-    let exports = take_externs(state, types, &world.exports)?;
+    let exports = take_externs(state, types, &world.exports, &None)?;
     let own = state.types.add_world(World {
         id: identifier,
         uses,

@@ -1,5 +1,6 @@
 use Rattle.std.proofs.Common.{◌∙◌, ap, subst, add-one, arith, take}
 use Rattle.std.proofs.lemmas.List.{length-map, take_all}
+use Rattle.wac_component.specs.Collection.{Collection}
 use Rattle.wac_imports.specs.Import.{ImportsContent, import_of}
 use Rattle.wac_aggregator.specs.HandedIn.{called, handed_in}
 use Rattle.wac_aggregator.specs.Served.{AreServed}
@@ -13,7 +14,7 @@ loop-at-init c =
     let start = c.no_imports-state.ensures in
     record {
       order = start.in_order;
-      number = start.number_is;
+      number = ap (λ (t : Collection). t.number) start.empty;
       served = none_served (handed_in c.args.calls.now) c.no_imports-state.result start.taken start.copies (λ q. ap (λ (is : ImportsContent). import_of is q) start.imports) start.shared;
     }
 
@@ -27,7 +28,7 @@ advance-requires-clause-state c =
     let calls = handed_in c.args.calls.now in
     let call = called c.index-calls-at.result in
     let at = called_at c.args.calls.now c.loop-at.at c.index-calls-at.result c.loop-at-test.true c.index-calls-at.is in
-    may_take calls c.requires.one (take c.loop-at.at calls) call c.loop-at.state (Contains-at calls c.loop-at.at call at) c.loop-at.invariant.order c.loop-at.invariant.served
+    may_take calls c.args.number c.requires.one c.requires.apart (take c.loop-at.at calls) call c.loop-at.state (Contains-at calls c.loop-at.at call at) c.loop-at.invariant.number c.loop-at.invariant.order c.loop-at.invariant.served
 
 pub loop-at-preserved : goal.loop-at-preserved
 loop-at-preserved c =
@@ -36,11 +37,11 @@ loop-at-preserved c =
     let at = called_at c.args.calls.now c.loop-at.at c.index-calls-at.result c.loop-at-test.true c.index-calls-at.is in
     let among = Contains-at calls c.loop-at.at call at in
     let before = c.loop-at.invariant in
-    let may = may_take calls c.requires.one (take c.loop-at.at calls) call c.loop-at.state among before.order before.served in
+    let may = may_take calls c.args.number c.requires.one c.requires.apart (take c.loop-at.at calls) call c.loop-at.state among before.number before.order before.served in
     record {
       order = advances_in_order call c.loop-at.state c.advance.new.state may before.order.imports c.filed.ensures c.in_default.ensures;
       number = advances_number call c.loop-at.state c.advance.new.state may before.order.imports c.filed.ensures c.in_default.ensures ∙ before.number;
-      served = rw add-one (one_more calls c.requires.one c.loop-at.at call c.loop-at.state c.advance.new.state at (c.requires.source call among) c.filed.ensures before.order before.served c.in_default.ensures);
+      served = rw add-one (one_more calls c.args.number c.requires.one c.requires.apart c.loop-at.at call c.loop-at.state c.advance.new.state at (c.requires.source call among) c.filed.ensures before.number before.order before.served c.in_default.ensures);
     }
 
 pub returns-clause-aggregated : goal.returns-clause-aggregated

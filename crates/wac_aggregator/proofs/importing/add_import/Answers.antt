@@ -1,8 +1,12 @@
 use Rattle.std.proofs.Common.{◌≡◌, None, subst}
 use Rattle.std.proofs.lemmas.Result.{IfOk-weaker}
 use Rattle.wac_imports.specs.Import.{import_of}
+use Rattle.wac_taking.proofs.Alike.{IsNear-none}
 use Rattle.wac_aggregator.proofs.Calls.{added_advances}
 use Rattle.wac_aggregator.proofs.importing.add_import.Goals as goal
+
+pub take_item-requires-clause-near : goal.take_item-requires-clause-near
+take_item-requires-clause-near c = IsNear-none c.args.state.now
 
 pub returns-in-Ok : goal.returns-in-Ok
 returns-in-Ok c =

@@ -3,8 +3,13 @@ use Rattle.std.specs.Option.{option_map}
 use Rattle.std.proofs.lemmas.Result.{IfOk-weaker}
 use Rattle.wac_call_lists.specs.Call.{Call}
 use Rattle.wac_imports.specs.Import.{ImportContent, import_of}
-use Rattle.wac_aggregator.proofs.Calls.{existing_stands, some_still, merged_advances}
+use Rattle.wac_aggregator.proofs.Calls.{near_import, existing_stands, some_still, merged_advances}
 use Rattle.wac_aggregator.proofs.importing.merge_taken.Goals as goal
+
+pub take_item-requires-clause-near : goal.take_item-requires-clause-near
+take_item-requires-clause-near c =
+    let found = subst (λ q. option_map (λ (i : ImportContent). i.1) (import_of c.args.state.now.imports q) ≡ Some c.args.existing) c.requires.of c.requires.found in
+    near_import c.args.state.now c.args.name.now c.args.existing c.requires.state.kept found c.interface_of-near.result c.interface_of-near.ensures
 
 pub returns-in-Ok : goal.returns-in-Ok
 returns-in-Ok c =

@@ -34,6 +34,12 @@ use Rattle.wac_component.specs.Collection.{ResourceContent}
 use Rattle.wac_component.specs.Open.{stay}
 use Rattle.wac_component.specs.Reach.{here}
 use Rattle.wac_component.proofs.Reading.{defined_at, func_at, interface_at, world_at}
+use Rattle.std.proofs.Common.{Contains, map, slice_get, ◌≤◌}
+use Rattle.wac_component.specs.Entries.{owner_at}
+use Rattle.wac_component.specs.Id.{Id}
+use Rattle.wac_alike.specs.Alike.{IsMadeOf, IsAlikeAnswer}
+use Rattle.wac_taking.specs.Takes.{owners_keys, AreOwnersTaken}
+use Rattle.wac_taking.proofs.Alike.{same_resource, same_defined_type, owners_lower, owned_stand, alike_absent, Takes-alike, own_if_led, resource_at, within_resources, owner_stands, absent_of, Takes-also, AreFirstTaken, first_still, first_next, first_whole, IsNear-none, IsNear-led, IsNear-Takes}
 use Rattle.wac_taking.proofs.Arms.{taken_item, taken_value, taken_content, Takes-set, Takes-place, Takes-use, used_index}
 use Rattle.wac_taking.proofs.Enters.{defined_stands, func_stands, alias_stands, world_stands, interface_is_taken, world_is_taken, defined_enters, func_enters, resource_enters, world_enters}
 use Rattle.wac_taking.proofs.Parts.{item_of_value, type_of_value, borrow_of_taken, own_of_taken, defined_of_taken, alias_of_taken, owner_still, owner_taken, uses_still, values_still, option_still}
@@ -163,7 +169,15 @@ take_externs-loop-i-init t c =
 
 pub take_externs-take_item-requires : goal.take_externs-take_item-requires
 take_externs-take_item-requires t c =
-    (omega (arith, named_lower item_keys (λ k. k) c.args.types.now c.args.externs.now.entries c.loop-i.i c.extern_at.result c.extern_at.ensures), (named_stands item_keys (λ k. k) c.args.types.now c.args.externs.now.entries c.loop-i.i c.extern_at.result c.extern_at.ensures c.requires.source, MayTake-Takes c.args.types.now c.args.state.now c.loop-i.state _ _ _ c.requires.state c.loop-i.invariant.takes))
+    let f = c.args.types.now in
+    let a = c.args.state.now in
+    let b = c.loop-i.state in
+    let may = MayTake-Takes f a b _ _ _ c.requires.state c.loop-i.invariant.takes in
+    (omega (arith, named_lower item_keys (λ k. k) f c.args.externs.now.entries c.loop-i.i c.extern_at.result c.extern_at.ensures), (named_stands item_keys (λ k. k) f c.args.externs.now.entries c.loop-i.i c.extern_at.result c.extern_at.ensures c.requires.source, (may, IsNear-led b c.args.near.now c.near_interface-below.result may.kept (IsNear-Takes f a b _ _ _ c.args.near.now c.requires.state c.loop-i.invariant.takes c.requires.near) c.near_interface-below.ensures)))
+
+pub take_externs-near_interface-below-requires-clause-near : goal.take_externs-near_interface-below-requires-clause-near
+take_externs-near_interface-below-requires-clause-near t c i is =
+    (IsNear-Takes c.args.types.now c.args.state.now c.loop-i.state _ _ _ c.args.near.now c.requires.state c.loop-i.invariant.takes c.requires.near i is).0
 
 pub take_externs-loop-i-preserved : goal.take_externs-loop-i-preserved
 take_externs-loop-i-preserved t c =
@@ -325,9 +339,23 @@ pub take_interface-take_uses-requires : goal.take_interface-take_uses-requires
 take_interface-take_uses-requires t c =
     (omega (arith, uses_lower c.args.types.now (interface_content c.index-interface.result.now), c.index-interface.ensures.lower), (uses_stand c.args.types.now (interface_content c.index-interface.result.now) c.index-interface.ensures.standing, c.requires.state))
 
+pub take_interface-nearest-requires-clause-state : goal.take_interface-nearest-requires-clause-state
+take_interface-nearest-requires-clause-state t c = (MayTake-Takes c.args.types.now c.args.state.now c.take_uses.new.state _ _ _ c.requires.state c.in_ok-uses.ensures).kept
+
+pub take_interface-nearest-requires-clause-near : goal.take_interface-nearest-requires-clause-near
+take_interface-nearest-requires-clause-near t c = IsNear-Takes c.args.types.now c.args.state.now c.take_uses.new.state _ _ _ c.args.near c.requires.state c.in_ok-uses.ensures c.requires.near
+
+pub take_interface-take_alike-requires : goal.take_interface-take_alike-requires
+take_interface-take_alike-requires t c =
+    (omega (arith, exports_lower c.args.types.now (interface_content c.index-interface.result.now), c.index-interface.ensures.lower), (exports_stand c.args.types.now (interface_content c.index-interface.result.now) c.index-interface.ensures.standing, (MayTake-Takes c.args.types.now c.args.state.now c.take_uses.new.state _ _ _ c.requires.state c.in_ok-uses.ensures, c.in_ok-near.ensures)))
+
 pub take_interface-take_externs-requires : goal.take_interface-take_externs-requires
 take_interface-take_externs-requires t c =
-    (omega (arith, exports_lower c.args.types.now (interface_content c.index-interface.result.now), c.index-interface.ensures.lower), (exports_stand c.args.types.now (interface_content c.index-interface.result.now) c.index-interface.ensures.standing, MayTake-Takes c.args.types.now c.args.state.now c.take_uses.new.state _ _ _ c.requires.state c.in_ok-uses.ensures))
+    let f = c.args.types.now in
+    let u = c.take_uses.new.state in
+    let v = c.take_alike.new.state in
+    let may = MayTake-Takes f c.args.state.now u _ _ _ c.requires.state c.in_ok-uses.ensures in
+    (omega (arith, exports_lower f (interface_content c.index-interface.result.now), c.index-interface.ensures.lower), (exports_stand f (interface_content c.index-interface.result.now) c.index-interface.ensures.standing, (MayTake-Takes f u v _ _ _ may c.in_ok-take_alike.ensures, IsNear-Takes f u v _ _ _ c.in_ok-near.near may c.in_ok-take_alike.ensures c.in_ok-near.ensures)))
 
 pub take_interface-put_interface-requires-clause-taken : goal.take_interface-put_interface-requires-clause-taken
 take_interface-put_interface-requires-clause-taken t c =
@@ -337,10 +365,11 @@ take_interface-put_interface-requires-clause-taken t c =
     let es = named (λ k. k) c.in_ok-exports.exports.entries in
     let used : State → Type 0 = λ s. AreMapped (IsTakenUse f s) x.uses us in
     let exported : State → Type 0 = λ s. AreMapped (IsTakenItem class_of f s) x.exports es in
-    let parts = Takes-then f c.args.state.now c.take_uses.new.state c.take_externs.new.state _ _ (keys_height f (interface_keys x)) _ _ (interface_keys x) used exported (uses_lower f x) (exports_lower f x) (within_left f (named_keys use_keys x.uses) (named_keys item_keys x.exports)) (within_right f (named_keys use_keys x.uses) (named_keys item_keys x.exports)) c.requires.state (λ s u kept run h. uses_still f s u kept (RemembersTruly class_of) f run x.uses us h) c.in_ok-uses.ensures c.in_ok-exports.ensures in
+    let first = Takes-then f c.args.state.now c.take_uses.new.state c.take_alike.new.state _ _ (keys_height f (interface_keys x)) _ _ (interface_keys x) used (λ s. Unit {0}) (uses_lower f x) (exports_lower f x) (within_left f (named_keys use_keys x.uses) (named_keys item_keys x.exports)) (within_right f (named_keys use_keys x.uses) (named_keys item_keys x.exports)) c.requires.state (λ s u kept run h. uses_still f s u kept (RemembersTruly class_of) f run x.uses us h) c.in_ok-uses.ensures c.in_ok-take_alike.ensures in
+    let parts = Takes-then f c.args.state.now c.take_alike.new.state c.take_externs.new.state _ _ (keys_height f (interface_keys x)) _ _ (interface_keys x) (λ s. used s × Unit {0}) exported (omega arith) (exports_lower f x) (within_all f (interface_keys x)) (within_right f (named_keys use_keys x.uses) (named_keys item_keys x.exports)) c.requires.state (λ s u kept run h. (uses_still f s u kept (RemembersTruly class_of) f run x.uses us h.0, tt)) first c.in_ok-exports.ensures in
     record {
       content = x;
-      taken = interface_is_taken f (state_of c.take_externs.new.state) c.sound.ensures c.args.id x us es c.requires.source c.index-interface.ensures.entry parts.holds.0 parts.holds.1;
+      taken = interface_is_taken f (state_of c.take_externs.new.state) c.sound.ensures c.args.id x us es c.requires.source c.index-interface.ensures.entry parts.holds.0.0 parts.holds.1;
       absent = parts.low (interface_key c.args.id) c.index-interface.ensures.lower (sym c.in_default.ensures);
     }
 
@@ -351,8 +380,9 @@ take_interface-returns t c =
     let us = named use_content c.in_ok-uses.uses.entries in
     let used : State → Type 0 = λ s. AreMapped (IsTakenUse f s) x.uses us in
     let exported : State → Type 0 = λ s. AreMapped (IsTakenItem class_of f s) x.exports (named (λ k. k) c.in_ok-exports.exports.entries) in
-    let parts = Takes-then f c.args.state.now c.take_uses.new.state c.take_externs.new.state _ _ (keys_height f (interface_keys x)) _ _ (interface_keys x) used exported (uses_lower f x) (exports_lower f x) (within_left f (named_keys use_keys x.uses) (named_keys item_keys x.exports)) (within_right f (named_keys use_keys x.uses) (named_keys item_keys x.exports)) c.requires.state (λ s u kept run h. uses_still f s u kept (RemembersTruly class_of) f run x.uses us h) c.in_ok-uses.ensures c.in_ok-exports.ensures in
-    IfOk-weaker c.put_interface.result _ _ (λ r h. Takes-after f c.args.state.now c.take_externs.new.state c.put_interface.new.state (keys_height f (interface_keys x)) (height f (interface_key c.args.id)) (interface_keys x) (interface_key c.args.id ∷ []) (λ s. used s × exported s) (λ s. IsTakenKey class_of f s (interface_key c.args.id) (interface_key r)) (omega (arith, c.index-interface.ensures.lower)) (within_parts f (interface_key c.args.id) (interface_keys x) (ap (optional_keys other_keys) (interface_at f c.args.id x c.index-interface.ensures.entry))) c.requires.state parts h) c.put_interface.ensures
+    let first = Takes-then f c.args.state.now c.take_uses.new.state c.take_alike.new.state _ _ (keys_height f (interface_keys x)) _ _ (interface_keys x) used (λ s. Unit {0}) (uses_lower f x) (exports_lower f x) (within_left f (named_keys use_keys x.uses) (named_keys item_keys x.exports)) (within_right f (named_keys use_keys x.uses) (named_keys item_keys x.exports)) c.requires.state (λ s u kept run h. uses_still f s u kept (RemembersTruly class_of) f run x.uses us h) c.in_ok-uses.ensures c.in_ok-take_alike.ensures in
+    let parts = Takes-then f c.args.state.now c.take_alike.new.state c.take_externs.new.state _ _ (keys_height f (interface_keys x)) _ _ (interface_keys x) (λ s. used s × Unit {0}) exported (omega arith) (exports_lower f x) (within_all f (interface_keys x)) (within_right f (named_keys use_keys x.uses) (named_keys item_keys x.exports)) c.requires.state (λ s u kept run h. (uses_still f s u kept (RemembersTruly class_of) f run x.uses us h.0, tt)) first c.in_ok-exports.ensures in
+    IfOk-weaker c.put_interface.result _ _ (λ r h. Takes-after f c.args.state.now c.take_externs.new.state c.put_interface.new.state (keys_height f (interface_keys x)) (height f (interface_key c.args.id)) (interface_keys x) (interface_key c.args.id ∷ []) (λ s. (used s × Unit {0}) × exported s) (λ s. IsTakenKey class_of f s (interface_key c.args.id) (interface_key r)) (omega (arith, c.index-interface.ensures.lower)) (within_parts f (interface_key c.args.id) (interface_keys x) (ap (optional_keys other_keys) (interface_at f c.args.id x c.index-interface.ensures.entry))) c.requires.state parts h) c.put_interface.ensures
 
 pub take_uses-loop-i-init : goal.take_uses-loop-i-init
 take_uses-loop-i-init t c =
@@ -384,7 +414,7 @@ take_used-index-requires t c = used_stands c.args.types.now c.args.uses.now.entr
 
 pub take_used-take_interface-requires : goal.take_used-take_interface-requires
 take_used-take_interface-requires t c =
-    (omega (arith, used_lower c.args.types.now c.args.uses.now.entries c.args.index c.used_at-interface.result c.used_at-interface.ensures), (used_stands c.args.types.now c.args.uses.now.entries c.args.index c.used_at-interface.result c.used_at-interface.ensures c.requires.source, c.requires.state))
+    (omega (arith, used_lower c.args.types.now c.args.uses.now.entries c.args.index c.used_at-interface.result c.used_at-interface.ensures), (used_stands c.args.types.now c.args.uses.now.entries c.args.index c.used_at-interface.result c.used_at-interface.ensures c.requires.source, (c.requires.state, IsNear-none c.args.state.now)))
 
 pub take_used-returns : goal.take_used-returns
 take_used-returns t c =
@@ -414,7 +444,7 @@ take_world-take_externs-requires t c =
     let x = world_content c.index-world.result.now in
     let may = MayTake-Takes f c.args.state.now b _ _ _ c.requires.state c.in_ok-uses.ensures in
     let now = record b { types = c.copy_externs.new.own; copies = c.copy_externs.new.copies } in
-    (omega (arith, world_exports_lower f x, c.index-world.ensures.lower), (world_exports_stand f x c.index-world.ensures.standing, MayTake-Takes f b now _ _ _ may (Takes-copied f b c.copy_externs.new.own c.copy_externs.new.copies _ (named_keys use_keys x.uses) _ may c.in_ok-imports.ensures)))
+    (omega (arith, world_exports_lower f x, c.index-world.ensures.lower), (world_exports_stand f x c.index-world.ensures.standing, (MayTake-Takes f b now _ _ _ may (Takes-copied f b c.copy_externs.new.own c.copy_externs.new.copies _ (named_keys use_keys x.uses) _ may c.in_ok-imports.ensures), IsNear-none now)))
 
 pub take_world-add_world-requires : goal.take_world-add_world-requires
 take_world-add_world-requires t c =
@@ -512,7 +542,7 @@ pub take_owner-take_interface-requires : goal.take_owner-take_interface-requires
 take_owner-take_interface-requires t c =
     let f = c.args.types.now in
     let stand = subst (λ o. AllStand f (optional_keys (λ p. interface_key p ∷ []) o)) c.in-Some.is c.requires.source.1 in
-    (omega (arith, ap (λ o. keys_height f (optional_keys (λ p. interface_key p ∷ []) o)) c.in-Some.is), (stand.0, c.requires.state))
+    (omega (arith, ap (λ o. keys_height f (optional_keys (λ p. interface_key p ∷ []) o)) c.in-Some.is), (stand.0, (c.requires.state, IsNear-none c.args.state.now)))
 
 pub take_owner-import_owner-requires-clause-shared : goal.take_owner-import_owner-requires-clause-shared
 take_owner-import_owner-requires-clause-shared t c =
@@ -539,3 +569,140 @@ take_owner-returns t c =
     (Takes-then f a b c.import_owner.new.state (height f (interface_key o)) 0 (height f (interface_key o)) (interface_key o ∷ []) (resource_key c.args.id ∷ []) (resource_key c.args.id ∷ []) taken (λ s. IsSome (s.imports name.0)) (omega arith) (omega arith)
     (owned_within f c.args.id o owned) (within_all f (resource_key c.args.id ∷ [])) c.requires.state
     (λ s u kept run h. taken_key_still class_of f s u kept (RemembersTruly class_of) f run (interface_key o) (interface_key c.in_ok-own.own) h) c.in_ok-own.ensures imported))
+
+pub take_interface-put_interface-requires-clause-state : goal.take_interface-put_interface-requires-clause-state
+take_interface-put_interface-requires-clause-state t c =
+    let f = c.args.types.now in
+    let u = c.take_uses.new.state in
+    let v = c.take_alike.new.state in
+    let may = MayTake-Takes f c.args.state.now u _ _ _ c.requires.state c.in_ok-uses.ensures in
+    MayTake-Takes f v c.take_externs.new.state _ _ _ (MayTake-Takes f u v _ _ _ may c.in_ok-take_alike.ensures) c.in_ok-exports.ensures
+
+pub take_alike-loop-i-init : goal.take_alike-loop-i-init
+take_alike-loop-i-init t c = record { takes = Takes-none c.args.types.now c.args.state.now _ _ (λ s. Unit {0}) c.requires.state tt }
+
+pub take_alike-near_export-own-requires-clause-near : goal.take_alike-near_export-own-requires-clause-near
+take_alike-near_export-own-requires-clause-near t c i is =
+    (IsNear-Takes c.args.types.now c.args.state.now c.loop-i.state _ _ _ c.args.near.now c.requires.state c.loop-i.invariant.takes c.requires.near i is).0
+
+pub take_alike-take_alike_item-requires : goal.take_alike-take_alike_item-requires
+take_alike-take_alike_item-requires t c =
+    let f = c.args.types.now in
+    let a = c.args.state.now in
+    let b = c.loop-i.state in
+    let may = MayTake-Takes f a b _ _ _ c.requires.state c.loop-i.invariant.takes in
+    (omega (arith, named_lower item_keys (λ k. k) f c.args.externs.now.entries c.loop-i.i c.extern_at.result c.extern_at.ensures), (named_stands item_keys (λ k. k) f c.args.externs.now.entries c.loop-i.i c.extern_at.result c.extern_at.ensures c.requires.source, (may, own_if_led b c.args.near.now c.near_export-own.result may.kept (IsNear-Takes f a b _ _ _ c.args.near.now c.requires.state c.loop-i.invariant.takes c.requires.near) c.near_export-own.ensures)))
+
+pub take_alike-loop-i-preserved : goal.take_alike-loop-i-preserved
+take_alike-loop-i-preserved t c =
+    let f = c.args.types.now in
+    record {
+      takes = Takes-also f c.args.state.now c.loop-i.state c.take_alike_item.new.state (keys_height f (named_keys item_keys (named (λ k. k) c.args.externs.now.entries))) (keys_height f (item_keys c.extern_at.result)) (named_keys item_keys (named (λ k. k) c.args.externs.now.entries)) (item_keys c.extern_at.result) (named_lower item_keys (λ k. k) f c.args.externs.now.entries c.loop-i.i c.extern_at.result c.extern_at.ensures) (within_named f item_keys (λ k. k) c.args.externs.now.entries c.loop-i.i c.extern_at.result c.extern_at.ensures) c.requires.state c.loop-i.invariant.takes c.in-Ok.ensures;
+    }
+
+pub take_alike_item-returns-in_default : goal.take_alike_item-returns-in_default
+take_alike_item-returns-in_default t c = Takes-none c.args.types.now c.args.state.now _ _ (λ s. Unit {0}) c.requires.state tt
+
+pub take_alike_resource-returns-then-is_some : goal.take_alike_resource-returns-then-is_some
+take_alike_resource-returns-then-is_some t c = Takes-none c.args.types.now c.args.state.now _ _ (λ s. Unit {0}) c.requires.state tt
+
+pub take_alike_resource-returns-in_default : goal.take_alike_resource-returns-in_default
+take_alike_resource-returns-in_default t c = Takes-none c.args.types.now c.args.state.now _ _ (λ s. Unit {0}) c.requires.state tt
+
+pub take_alike_resource-take_owners-requires : goal.take_alike_resource-take_owners-requires
+take_alike_resource-take_owners-requires t c =
+    let f = c.args.types.now in
+    let rs = c.in-Some.owned.items in
+    let answer : IsAlikeAnswer c.args.state.now.types c.args.types.now (resource_key c.args.own) (resource_key c.args.id) (Some c.in-Some.owned) = subst (IsAlikeAnswer c.args.state.now.types c.args.types.now (resource_key c.args.own) (resource_key c.args.id)) c.in-Some.is c.in_ok-owned.ensures in
+    let made : (r : Id) → Contains rs r → IsMadeOf f (resource_key c.args.id) (resource_key r) = λ r m. (answer.1.each r m).0 in
+    (omega (arith, owners_lower f c.sound.ensures (resource_key c.args.id) rs c.requires.source tt made), (owned_stand f c.sound.ensures (resource_key c.args.id) rs c.requires.source made, c.requires.state))
+
+pub take_alike_resource-returns : goal.take_alike_resource-returns
+take_alike_resource-returns t c =
+    let f = c.args.types.now in
+    let a = c.args.state.now in
+    let b = c.take_owners.new.state in
+    let rs = c.in-Some.owned.items in
+    let answer : IsAlikeAnswer c.args.state.now.types c.args.types.now (resource_key c.args.own) (resource_key c.args.id) (Some c.in-Some.owned) = subst (IsAlikeAnswer c.args.state.now.types c.args.types.now (resource_key c.args.own) (resource_key c.args.id)) c.in-Some.is c.in_ok-owned.ensures in
+    let theirs = resource_key c.args.id in
+    let ours = resource_key c.args.own in
+    let alike = answer.0 in
+    let same = same_resource a.types f c.args.own c.args.id alike.same in
+    let taken = c.in_ok-take_owners.ensures in
+    let none = sym c.resource.ensures ∙ absent_of resource_key c.resource.result (sym c.is_some.ensures ∙ c.if-is_some.false) in
+    let absent = alike_absent f c.sound.ensures a b c.put_resource.new.self theirs ours rs c.requires.source tt tt refl c.requires.state c.requires.own same alike answer.1 taken none in
+    Takes-alike f c.sound.ensures a b c.put_resource.new.self theirs ours rs c.requires.source tt tt refl c.requires.state c.requires.own same alike answer.1 taken (c.in_ok-put_resource.ensures absent) absent
+
+pub take_alike_defined-returns-then-is_some : goal.take_alike_defined-returns-then-is_some
+take_alike_defined-returns-then-is_some t c = Takes-none c.args.types.now c.args.state.now _ _ (λ s. Unit {0}) c.requires.state tt
+
+pub take_alike_defined-returns-in_default : goal.take_alike_defined-returns-in_default
+take_alike_defined-returns-in_default t c = Takes-none c.args.types.now c.args.state.now _ _ (λ s. Unit {0}) c.requires.state tt
+
+pub take_alike_defined-take_owners-requires : goal.take_alike_defined-take_owners-requires
+take_alike_defined-take_owners-requires t c =
+    let f = c.args.types.now in
+    let rs = c.in-Some.owned.items in
+    let answer : IsAlikeAnswer c.args.state.now.types c.args.types.now (defined_key c.args.own) (defined_key c.args.id) (Some c.in-Some.owned) = subst (IsAlikeAnswer c.args.state.now.types c.args.types.now (defined_key c.args.own) (defined_key c.args.id)) c.in-Some.is c.in_ok-owned.ensures in
+    let made : (r : Id) → Contains rs r → IsMadeOf f (defined_key c.args.id) (resource_key r) = λ r m. (answer.1.each r m).0 in
+    (omega (arith, owners_lower f c.sound.ensures (defined_key c.args.id) rs c.requires.source tt made), (owned_stand f c.sound.ensures (defined_key c.args.id) rs c.requires.source made, c.requires.state))
+
+pub take_alike_defined-returns : goal.take_alike_defined-returns
+take_alike_defined-returns t c =
+    let f = c.args.types.now in
+    let a = c.args.state.now in
+    let b = c.take_owners.new.state in
+    let rs = c.in-Some.owned.items in
+    let answer : IsAlikeAnswer c.args.state.now.types c.args.types.now (defined_key c.args.own) (defined_key c.args.id) (Some c.in-Some.owned) = subst (IsAlikeAnswer c.args.state.now.types c.args.types.now (defined_key c.args.own) (defined_key c.args.id)) c.in-Some.is c.in_ok-owned.ensures in
+    let theirs = defined_key c.args.id in
+    let ours = defined_key c.args.own in
+    let alike = answer.0 in
+    let same = same_defined_type a.types f c.args.own c.args.id alike.same in
+    let taken = c.in_ok-take_owners.ensures in
+    let none = sym c.defined.ensures ∙ absent_of defined_key c.defined.result (sym c.is_some.ensures ∙ c.if-is_some.false) in
+    let absent = alike_absent f c.sound.ensures a b c.put_defined.new.self theirs ours rs c.requires.source tt tt refl c.requires.state c.requires.own same alike answer.1 taken none in
+    Takes-alike f c.sound.ensures a b c.put_defined.new.self theirs ours rs c.requires.source tt tt refl c.requires.state c.requires.own same alike answer.1 taken (c.in_ok-put_defined.ensures absent) absent
+
+pub take_owners-loop-i-init : goal.take_owners-loop-i-init
+take_owners-loop-i-init t c = record { takes = Takes-none c.args.types.now c.args.state.now _ _ (AreFirstTaken c.args.types.now 0 c.args.resources.now.items) c.requires.state (λ j r low at. absurd (omega (arith, low))) }
+
+pub take_owners-owner_of-requires : goal.take_owners-owner_of-requires
+take_owners-owner_of-requires t c =
+    let at = c.resource_at-id.ensures in
+    resource_at (Stands c.args.types.now) c.args.resources.now.items c.loop-i.i c.resource_at-id.result at c.requires.source
+
+pub take_owners-take_owner-requires : goal.take_owners-take_owner-requires
+take_owners-take_owner-requires t c =
+    let f = c.args.types.now in
+    let rs = c.args.resources.now.items in
+    let r = c.resource_at-id.result in
+    let at = c.resource_at-id.ensures in
+    let may = MayTake-Takes f c.args.state.now c.loop-i.state _ _ _ c.requires.state c.loop-i.invariant.takes in (
+      omega (arith, largest-flat_map_at (height f) (λ q. optional_keys (λ o. interface_key o ∷ []) (owner_at f q)) rs c.loop-i.i r at, ap (λ q. keys_height f (optional_keys (λ o. interface_key o ∷ []) q)) c.owner_of.ensures.owner),
+      ((resource_at (Stands f) rs c.loop-i.i r at c.requires.source, owner_stands f c.owner_of.result c.owner_of.ensures.stands), (may, sym c.owner_of.ensures.owner)),
+    )
+
+pub take_owners-loop-i-preserved : goal.take_owners-loop-i-preserved
+take_owners-loop-i-preserved t c =
+    let f = c.args.types.now in
+    let a = c.args.state.now in
+    let n = c.take_owner.new.state in
+    let rs = c.args.resources.now.items in
+    let r = c.resource_at-id.result in
+    let q = c.owner_of.result in
+    let own = c.in_ok-take_owner.field-0 in
+    let at = c.resource_at-id.ensures in
+    let lower = subst (λ x. keys_height f (optional_keys (λ o. interface_key o ∷ []) x) ≤ keys_height f (owners_keys f rs)) (sym c.owner_of.ensures.owner) (largest-flat_map_at (height f) (λ x. optional_keys (λ o. interface_key o ∷ []) (owner_at f x)) rs c.loop-i.i r at) in
+    record {
+      takes = Takes-more f a n _ (keys_height f (owners_keys f rs)) _ (map resource_key rs) (λ s. AreFirstTaken f c.loop-i.i rs s × IsTakenOwner f q own s) (AreFirstTaken f (c.loop-i.i + 1) rs) (omega arith) (within_all f (map resource_key rs)) c.requires.state
+          (λ s kept h. first_next f s c.loop-i.i rs r own at h.0 (subst (λ x. IsTakenOwner f x own s) c.owner_of.ensures.owner h.1))
+          (Takes-then f a c.loop-i.state n (keys_height f (owners_keys f rs)) (keys_height f (optional_keys (λ o. interface_key o ∷ []) q)) (keys_height f (owners_keys f rs)) (map resource_key rs) (resource_key r ∷ []) (map resource_key rs) (AreFirstTaken f c.loop-i.i rs) (IsTakenOwner f q own) (omega arith) lower (within_all f (map resource_key rs)) (within_resources f rs c.loop-i.i r at) c.requires.state
+          (λ s u kept run h. first_still f s u c.loop-i.i rs kept run h) c.loop-i.invariant.takes c.in_ok-take_owner.ensures);
+    }
+
+pub take_owners-returns : goal.take_owners-returns
+take_owners-returns t c =
+    let f = c.args.types.now in
+    let rs = c.args.resources.now.items in
+    Takes-more f c.args.state.now c.loop-i.state (keys_height f (owners_keys f rs)) (keys_height f (owners_keys f rs)) (map resource_key rs) (map resource_key rs) (AreFirstTaken f c.loop-i.i rs) (AreOwnersTaken f rs) (omega arith) (within_all f (map resource_key rs)) c.requires.state
+    (λ s kept q. first_whole f s c.loop-i.i rs (omega (arith, c.loop-i-test.false, c.len-i-end.ensures)) q) c.loop-i.invariant.takes

@@ -1,4 +1,4 @@
-use Rattle.std.proofs.Common.{◌≡◌, ◌+◌, ◌*◌, [], ◌∷◌, length}
+use Rattle.std.proofs.Common.{◌≡◌, ◌+◌, ◌*◌, [], ◌∷◌, length, map}
 use Rattle.std.specs.List.{flat_map}
 use Rattle.wac_component.specs.Content.{alias_content, defined_content, named, use_content, types_of}
 use Rattle.wac_component.specs.Height.{height, keys_height}
@@ -7,7 +7,8 @@ use Rattle.wac_names.specs.Class.{class_of}
 use Rattle.wac_narrowing.specs.Taking.{IsTakenItem}
 use Rattle.wac_narrowing.specs.Values.{IsTakenValue, IfAny}
 use Rattle.wac_copies.proofs.Placed.{ArePlaced, AreSet}
-use Rattle.wac_taking.specs.Takes.{alias_at, Takes, IsTakenUse}
+use Rattle.wac_taking.specs.Takes.{owners_keys, alias_at, Takes, IsTakenUse}
+use Rattle.wac_taking.proofs.Alike.{AreFirstTaken}
 use Rattle.wac_taking.proofs.taking.+taking.Given as goal
 
 abbrev pub decreases-take_item : goal.decreases-take_item
@@ -67,6 +68,21 @@ decreases-take_externs l = 6 * keys_height l.types.now (named_keys item_keys (na
 abbrev pub decreases-take_world : goal.decreases-take_world
 decreases-take_world l = 6 * height l.types.now (world_key l.id)
 
+abbrev pub decreases-take_alike : goal.decreases-take_alike
+decreases-take_alike l = 6 * keys_height l.types.now (named_keys item_keys (named (λ k. k) l.externs.now.entries)) + 2
+
+abbrev pub decreases-take_alike_item : goal.decreases-take_alike_item
+decreases-take_alike_item l = 6 * keys_height l.types.now (item_keys l.kind) + 1
+
+abbrev pub decreases-take_alike_resource : goal.decreases-take_alike_resource
+decreases-take_alike_resource l = 6 * height l.types.now (resource_key l.id)
+
+abbrev pub decreases-take_alike_defined : goal.decreases-take_alike_defined
+decreases-take_alike_defined l = 6 * height l.types.now (defined_key l.id)
+
+abbrev pub decreases-take_owners : goal.decreases-take_owners
+decreases-take_owners l = 6 * keys_height l.types.now (owners_keys l.types.now l.resources.now.items) + 2
+
 abbrev pub invariant-take_values-loop-i : goal.invariant-take_values-loop-i
 invariant-take_values-loop-i l = record {
   count : length l.taken.items ≡ length l.values.items;
@@ -95,4 +111,14 @@ abbrev pub invariant-take_externs-loop-i : goal.invariant-take_externs-loop-i
 invariant-take_externs-loop-i l = record {
   count : length l.taken.entries ≡ length l.externs.entries;
   takes : Takes l.types l.initial.state l.state (keys_height l.types (named_keys item_keys (named (λ k. k) l.externs.entries))) (named_keys item_keys (named (λ k. k) l.externs.entries)) (λ t. AreSet (IsTakenItem class_of l.types t) l.i (named (λ k. k) l.externs.entries) (named (λ k. k) l.taken.entries));
+}
+
+abbrev pub invariant-take_alike-loop-i : goal.invariant-take_alike-loop-i
+invariant-take_alike-loop-i l = record {
+  takes : Takes l.types l.initial.state l.state (keys_height l.types (named_keys item_keys (named (λ k. k) l.externs.entries))) (named_keys item_keys (named (λ k. k) l.externs.entries)) (λ t. Unit {0});
+}
+
+abbrev pub invariant-take_owners-loop-i : goal.invariant-take_owners-loop-i
+invariant-take_owners-loop-i l = record {
+  takes : Takes l.types l.initial.state l.state (keys_height l.types (owners_keys l.types l.resources.items)) (map resource_key l.resources.items) (AreFirstTaken l.types l.i l.resources.items);
 }

@@ -10,7 +10,7 @@ use Rattle.wac_aggregator.proofs.aggregator.TypeAggregator.aggregate.Goals as go
 pub advance-requires-clause-state : goal.advance-requires-clause-state
 advance-requires-clause-state c =
     let call : Call = record { name = c.args.name.now; types = c.args.types.now; kind = c.args.kind } in
-    call_may call c.self.inside.state c.direction-state.result c.args.self c.self.view_is c.self.invariant c.requires.remembered
+    call_may call c.self.inside.state c.direction-state.result c.args.self c.self.view_is c.self.invariant c.requires.apart c.requires.remembered
 
 pub returns-in_err-advance-clause-forgotten : goal.returns-in_err-advance-clause-forgotten
 returns-in_err-advance-clause-forgotten c = c.forget.ensures.remembered ∙ ap (λ n. without_number n (remembered c.args.checker.now)) (c.number.ensures ∙ ap (λ (s : AggregatorContent). s.types.number) c.self.view_is)
@@ -18,12 +18,12 @@ returns-in_err-advance-clause-forgotten c = c.forget.ensures.remembered ∙ ap (
 pub invariant_of-result : goal.invariant_of-result
 invariant_of-result c =
     let call : Call = record { name = c.args.name.now; types = c.args.types.now; kind = c.args.kind } in
-    call_in_order call c.self.inside.state c.direction-state.result c.args.self c.self.view_is c.self.invariant c.requires.remembered c.advance.new.state c.filed.ensures c.in_ok-advance.ensures
+    call_in_order call c.self.inside.state c.direction-state.result c.args.self c.self.view_is c.self.invariant c.requires.apart c.requires.remembered c.advance.new.state c.filed.ensures c.in_ok-advance.ensures
 
 pub returns-clause-step : goal.returns-clause-step
 returns-clause-step c =
     let call : Call = record { name = c.args.name.now; types = c.args.types.now; kind = c.args.kind } in
-    call_step call c.self.inside.state c.direction-state.result c.args.self c.self.view_is c.self.invariant c.requires.remembered c.advance.new.state c.filed.ensures c.in_ok-advance.ensures
+    call_step call c.self.inside.state c.direction-state.result c.args.self c.self.view_is c.self.invariant c.requires.apart c.requires.remembered c.advance.new.state c.filed.ensures c.in_ok-advance.ensures
 
 pub returns-clause-by_track : goal.returns-clause-by_track
 returns-clause-by_track c = by_track c.advance.new.state c.filed.ensures
@@ -31,9 +31,9 @@ returns-clause-by_track c = by_track c.advance.new.state c.filed.ensures
 pub returns-clause-truly : goal.returns-clause-truly
 returns-clause-truly c =
     let call : Call = record { name = c.args.name.now; types = c.args.types.now; kind = c.args.kind } in
-    call_truly call c.self.inside.state c.direction-state.result c.args.self c.self.view_is c.self.invariant c.requires.remembered c.advance.new.state c.filed.ensures c.in_ok-advance.ensures
+    call_truly call c.self.inside.state c.direction-state.result c.args.self c.self.view_is c.self.invariant c.requires.apart c.requires.remembered c.advance.new.state c.filed.ensures c.in_ok-advance.ensures
 
 pub returns-clause-number : goal.returns-clause-number
 returns-clause-number c =
     let call : Call = record { name = c.args.name.now; types = c.args.types.now; kind = c.args.kind } in
-    call_number call c.self.inside.state c.direction-state.result c.args.self c.self.view_is c.self.invariant c.requires.remembered c.advance.new.state c.filed.ensures c.in_ok-advance.ensures
+    call_number call c.self.inside.state c.direction-state.result c.args.self c.self.view_is c.self.invariant c.requires.apart c.requires.remembered c.advance.new.state c.filed.ensures c.in_ok-advance.ensures

@@ -1,4 +1,5 @@
 use Rattle.std.proofs.Common.{[], ap, arith}
+use Rattle.wac_component.specs.Collection.{Collection}
 use Rattle.wac_imports.specs.Import.{ImportsContent, import_of}
 use Rattle.wac_imports.specs.Left.{listed}
 use Rattle.wac_aggregator.proofs.Front.{none_served}
@@ -9,7 +10,10 @@ pub invariant_of-result : goal.invariant_of-result
 invariant_of-result c = c.no_imports.ensures.in_order
 
 pub returns-clause-number : goal.returns-clause-number
-returns-clause-number c = c.no_imports.ensures.number_is
+returns-clause-number c = ap (λ (t : Collection). t.number) c.no_imports.ensures.empty
+
+pub returns-clause-empty : goal.returns-clause-empty
+returns-clause-empty c = c.no_imports.ensures.empty
 
 pub returns-clause-imports : goal.returns-clause-imports
 returns-clause-imports c = ap listed c.no_imports.ensures.imports

@@ -1,0 +1,12 @@
+use Rattle.std.proofs.Common.{◌≡◌, ◌∙◌, Some, subst, sym}
+use Rattle.wac_component.specs.Key.{interface_key}
+use Rattle.wac_taking.specs.Takes.{IsOwnEntry, state_of}
+use Rattle.wac_taking.proofs.TakeLemmas.{lookup-shared, shared_stands, shared_covered}
+use Rattle.wac_taking.proofs.near.nearest.Goals as goal
+
+pub returns-in-Some-copied : goal.returns-in-Some-copied
+returns-in-Some-copied c i is =
+    let same : c.in-Some-copied.own ≡ i = cc in
+    let s = state_of c.args.state.now in
+    let among = lookup-shared c.in_ok-class.class c.args.state.now.shared.entries c.in-Some-copied.own (sym c.get.ensures.value ∙ sym c.copied.ensures ∙ c.in-Some-copied.is) in
+    subst (λ x. IsOwnEntry c.args.state.now (interface_key x)) same (shared_stands s c.requires.state (interface_key c.in-Some-copied.own) among, shared_covered s c.requires.state (interface_key c.in-Some-copied.own) among)
