@@ -81,11 +81,12 @@ impl TypeAggregator {
     /// Aggregates an item of a collection under a name: merges it into the import on the name's track, or makes it
     /// an import of its own, the last.
     ///
+    /// The item stands in its collection, which has another number than the aggregator's. What was handed in before
+    /// with ids of its number is of this collection, which was at most added to since then.
+    ///
     /// Where the name has a higher version than the import that it is merged into, the import takes the name and goes
     /// last, and its old name leads to it; else the name leads to the import. A refusal consumes the aggregator. No
     /// pair with an id of the aggregator stays in the checker's cache; nothing else of the checker changes.
-    ///
-    /// The number of the collection handed in must differ from that of the aggregator's own.
     pub fn aggregate(
         self,
         name: &str,

@@ -30,10 +30,10 @@ pub struct Call<'a> {
 
 /// Aggregates items one after the other, in a new aggregator whose collection has this number.
 ///
+/// The items stand in their collections, none of which has this number; equal numbers mean one collection.
+///
 /// The first refusal is answered with the number of its call, from 0 on. No pair with an id of the number stays in the
 /// checker's cache; nothing else of the checker changes.
-///
-/// The number of each collection handed in must differ from that of the aggregator's own.
 pub fn aggregate_all(
     alloc: Global,
     number: u64,

@@ -1,6 +1,6 @@
 //! Collections, as the lines of a script describe them.
 
-ghost use Rattle.std.specs.Prelude.{◌≡◌, OnErr};
+ghost use Rattle.std.specs.Prelude.{◌≡◌, IfOk, OnErr};
 
 use super::adding::add;
 use std::alloc::Global;
@@ -21,7 +21,9 @@ pub fn add_line<'a>(alloc: Global, types: &mut Types, line: &'a str) -> Result<(
 
 /// A collection of this number, of the entries that lines describe, in their order. It is refused as the
 /// first line is for which [`add_line`] is.
-pub fn built<'a>(alloc: Global, number: u64, lines: &'a str) -> Result<Types, ScriptError<'a>> {
+pub fn built<'a>(alloc: Global, number: u64, lines: &'a str) -> Result<Types, ScriptError<'a>>
+    ensures { IfOk result (λ types. types.number ≡ number) }
+{
     let mut types = Types::new(alloc, number);
     for line in lines.lines() {
         add_line(alloc, &mut types, line)?;

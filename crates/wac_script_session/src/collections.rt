@@ -1,6 +1,6 @@
 //! Collections by their numbers.
 
-ghost use Rattle.std.specs.Prelude.{◌≡◌, Some, IfOk};
+ghost use Rattle.std.specs.Prelude.{◌≡◌, None, Some, IfOk, IfSome};
 ghost use Rattle.wac_script_session.specs.Collections.{collection_at};
 
 use super::growth::{Growth, grow};
@@ -44,6 +44,18 @@ impl Collections {
             Some(types) => Ok(types),
             None => Err(ScriptError::NoCollection(number)),
         }
+    }
+
+    /// A number that no collection has.
+    pub(crate) fn free_number(&self) -> Option<u64>
+        ensures { IfSome result (λ n. collection_at self.now n ≡ None) }
+    {
+        for number in 0..u64::MAX {
+            if !self.by_number.contains_key(&number) {
+                return Some(number);
+            }
+        }
+        None
     }
 
     /// Begins an empty collection of this number, unless one is there.

@@ -15,6 +15,7 @@
 //! | `validate COLL wTARGET wCOMPONENT` | `ok`, or `no` and the lines `not-in-target NAME`, `missing NAME KIND`, `mismatched NAME KIND: TEXT / ..` and `text REPORT`, or `refused: TEXT` |
 //! | `implicit COLL wN` | `ok NAME=ITEM ..`, or `refused: TEXT` |
 //! | `meet COLL ITEM ITEM`, `join COLL ITEM ITEM` | the item, its canonical tree and `added N`, or `none added N`, for N entries added |
+//! | `aggregate shared\|fresh` | of the calls since the last, with one checker and its cache for all of them or with a new one for each: `ok` and, for each import in order, the lines `import NAME TREE` and `meta NAME ID\|- u:NAME=ID[=NAME] ..`, its identifier and its uses in the order of their words, or `meta NAME -`; for each name that was handed in `canon NAME NAME`, the import that it leads to; for each call, from 0, `serves N yes\|no\|missing`, whether that import fits where the item is asked for. Or `no at N: TEXT / ..` |
 //! | `tree COLL ITEM` | the canonical text of the item's tree |
 //! | `entry COLL ENTRY` | the line that builds the entry, with its names in their order |
 //! | `desc COLL ITEM` | the text of the item's kind |
@@ -30,11 +31,13 @@
 //! (`name_word`), but in the texts of refusals and of package keys, which are verbatim, on one line.
 #![tactic(auto)]
 
+mod aggregates;
 mod answers;
 mod collections;
 mod comparisons;
 mod core_externs;
 mod growth;
+mod imports;
 mod kinds;
 mod lines;
 mod name_maps;

@@ -1,13 +1,15 @@
 //! What a script has built so far.
 
+use super::aggregates::{aggregate, call_of};
 use super::answers::answer;
 use super::collections::Collections;
 use super::comparisons::{Cache, subtype};
 use super::growth::read_growth;
 use std::alloc::{AllocError, Global};
 use std::collections::HashSet;
+use std::mem;
 use wac_script_entries::Replacement;
-use wac_script_syntax::{Command, Content, Query, ScriptError, read_entry};
+use wac_script_syntax::{Command, Content, ItemCall, Query, ScriptError, read_entry};
 
 /// The collections that a script has built so far, and what its questions share.
 #[derive(Drop)]
@@ -18,6 +20,8 @@ pub struct Session {
     // What the questions before found, while they share a cache; else it is emptied before each.
     cache: Cache,
     shares_cache: bool,
+    // What is handed to the next aggregator.
+    calls: Vec<ItemCall>,
     // How many queries of the script have been answered.
     answered: u64,
 }
@@ -30,6 +34,7 @@ impl Session {
             at_hand: None,
             cache: HashSet::new(alloc),
             shares_cache: false,
+            calls: Vec::new(alloc),
             answered: 0,
         }
     }
@@ -51,6 +56,7 @@ impl Session {
             Command::Add(content) => self.add(alloc, content)?,
             Command::KeepCache => self.keep_cache(),
             Command::DropCache => self.shares_cache = false,
+            Command::Call(call) => self.call(call)?,
         }
         Ok(None)
     }
@@ -83,6 +89,15 @@ impl Session {
         self.collections.add(alloc, number, content)
     }
 
+    // Puts a call last, whose item is there.
+    fn call<'a>(&mut self, call: ItemCall) -> Result<(), ScriptError<'a>> {
+        if let Err(error) = call_of(&self.collections, &call) {
+            return Err(error);
+        }
+        self.calls.push(call)?;
+        Ok(())
+    }
+
     // The number of the query in the script, and the answer.
     fn answer<'a>(&mut self, alloc: Global, query: &Query<'a>) -> Result<String, ScriptError<'a>> {
         let number = self.answered.saturating_add(1);
@@ -107,8 +122,20 @@ impl Session {
                 let (number, growth) = read_growth(command, words)?;
                 self.collections.grow(alloc, text, number, growth)
             }
+            "aggregate" => self.aggregate(alloc, text, words),
             _ => answer(alloc, text, &self.collections, command, words),
         }
+    }
+
+    // Hands the items of all calls to an aggregator. The next one starts without calls.
+    fn aggregate<'a>(
+        &mut self,
+        alloc: Global,
+        text: &mut String,
+        words: &[&'a str],
+    ) -> Result<(), ScriptError<'a>> {
+        let calls = mem::replace(&mut self.calls, Vec::new(alloc));
+        aggregate(alloc, text, &self.collections, &calls, words)
     }
 
     // Asks with the cache that is shared, or with an empty one.

@@ -7,6 +7,7 @@ use super::entries::{Sort, sort_added_by};
 use super::error::{ScriptError, unexpected};
 use super::names::read_name;
 use super::numbers::read_number;
+use super::values::{Item, read_item};
 use std::alloc::Global;
 
 /// What a line asks for.
@@ -22,8 +23,21 @@ pub enum Command<'a> {
     KeepCache,
     /// `cache drop`: each question has an empty cache from now on.
     DropCache,
+    /// `call NAME COLL ITEM`: hands an item to the next aggregator that is asked about.
+    Call(ItemCall),
     /// Asks for an answer.
     Query(Query<'a>),
+}
+
+/// What is handed to an aggregator, as words describe it.
+#[derive(Drop)]
+pub struct ItemCall {
+    /// The name of the import.
+    pub name: String,
+    /// The number of the collection of the item.
+    pub collection: u64,
+    /// The item.
+    pub item: Item,
 }
 
 /// The content of an entry, as words describe it.
@@ -67,6 +81,17 @@ fn read_cache<'a>(words: &[&'a str]) -> Result<Command<'a>, ScriptError<'a>> {
     }
 }
 
+fn read_call<'a>(alloc: Global, words: &[&'a str]) -> Result<Command<'a>, ScriptError<'a>> {
+    let [name, collection, item] = *words else {
+        return Err(ScriptError::Misused("call NAME COLL ITEM"));
+    };
+    Ok(Command::Call(ItemCall {
+        name: read_name(alloc, name)?,
+        collection: read_number(collection)?,
+        item: read_item(item)?,
+    }))
+}
+
 // An entry that is added, or else a query.
 fn adding_or_query<'a>(command: &'a str, words: Vec<&'a str>) -> Command<'a> {
     match sort_added_by(command) {
@@ -85,6 +110,7 @@ fn read_command<'a>(
         "script" => read_script(alloc, &words),
         "coll" => read_collection(&words),
         "cache" => read_cache(&words),
+        "call" => read_call(alloc, &words),
         _ => Ok(adding_or_query(command, words)),
     }
 }

@@ -33,6 +33,7 @@
 //! | `world NAME\|- MEMBER*` | adds a world: also imports `m:NAME=ITEM` |
 //! | `module MEMBER*` | adds a core module: imports `m:NAME,NAME=EXTERN` and exports `e:NAME=EXTERN` |
 //! | `cache keep`, `cache drop` | shares one cache among questions, or gives each an empty one |
+//! | `call NAME COLL ITEM` | hands an item to the next aggregator that is asked about |
 //! | a query | an answer: the table of `wac_script_session` |
 #![tactic(auto)]
 
@@ -45,7 +46,7 @@ mod numbers;
 mod values;
 mod writing;
 
-pub use commands::{Command, Content, Query, read_line};
+pub use commands::{Command, Content, ItemCall, Query, read_line};
 pub use entries::{EntryName, Sort};
 pub use error::{ScriptError, unexpected};
 pub use externs::read_extern;

@@ -1,7 +1,7 @@
 -- Types that are remembered as alike ones, once the owners of the resources that they are made of were taken in.
-use Rattle.std.proofs.Common.{◌≡◌, Bool, true, false, is_some, ◌<◌, ◌≤◌, ◌⊎◌, ℕ, inl, inr, IsSome, IfSome, List, [], ◌∷◌, Contains, Option, Some, None, length, slice_get, slice_index_or, zero, suc, ◌+◌, refl, ap, sym, subst, ◌∙◌, map, arith}
+use Rattle.std.proofs.Common.{◌≡◌, false, is_some, ◌<◌, ◌≤◌, ◌⊎◌, ℕ, inl, inr, IsSome, IfSome, List, [], ◌∷◌, Contains, Option, Some, None, length, slice_get, slice_index_or, zero, suc, ◌+◌, refl, ap, sym, subst, ◌∙◌, map, arith}
 use Rattle.std.specs.Option.{option_and_then, option_map, option_map_or}
-use Rattle.wac_model.specs.ItemTree.{Kind, item, type_item, leaf, resource, value}
+use Rattle.wac_model.specs.ItemTree.{item, type_item, leaf, resource, value}
 use Rattle.std.specs.Str.{bytes_eq}
 use Rattle.wac_model.specs.Text.{Text, lookup}
 use Rattle.wac_component.specs.Id.{Id}
@@ -10,7 +10,7 @@ use Rattle.wac_component.specs.Entries.{identifier_at, owner_at}
 use Rattle.wac_component.specs.Height.{height, keys_height}
 use Rattle.wac_component.specs.Key.{Key, Sort, defined_sort, resource_sort, func_sort, interface_sort, world_sort, module_sort, defined_entry, resource_entry, optional_keys, other_keys, alias_keys, resource_key, defined_key, interface_key, Stands, Each, AllStand, item_keys, named_keys, use_keys}
 use Rattle.wac_component.specs.Open.{open_next, OpenReaches, stay, step}
-use Rattle.wac_component.specs.Reach.{IsAmong, here, there, Reaches}
+use Rattle.wac_component.specs.Reach.{IsAmong, here, there}
 use Rattle.wac_component.specs.Sound.{IsSound}
 use Rattle.wac_component.specs.Tree.{item_tree, root_name, value_tree}
 use Rattle.wac_component.specs.declared.items.ItemKind.{ItemKind}
@@ -24,7 +24,7 @@ use Rattle.wac_component.proofs.Walks.{next_below}
 use Rattle.wac_component.proofs.Search.{next_lower}
 use Rattle.wac_merge.specs.Items.{entry_item}
 use Rattle.wac_merge.proofs.ItemKeys.{each_entry_item}
-use Rattle.wac_names.specs.Class.{Class, class_of}
+use Rattle.wac_names.specs.Class.{class_of}
 use Rattle.wac_narrowing.specs.Identified.{use_names, use_names_at, StopsAt, stop, goes_on, IsUnstopped, IsQuiet, OpenlyOn, IsCovered}
 use Rattle.wac_narrowing.specs.Remembers.{RemembersTruly, IsRememberedAs}
 use Rattle.wac_narrowing.specs.State.{State, Memo as Remembered, AddsPair, IsKept, IsOneWith, Runs}
@@ -37,11 +37,11 @@ use Rattle.wac_narrowing.proofs.Running.{Runs-take, StandsFor-Narrows}
 use Rattle.wac_narrowing.proofs.Stopping.{stop_identified}
 use Rattle.wac_copies.specs.Memo.{memo_of}
 use Rattle.wac_copies.specs.declared.memo.Memo.{Memo}
-use Rattle.wac_alike.specs.Alike.{made_keys, made_next, IsMadeOf, itself, part, IsOwnerIn, track_at, AreOwnersIdentified, IsOwnerTrack, AreAlike, AreOwnedIn}
+use Rattle.wac_alike.specs.Alike.{made_keys, made_next, IsMadeOf, itself, part, AreOwnersIdentified, AreAlike, AreOwnedIn}
 use Rattle.wac_alike.proofs.MadeOf.{IsTypeKey, is_type_sort, made_opens, made_types, made_stands, made_unidentified, made_or_owned, no_identifier}
 use Rattle.wac_taking.specs.Takes.{state_of, MayTake, IsOwnEntry, IsNear, AreLedTo, AreWithin, Takes, owners_keys, LeadsToOwner, OwnersImported, IsOwnerImported, IsTakenOwner, AreOwnersTaken}
 use Rattle.wac_taking.specs.declared.state.Merging.{Merging}
-use Rattle.wac_taking.proofs.TakeLemmas.{MayTake-Takes, Takes-after, Takes-more, Takes-then, still_none}
+use Rattle.wac_taking.proofs.TakeLemmas.{Takes-after, Takes-more, Takes-then, still_none}
 use Rattle.wac_taking.proofs.Parts.{owner_still}
 use Rattle.wac_taking.proofs.Within.{within_all, owned_within}
 

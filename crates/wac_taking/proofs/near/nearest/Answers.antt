@@ -1,4 +1,4 @@
-use Rattle.std.proofs.Common.{◌≡◌, ◌∙◌, Some, subst, sym}
+use Rattle.std.proofs.Common.{◌≡◌, ◌∙◌, subst, sym}
 use Rattle.wac_component.specs.Key.{interface_key}
 use Rattle.wac_taking.specs.Takes.{IsOwnEntry, state_of}
 use Rattle.wac_taking.proofs.TakeLemmas.{lookup-shared, shared_stands, shared_covered}

@@ -34,7 +34,7 @@ use Rattle.wac_component.specs.Collection.{ResourceContent}
 use Rattle.wac_component.specs.Open.{stay}
 use Rattle.wac_component.specs.Reach.{here}
 use Rattle.wac_component.proofs.Reading.{defined_at, func_at, interface_at, world_at}
-use Rattle.std.proofs.Common.{Contains, map, slice_get, ◌≤◌}
+use Rattle.std.proofs.Common.{Contains, map, ◌≤◌}
 use Rattle.wac_component.specs.Entries.{owner_at}
 use Rattle.wac_component.specs.Id.{Id}
 use Rattle.wac_alike.specs.Alike.{IsMadeOf, IsAlikeAnswer}
