@@ -1,0 +1,10 @@
+pub mod Bare
+pub mod Sourced
+pub mod Entering
+pub mod Items
+pub mod Sharing
+pub mod Keeping
+pub mod Roots
+pub mod Split
+pub mod Standing
+pub mod Laws
