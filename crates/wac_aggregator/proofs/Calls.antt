@@ -2,6 +2,7 @@
 use Rattle.std.proofs.Common.{◌≡◌, [], ◌∷◌, Option, Some, None, IsSome, IfSome, Result, Ok, Err, OnOk, IfOk, String, Global, refl, ap, sym, ◌∙◌, subst}
 use Rattle.std.specs.Option.{option_map}
 use Rattle.wac_model.specs.Text.{Text}
+use Rattle.wac_model.specs.ItemTree.{ItemTree}
 use Rattle.wac_model.specs.Order.{Fits}
 use Rattle.wac_model.proofs.ItemOrder.{Fits-refl}
 use Rattle.wac_component.specs.Collection.{Collection}
@@ -55,6 +56,8 @@ module _ (call : Call) (a mid : Merging) (own : ItemKind) (may : MayTake call.ty
     covered = own_covered;
     fits = Fits-refl (item_tree mid.types own);
     existing = λ i at. absurd (let no : None ≡ Some i = sym none ∙ at in cc);
+    alone = λ q. refl;
+    greatest = λ i at. absurd (let no : None ≡ Some i = sym none ∙ at in cc);
     placed = added none h.none h.puts h.led;
   }
 
@@ -89,6 +92,10 @@ module _ (call : Call) (a mid : Merging) (own : ItemKind) (may : MayTake call.ty
       existing = λ i at.
           let same : was.0 ≡ i = let both : Some was.0 ≡ Some i = sym was.1 ∙ at in cc in
           subst (λ x. Fits (item_tree b.types h.import) (item_tree mid.types x)) (sym was.2 ∙ ap (λ (j : ImportContent). j.1) same) h.met.fits_first;
+      alone = λ none. absurd (let no : None ≡ Some was.0 = sym none ∙ was.1 in cc);
+      greatest = λ i at.
+          let same : was.0 ≡ i = let both : Some was.0 ≡ Some i = sym was.1 ∙ at in cc in
+          subst (λ x. (t : ItemTree) → Fits t (item_tree mid.types x) → Fits t (item_tree mid.types own) → Fits t (item_tree b.types h.import)) (sym was.2 ∙ ap (λ (j : ImportContent). j.1) same) h.met.greatest;
       placed = noted was.0 was.1 (h.noted was.0 found_still);
     }
 
@@ -110,6 +117,7 @@ module _ (a : Merging) (told : Option (String Global)) where
       stays = h.takes.stays;
       due = h.takes.due;
       shares = h.takes.shares;
+      plain = λ p. let only = h.takes.plain p in record { grows = only.grows; shared = only.shared; imports = only.imports };
       holds = h.takes.holds;
     };
     same = h.same;
@@ -119,6 +127,8 @@ module _ (a : Merging) (told : Option (String Global)) where
     covered = h.covered;
     fits = h.fits;
     existing = h.existing;
+    alone = h.alone;
+    greatest = h.greatest;
     placed = h.placed;
   }
 

@@ -32,7 +32,7 @@ use Rattle.wac_aggregator.specs.Advances.{IsPlaced, Advances, added, noted}
 use Rattle.wac_aggregator.specs.Served.{LeadsTo, IsOneOf, AreServed}
 use Rattle.wac_aggregator.specs.Content.{shown, content_of}
 use Rattle.wac_aggregator.proofs.Advancing.{placing, at_of, of_at, rest, run, taken_kept, fits_item, leads_below}
-use Rattle.wac_aggregator.proofs.Identifiers.{is_interface, has_identifier, identifier_of}
+use Rattle.wac_taking.proofs.Identifiers.{is_interface, has_identifier, identifier_of}
 use Rattle.wac_aggregator.proofs.Leading.{PlacedAs, placed_here, placed_other, placed_still, puts_here, some_is, leads-new, found-of}
 use Rattle.wac_aggregator.proofs.Newer.{higher_track, not_higher-self, not_higher-old, not_higher-newer}
 

@@ -9,18 +9,23 @@ use Rattle.wac_model.specs.Text.{Text}
 use Rattle.wac_names.specs.Class.{class_of}
 use Rattle.wac_narrowing.specs.Remembers.{RemembersTruly}
 use Rattle.wac_narrowing.specs.State.{IsOneWith}
-use Rattle.wac_call_lists.specs.Aggregated.{IsStep}
+use Rattle.wac_call_lists.specs.Aggregated.{IsStep, track_imports}
 use Rattle.wac_call_lists.specs.Call.{Call}
+use Rattle.wac_call_lists.specs.PlainList.{IsPlain}
+use Rattle.wac_call_lists.specs.PlainRun.{IsPlainStep, IsPlainRefusal}
+use Rattle.wac_refusals.specs.declared.error.AggregateError.{AggregateError}
+use Rattle.wac_refusals.specs.declared.error.AggregateError.TheVariants.{Memory}
 use Rattle.wac_imports.specs.Import.{AreFiled}
 use Rattle.wac_imports.specs.Left.{listed}
 use Rattle.wac_imports.proofs.Listed.{of_Contains}
 use Rattle.wac_taking.specs.Takes.{MayTake}
 use Rattle.wac_taking.specs.declared.state.Merging.{Merging}
-use Rattle.wac_aggregator.specs.Advances.{Advances}
+use Rattle.wac_aggregator.specs.Advances.{Advances, IsRefusedCall}
 use Rattle.wac_aggregator.specs.Content.{AggregatorContent, shown, content_of, state_in}
 use Rattle.wac_aggregator.specs.InOrder.{IsInOrder}
 use Rattle.wac_aggregator.proofs.Advancing.{at_of, run, advances_step}
 use Rattle.wac_aggregator.proofs.Listing.{advances_in_order, advances_number}
+use Rattle.wac_aggregator.proofs.Plain.{plain_step, plain_refusal}
 use Rattle.wac_aggregator.proofs.Remembering.{truly_in, truly_of}
 
 -- each import stands
@@ -46,3 +51,9 @@ module _ (call : Call) (inside : Merging) (told : SubtypeCheck) (before : Aggreg
 
     pub call_truly : (g : Collection) → IsOneWith call.types g → RemembersTruly class_of g (state_in before) → RemembersTruly class_of g (state_in (content_of b))
     call_truly g one t = truly_in g b ((run call a b call_may order.imports filed h).truly order.kept g one (truly_of g inside (subst (λ s. RemembersTruly class_of g (state_in s)) (sym is) t)))
+
+    pub call_plain : IsPlain call.types call.kind → IsPlainStep (track_imports (shown before)) (track_imports (shown (content_of b))) call
+    call_plain p = subst (λ s. IsPlainStep (track_imports (shown s)) (track_imports (shown (content_of b))) call) is (plain_step call a b call_may order.imports filed h p)
+
+  pub call_refused : (e : AggregateError) → IsRefusedCall call a e → IsPlain call.types call.kind → e ≢ Memory → IsPlainRefusal (track_imports (shown before)) call
+  call_refused e h p ne = subst (λ s. IsPlainRefusal (track_imports (shown s)) call) is (plain_refusal call a order.imports (h.plain p ne))

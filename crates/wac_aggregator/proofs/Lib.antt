@@ -1,5 +1,4 @@
 pub mod Newer
-pub mod Identifiers
 pub mod Leading
 pub mod Advancing
 pub mod Front
@@ -8,3 +7,5 @@ pub mod Beginning
 pub mod Listing
 pub mod Remembering
 pub mod Handing
+pub mod Plain
+pub mod Refusing

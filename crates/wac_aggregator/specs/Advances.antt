@@ -1,7 +1,9 @@
 -- What a call does to the state of merging.
-use Rattle.std.specs.Prelude.{◌≡◌, Some, None}
+use Rattle.std.specs.Prelude.{◌≡◌, ◌≢◌, Some, None}
 use Rattle.wac_model.specs.Text.{Text}
+use Rattle.wac_model.specs.ItemTree.{ItemTree}
 use Rattle.wac_model.specs.Order.{Fits}
+use Rattle.wac_component.specs.Collection.{Collection}
 use Rattle.wac_component.specs.Height.{keys_height}
 use Rattle.wac_component.specs.Key.{Each, AllStand, item_keys}
 use Rattle.wac_component.specs.Tree.{item_tree}
@@ -9,9 +11,14 @@ use Rattle.wac_component.specs.declared.items.ItemKind.{ItemKind}
 use Rattle.wac_names.specs.Class.{class_of}
 use Rattle.wac_narrowing.specs.Identified.{IsCovered}
 use Rattle.wac_narrowing.specs.Taking.{IsTakenItem}
-use Rattle.wac_call_lists.specs.Call.{Call, call_track}
+use Rattle.wac_call_lists.specs.Call.{Call, call_track, call_tree}
+use Rattle.wac_call_lists.specs.PlainList.{IsPlain}
+use Rattle.wac_call_lists.specs.TreeSets.{HaveNoLowerBound}
 use Rattle.wac_imports.specs.Import.{ImportContent, ImportsContent, import_of, PutsImport, IsNoted}
-use Rattle.wac_taking.specs.Growing.{StepsOn, IsMetWith}
+use Rattle.wac_refusals.specs.declared.error.AggregateError.{AggregateError}
+use Rattle.wac_refusals.specs.declared.error.AggregateError.TheVariants.{Memory}
+use Rattle.wac_taking.specs.Growing.{StepsOn, IsMetWith, AreApartIn}
+use Rattle.wac_taking.specs.Refused.{HaveUses}
 use Rattle.wac_taking.specs.Takes.{shared_keys, Takes}
 use Rattle.wac_taking.specs.declared.state.Merging.{Merging}
 
@@ -32,7 +39,20 @@ pub record Advances (call : Call) (a b : Merging) : Type 0 where
   pub covered : Each (IsCovered b.types (shared_keys taken.shared.entries)) (item_keys import)
   pub fits : Fits (item_tree b.types import) (item_tree taken.types own)
   pub existing : (i : ImportContent) → import_of a.imports (call_track call) ≡ Some i → Fits (item_tree b.types import) (item_tree taken.types i.1)
+  -- it is the item's where none stood, and else the greatest that fits so
+  pub alone : import_of a.imports (call_track call) ≡ None → item_tree b.types import ≡ item_tree taken.types own
+  pub greatest : (i : ImportContent) → import_of a.imports (call_track call) ≡ Some i → (t : ItemTree) → Fits t (item_tree taken.types i.1) → Fits t (item_tree taken.types own) → Fits t (item_tree b.types import)
   pub placed : IsPlaced a.imports taken.imports b.imports call.name import
+
+-- an import stands on the track of the name, and no item fits where either that or the item is asked for
+pub record HasNoMeet (call : Call) (a : Merging) : Type 0 where
+  pub import : ImportContent
+  pub stood : import_of a.imports (call_track call) ≡ Some import
+  pub no_bound : HaveNoLowerBound (item_tree a.types import.1) (call_tree call)
+
+-- why a call is refused: a plain item for want of memory, or since it has no meet with the import on its track
+pub record IsRefusedCall (call : Call) (a : Merging) (e : AggregateError) : Type 0 where
+  pub plain : IsPlain call.types call.kind → e ≢ Memory → HasNoMeet call a
 
 -- an import under the name is put last, where none stood on its track
 pub record IsAdded (a b : Merging) (name : Text) (k : ItemKind) : Type 0 where
@@ -47,3 +67,9 @@ pub record IsMerged (a b : Merging) (name : Text) (existing own : ItemKind) : Ty
   pub import : ItemKind
   pub met : IsMetWith a.types b.types existing own import
   pub noted : (i : ImportContent) → import_of a.imports (class_of name) ≡ Some i → IsNoted a.imports b.imports (class_of name) i.0 name import
+
+-- why an import and what was taken in for it are not merged: for want of memory, over uses, or since they have no meet
+pub data IsMergeRefusal (c : Collection) (existing own : ItemKind) (e : AggregateError) : Type 0 where
+  for_memory : e ≡ Memory → IsMergeRefusal c existing own e
+  over_uses : HaveUses c (item_keys own) → IsMergeRefusal c existing own e
+  have_no_meet : AreApartIn c existing own → IsMergeRefusal c existing own e

@@ -1,10 +1,13 @@
 //! Lists of calls.
 
-ghost use Rattle.std.specs.Prelude.{◌≡◌, ◌≢◌, ◌<◌, Contains, IfErr, IfOk, length};
+ghost use Rattle.std.specs.Prelude.{◌≡◌, ◌≢◌, ◌<◌, Contains, IfErr, IfOk, MatchResult, length};
 ghost use Rattle.wac_component.specs.Key.{AllStand, item_keys};
 ghost use Rattle.wac_checker.specs.Cache.{without_number};
 ghost use Rattle.wac_checker.specs.Checker.{direction, depth, remembered};
-ghost use Rattle.wac_call_lists.specs.Aggregated.{IsAggregated, IsByTrack};
+ghost use Rattle.wac_call_lists.specs.Aggregated.{IsAggregated, IsByTrack, track_imports};
+ghost use Rattle.wac_call_lists.specs.Answer.{accepted, refused, IsPlainAnswer};
+ghost use Rattle.wac_call_lists.specs.PlainList.{IsPlainList};
+ghost use Rattle.wac_refusals.specs.declared.error.AggregateError.TheVariants.{Memory};
 ghost use Rattle.wac_call_lists.specs.Call as listed;
 ghost use Rattle.wac_aggregator.specs.HandedIn.{handed_in};
 ghost use Rattle.wac_aggregator.specs.Content.{shown};
@@ -32,6 +35,10 @@ pub struct Call<'a> {
 ///
 /// The items stand in their collections, none of which has this number; equal numbers mean one collection.
 ///
+/// A list of items that reach no interfaces with identifiers, no uses and no owners is accepted, but for want of
+/// memory, exactly where the items of each track of names have a common lower bound, whatever the order of calls; each
+/// import is then the greatest of these.
+///
 /// The first refusal is answered with the number of its call, from 0 on. No pair with an id of the number stays in the
 /// checker's cache; nothing else of the checker changes.
 pub fn aggregate_all(
@@ -44,6 +51,7 @@ pub fn aggregate_all(
     requires one { (c d : listed.Call) → Contains (handed_in calls.now) c → Contains (handed_in calls.now) d → c.types.number ≡ d.types.number → c.types ≡ d.types }
     requires apart { (c : listed.Call) → Contains (handed_in calls.now) c → c.types.number ≢ number }
     ensures aggregated { IfOk result (λ a. IsAggregated (handed_in calls.now) (shown a)) }
+    ensures plain { IsPlainList (handed_in calls.now) → MatchResult result (λ a. IsPlainAnswer (handed_in calls.now) (accepted (track_imports (shown a)))) (λ e. e.error ≢ Memory → IsPlainAnswer (handed_in calls.now) (refused e.at)) }
     ensures by_track { IfOk result (λ a. IsByTrack (shown a)) }
     ensures number { IfOk result (λ a. a.types.number ≡ number) }
     ensures at { IfErr result (λ e. e.at < length calls.now) }

@@ -1,7 +1,11 @@
 //! The cases of items.
 
-ghost use Rattle.std.specs.Prelude.{◌≡◌, [], ◌∷◌, IfSome};
+ghost use Rattle.std.specs.Prelude.{◌≡◌, [], ◌∷◌, IfSome, false};
+ghost use Rattle.wac_component.specs.Collection.{Collection};
 ghost use Rattle.wac_component.specs.Key.{item_keys, interface_key};
+ghost use Rattle.wac_component.specs.Tree.{item_tree};
+ghost use Rattle.wac_component.specs.declared.items.ItemKind.TheVariants.{«Type» as OfType};
+ghost use Rattle.wac_call_lists.specs.Case.{case_of};
 
 use wac_component::{InterfaceId, ItemKind, Type};
 
@@ -17,26 +21,65 @@ pub(crate) fn interface_of(kind: &ItemKind) -> Option<InterfaceId>
 }
 
 /// Whether two items are of one case, and where they are types, the types are.
-pub(crate) fn same_case(a: ItemKind, b: ItemKind) -> bool {
-    match (&a, &b) {
-        (ItemKind::Type(x), ItemKind::Type(y)) => same_type_case(*x, *y),
-        (ItemKind::Func(_), ItemKind::Func(_))
-        | (ItemKind::Instance(_), ItemKind::Instance(_))
-        | (ItemKind::Component(_), ItemKind::Component(_))
-        | (ItemKind::Module(_), ItemKind::Module(_))
-        | (ItemKind::Value(_), ItemKind::Value(_)) => true,
-        _ => false,
+pub(crate) fn same_case(a: ItemKind, b: ItemKind) -> bool
+    ensures { result ≡ false → (c d : Collection) → ¬ (case_of (item_tree c a) ≡ case_of (item_tree d b)) }
+{
+    match a {
+        ItemKind::Type(x) => match b {
+            ItemKind::Type(y) => same_type_case(x, y),
+            _ => false,
+        },
+        ItemKind::Func(_) => match b {
+            ItemKind::Func(_) => true,
+            _ => false,
+        },
+        ItemKind::Instance(_) => match b {
+            ItemKind::Instance(_) => true,
+            _ => false,
+        },
+        ItemKind::Component(_) => match b {
+            ItemKind::Component(_) => true,
+            _ => false,
+        },
+        ItemKind::Module(_) => match b {
+            ItemKind::Module(_) => true,
+            _ => false,
+        },
+        ItemKind::Value(_) => match b {
+            ItemKind::Value(_) => true,
+            _ => false,
+        },
     }
 }
 
-fn same_type_case(a: Type, b: Type) -> bool {
-    match (&a, &b) {
-        (Type::Resource(_), Type::Resource(_))
-        | (Type::Func(_), Type::Func(_))
-        | (Type::Value(_), Type::Value(_))
-        | (Type::Interface(_), Type::Interface(_))
-        | (Type::World(_), Type::World(_))
-        | (Type::Module(_), Type::Module(_)) => true,
-        _ => false,
+// The same of two types.
+fn same_type_case(a: Type, b: Type) -> bool
+    ensures { result ≡ false → (c d : Collection) → ¬ (case_of (item_tree c (OfType a)) ≡ case_of (item_tree d (OfType b))) }
+{
+    match a {
+        Type::Resource(_) => match b {
+            Type::Resource(_) => true,
+            _ => false,
+        },
+        Type::Func(_) => match b {
+            Type::Func(_) => true,
+            _ => false,
+        },
+        Type::Value(_) => match b {
+            Type::Value(_) => true,
+            _ => false,
+        },
+        Type::Interface(_) => match b {
+            Type::Interface(_) => true,
+            _ => false,
+        },
+        Type::World(_) => match b {
+            Type::World(_) => true,
+            _ => false,
+        },
+        Type::Module(_) => match b {
+            Type::Module(_) => true,
+            _ => false,
+        },
     }
 }

@@ -1,12 +1,15 @@
 //! One call: an item becomes an import, or is merged into one.
 
-ghost use Rattle.std.specs.Prelude.{◌≡◌, Some, None, IfOk};
+ghost use Rattle.std.specs.Prelude.{◌≡◌, ◌⊎◌, Some, None, IsSome, IfErr, MatchResult};
 ghost use Rattle.std.specs.Option.{option_map};
 ghost use Rattle.wac_component.specs.Key.{AllStand, item_keys};
+ghost use Rattle.wac_component.specs.Tree.{item_tree};
+ghost use Rattle.wac_call_lists.specs.Case.{case_of};
 ghost use Rattle.wac_imports.specs.Import.{import_of};
 ghost use Rattle.wac_names.specs.Class.{class_of};
+ghost use Rattle.wac_refusals.specs.declared.error.AggregateError.TheVariants.{Memory};
 ghost use Rattle.wac_taking.specs.Takes.{MayTake};
-ghost use Rattle.wac_aggregator.specs.Advances.{Advances, IsAdded};
+ghost use Rattle.wac_aggregator.specs.Advances.{Advances, IsAdded, IsRefusedCall};
 
 use super::cases::{interface_of, same_case};
 use super::noting::note_import;
@@ -25,7 +28,7 @@ pub(crate) fn advance(
 ) -> Result<(), AggregateError>
     requires source { AllStand types.now (item_keys kind) }
     requires state { MayTake types.now state.old }
-    ensures { IfOk result (λ u. Advances (record { name = name.now; types = types.now; kind = kind }) state.old state.new) }
+    ensures { MatchResult result (λ u. Advances (record { name = name.now; types = types.now; kind = kind }) state.old state.new) (IsRefusedCall (record { name = name.now; types = types.now; kind = kind }) state.old) }
 {
     match note_handed_in(state, types, &kind) {
         Ok(()) => import(state, name, types, kind),
@@ -61,7 +64,7 @@ fn import(
 ) -> Result<(), AggregateError>
     requires source { AllStand types.now (item_keys kind) }
     requires state { MayTake types.now state.old }
-    ensures { IfOk result (λ u. Advances (record { name = name.now; types = types.now; kind = kind }) state.old state.new) }
+    ensures { MatchResult result (λ u. Advances (record { name = name.now; types = types.now; kind = kind }) state.old state.new) (IsRefusedCall (record { name = name.now; types = types.now; kind = kind }) state.old) }
 {
     let class = NameClass::of(state.alloc(), name)?;
     match state.imports.kind_of(&class) {
@@ -82,7 +85,7 @@ fn add_import(
     requires state { MayTake types.now state.old }
     requires of { class ≡ class_of name.now }
     requires new { import_of state.old.imports class ≡ None }
-    ensures { IfOk result (λ u. Advances (record { name = name.now; types = types.now; kind = kind }) state.old state.new) }
+    ensures { MatchResult result (λ u. Advances (record { name = name.now; types = types.now; kind = kind }) state.old state.new) (IsRefusedCall (record { name = name.now; types = types.now; kind = kind }) state.old) }
 {
     match take_item(state, types, kind, None) {
         Ok(own) => put_import(state, class, name, own),
@@ -98,7 +101,7 @@ fn put_import(
     own: ItemKind,
 ) -> Result<(), AggregateError>
     requires of { class ≡ class_of name.now }
-    ensures { IfOk result (λ u. IsAdded state.old state.new name.now own) }
+    ensures { MatchResult result (λ u. IsAdded state.old state.new name.now own) (λ e. (e ≡ Memory) ⊎ IsSome (import_of state.old.imports (class_of name.now))) }
 {
     let name = String::from_str(state.alloc(), name)?;
     if state.imports.kind_of(&class).is_some() {
@@ -121,7 +124,7 @@ fn merge_import(
     requires state { MayTake types.now state.old }
     requires of { class ≡ class_of name.now }
     requires found { option_map (λ i. i.1) (import_of state.old.imports class) ≡ Some existing }
-    ensures { IfOk result (λ u. Advances (record { name = name.now; types = types.now; kind = kind }) state.old state.new) }
+    ensures { MatchResult result (λ u. Advances (record { name = name.now; types = types.now; kind = kind }) state.old state.new) (IsRefusedCall (record { name = name.now; types = types.now; kind = kind }) state.old) }
 {
     match check_case(&state.types, &existing, types, &kind) {
         Ok(()) => merge_taken(state, class, name, existing, types, kind),
@@ -142,7 +145,7 @@ fn merge_taken(
     requires state { MayTake types.now state.old }
     requires of { class ≡ class_of name.now }
     requires found { option_map (λ i. i.1) (import_of state.old.imports class) ≡ Some existing }
-    ensures { IfOk result (λ u. Advances (record { name = name.now; types = types.now; kind = kind }) state.old state.new) }
+    ensures { MatchResult result (λ u. Advances (record { name = name.now; types = types.now; kind = kind }) state.old state.new) (IsRefusedCall (record { name = name.now; types = types.now; kind = kind }) state.old) }
 {
     let near = interface_of(&existing);
     match take_item(state, types, kind, near) {
@@ -160,6 +163,7 @@ fn check_case(
 ) -> Result<(), AggregateError>
     requires existing { AllStand own.now (item_keys existing.now) }
     requires found { AllStand types.now (item_keys kind.now) }
+    ensures { IfErr result (λ e. ¬ (case_of (item_tree own.now existing.now) ≡ case_of (item_tree types.now kind.now))) }
 {
     if same_case(*existing, *kind) {
         return Ok(());

@@ -1,9 +1,11 @@
 -- One copying after another.
 use Rattle.std.proofs.Common.{◌≡◌, ◌<◌, ◌≤◌, ℕ, Option, Some, None, inl, inr, refl, ap, sym, subst, ◌∙◌, arith}
 use Rattle.wac_component.specs.Collection.{Collection}
-use Rattle.wac_component.specs.Growth.{with_entry}
+use Rattle.wac_component.specs.Growth.{Extends, with_entry}
 use Rattle.wac_component.specs.Height.{height}
 use Rattle.wac_component.specs.Key.{Key, Entry}
+use Rattle.wac_component.proofs.Adding.{Extends-with_entry}
+use Rattle.wac_component.proofs.Extended.{Extends-refl, Extends-trans}
 use Rattle.wac_names.specs.Class.{class_of}
 use Rattle.wac_narrowing.specs.Entering.{AddsCopy, IsCopiedInto}
 use Rattle.wac_narrowing.specs.Last.{last_key}
@@ -31,6 +33,7 @@ module _ (f : Collection) where
   pub Copies-none : (c : Collection) (m : Memo) (top : ℕ) (Q : State → Type 0) → ((s : State) → IsState f c m s → Q s) → Copies f c m c m top Q
   Copies-none c m top Q q = record {
     low = λ k h none. none;
+    grows = λ s is. Extends-refl c;
     runs = λ s h. let same = sym (moved-same f c m s h) in (subst (λ t. Runs (RemembersTruly class_of) f s t) same (Runs-refl (RemembersTruly class_of) f s), subst Q same (q s h));
   }
 
@@ -38,6 +41,7 @@ module _ (f : Collection) where
   pub Copies-more : (c d : Collection) (m n : Memo) (top more : ℕ) (Q P : State → Type 0) → top ≤ more → ((t : State) → IsKept t → Q t → P t) → Copies f c m d n top Q → Copies f c m d n more P
   Copies-more c d m n top more Q P low p h = record {
     low = λ k above none. h.low k (omega (arith, low, above)) none;
+    grows = h.grows;
     runs = λ s is. let r = h.runs s is in (r.0, p (moved s d n) (r.0.kept is.kept) r.1);
   }
 
@@ -46,6 +50,7 @@ module _ (f : Collection) where
       → ((s t : State) → IsKept s → Runs (RemembersTruly class_of) f s t → Q s → Q t) → Copies f c m d n top Q → Copies f d n e o more P → Copies f c m e o most (λ t. Q t × P t)
   Copies-then c d e m n o top more most Q P low below stays g h = record {
     low = λ k above none. h.low k (omega (arith, below, above)) (g.low k (omega (arith, low, above)) none);
+    grows = λ s is. Extends-trans c d e (g.grows s is) (h.grows (moved s d n) (IsState-moved c d m n s is (g.runs s is).0));
     runs = λ s is.
         let r = g.runs s is in
         let u : State = moved s d n in
@@ -66,6 +71,7 @@ module _ (f : Collection) where
       → Copies f c m e o (height f theirs) (λ t. IsCopy f t.own t.shared theirs own)
   Copies-enter c d e m n o theirs own z low Q number below g added last adds enters = record {
     low = λ k above absent. still_none k (λ same. omega (arith, above, ap (height f) same)) (g.low k (omega (arith, below, above)) absent) (memo_of o k) refl;
+    grows = λ s is. Extends-trans c d e (g.grows s is) (subst (Extends d) (sym added) (Extends-with_entry d z ((g.runs s is).0.kept is.kept).good.sound));
     runs = λ s is.
         let r = g.runs s is in
         let u : State = moved s d n in

@@ -1,6 +1,7 @@
 -- What copying does to the state of merging.
 use Rattle.std.specs.Prelude.{◌≡◌, ◌<◌, ℕ, None}
 use Rattle.wac_component.specs.Collection.{Collection, AliasContent, UseContent}
+use Rattle.wac_component.specs.Growth.{Extends}
 use Rattle.wac_component.specs.Height.{height}
 use Rattle.wac_component.specs.Key.{Key, AllStand, alias_keys, interface_key}
 use Rattle.wac_component.specs.Tree.{root_name}
@@ -28,9 +29,10 @@ pub record MayCopy (f c : Collection) (m : Memo) : Type 0 where
 abbrev pub moved : State → Collection → Memo → State
 moved s d n = record s { own = d; copies = memo_of n }
 
--- what copying from f does to the own collection and to what was copied: each state runs on to one of which the fact holds, and no id above the height is noted
+-- what copying from f does to the own collection and to what was copied: entries are only added, each state runs on to one of which the fact holds, and no id above the height is noted
 pub record Copies (f c : Collection) (m : Memo) (d : Collection) (n : Memo) (top : ℕ) (Holds : State → Type 0) : Type 0 where
   pub low : (k : Key) → top < height f k → memo_of m k ≡ None → memo_of n k ≡ None
+  pub grows : (s : State) → IsState f c m s → Extends c d
   pub runs : (s : State) → IsState f c m s → Runs (RemembersTruly class_of) f s (moved s d n) × Holds (moved s d n)
 
 -- the own alias names copies of what the foreign one names

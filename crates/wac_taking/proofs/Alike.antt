@@ -15,6 +15,7 @@ use Rattle.wac_component.specs.Sound.{IsSound}
 use Rattle.wac_component.specs.Tree.{item_tree, root_name, value_tree}
 use Rattle.wac_component.specs.declared.items.ItemKind.{ItemKind}
 use Rattle.wac_component.specs.declared.items.ValueType.TheVariants.{Defined}
+use Rattle.wac_component.proofs.Extended.{Extends-refl}
 use Rattle.wac_component.proofs.Among.{among_each, among_right, each_among, each_found, Contains-first, Contains-later, among_either, among_single}
 use Rattle.wac_component.proofs.Keys.{largest-append}
 use Rattle.wac_component.proofs.Lists.{slice_get-map}
@@ -299,6 +300,7 @@ module _ (f : Collection) (sound : IsSound f) (a b : Merging) (now : Memo) (thei
         stays = λ q i is. is;
         due = λ q i is. inl is;
         shares = λ e among. inl among;
+        plain = λ p. record { grows = Extends-refl b.types; shared = refl; imports = refl };
         holds = tt;
       } in
       Takes-after f a b c (keys_height f (owners_keys f rs)) (height f theirs) (map resource_key rs) (theirs ∷ []) (AreOwnersTaken f rs) (λ u. Unit {0}) (omega (arith, owners_lower f sound theirs rs stands is_type made)) (owned_within_type f sound theirs rs made) may g noted

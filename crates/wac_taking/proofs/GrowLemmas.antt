@@ -5,7 +5,7 @@ use Rattle.std.proofs.lemmas.Map.Iter.{rest_so_far, rest_more}
 use Rattle.std.specs.Iterator.{Yields}
 use Rattle.std.specs.Map.{lookup as lookup_by}
 use Rattle.std.specs.Map.Iter.{TakesFirst}
-use Rattle.std.proofs.lemmas.List.Elements.{All-head, All-tail}
+use Rattle.std.proofs.lemmas.List.Elements.{All-cons, All-head, All-nil, All-tail}
 use Rattle.std.specs.Option.{option_or, option_map}
 use Rattle.std.specs.Str.{bytes_eq}
 use Rattle.indexmap.specs.IndexMap.{insert_entry}
@@ -131,14 +131,19 @@ module _ (P : Key → Type 0) where
 
 -- of two items, what was built of them
 pub built_met : (c d : Collection) (o : Origins) (a b m : ItemKind) → IsSound c → IsSound d → OnlyBuilds c d o → IsBuilt c d o a b m → AllStand c (item_keys a) → AllStand c (item_keys b) → AllStand d (item_keys m)
-    → Fits (item_tree d m) (item_tree c a) → Fits (item_tree d m) (item_tree c b) → IsMetWith c d a b m
-built_met c d o a b m sound sound_too only built sa sb sm fa fb = record {
+    → Fits (item_tree d m) (item_tree c a) → Fits (item_tree d m) (item_tree c b) → ((t : ItemTree) → Fits t (item_tree c a) → Fits t (item_tree c b) → Fits t (item_tree d m)) → IsMetWith c d a b m
+built_met c d o a b m sound sound_too only built sa sb sm fa fb greatest = record {
   on = record { grows = only.extends; steps = λ ss g. building_steps c d ss o g sound_too only };
   stands = sm;
   fits_first = fa;
   fits_second = fb;
+  greatest = greatest;
   covered = λ ss g ha hb. built_covered c d o sound only sound_too ss a b m built sa sb ha hb;
 }
+
+-- what fits where either of two is asked for
+pub below_both : (t a b : ItemTree) → Fits t a → Fits t b → IsLowerBound t (a ∷ b ∷ [])
+below_both t a b x y = All-cons (Fits t) a (b ∷ []) x (All-cons (Fits t) b [] y (All-nil (Fits t)))
 
 -- where there is one, and where there is none
 pub built_if_any : (c d : Collection) (o : Origins) (a b : ItemKind) (r : Option ItemKind) → IsSound c → IsSound d → OnlyBuilds c d o → Extends c d → AllStand c (item_keys a) → AllStand c (item_keys b) → IfSome r (IsBuilt c d o a b) → IfSome r (λ m. AllStand d (item_keys m))
@@ -150,6 +155,7 @@ built_if_any c d o a b (Some m) sound sound_too only grows sa sb built st meet =
     built_met c d o a b m sound sound_too only built sa sb st
     (All-head fits (item_tree c a) (item_tree c b ∷ []) meet.is_below)
     (All-head fits (item_tree c b) [] (All-tail fits (item_tree c a) (item_tree c b ∷ []) meet.is_below))
+    (λ t x y. meet.is_greatest t (below_both t (item_tree c a) (item_tree c b) x y))
 
 -- of exports with no others, with one, and with one more
 pub met_none : (c : Collection) (es : Externs) → AllStand c (extern_keys es) → AreMetWith c c es [] es

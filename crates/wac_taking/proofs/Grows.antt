@@ -34,6 +34,7 @@ use Rattle.wac_taking.specs.Takes.{shared_in, state_of, MayTake, MayPut, Takes}
 use Rattle.wac_taking.specs.declared.state.Merging.{Merging}
 use Rattle.wac_taking.proofs.Enters.{interface_owners}
 use Rattle.wac_taking.proofs.GrowLemmas.{covered_on, served_on}
+use Rattle.wac_taking.proofs.Plain.{not_plain_interface}
 use Rattle.wac_taking.proofs.TakeLemmas.{lookup-shared, shared_stands, shared_covered, content_identifier, AreFiledIn-run, Takes-entered}
 
 -- the entry of an id, by the list of its sort
@@ -131,4 +132,5 @@ module _ (f : Collection) (a : Merging) (may : MayTake f a) (p e : Id) (name : T
       (served_on a.types d met.on d new.exports es (Each-right (Stands a.types) (named_keys use_keys us) (extern_keys es) taken_named) met.serve_second) acyclic is refl refl refl put.taken.stands.0 adds in
       let whole = Runs-trans (RemembersTruly class_of) f (state_of a) mid t run enters.run in
       Takes-entered f a (record a { types = w; taken = n }) (interface_key p) (interface_key e) put.taken.sound put.taken.stands adds refl (AreFiledIn-run f (state_of a) t a.shared.entries may.kept refl whole may.filed) (λ k m. inl m)
+      (λ q. absurd (not_plain_interface f p name identified q))
       (interface_owners f (state_of a) put.taken.sound may.kept p put.content z put.taken) (record { run = whole; taken = enters.taken })

@@ -6,3 +6,6 @@ pub mod Arms
 pub mod Enters
 pub mod Within
 pub mod Alike
+pub mod Identifiers
+pub mod Plain
+pub mod UseLemmas

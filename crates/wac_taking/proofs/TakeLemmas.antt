@@ -5,7 +5,7 @@ use Rattle.std.specs.Option.{option_map, option_map_or, is_some}
 use Rattle.wac_model.specs.Text.{Text}
 use Rattle.wac_component.specs.Collection.{Collection, UseContent, InterfaceContent}
 use Rattle.wac_component.specs.Entries.{entry_identifier, identifier_at, owner_at}
-use Rattle.wac_component.specs.Growth.{with_entry}
+use Rattle.wac_component.specs.Growth.{Extends, with_entry}
 use Rattle.wac_component.specs.Height.{height}
 use Rattle.wac_component.specs.Id.{Id}
 use Rattle.wac_component.specs.Key.{Key, Entry, Each, Stands, AllStand, item_keys, resource_key, interface_key}
@@ -32,8 +32,11 @@ use Rattle.wac_imports.specs.Import.{ImportContent, ImportsContent, import_of, i
 use Rattle.wac_copies.specs.Copies.{MayCopy, Copies, moved}
 use Rattle.wac_copies.specs.Memo.{memo_of}
 use Rattle.wac_copies.specs.declared.memo.Memo.{Memo}
-use Rattle.wac_taking.specs.Takes.{shared_keys, shared_in, state_of, AreFiledIn, MayTake, AreWithin, LeadsToOwner, OwnersImported, IsOwnersImport, IsSharedFrom, IsOwnerImported, Takes}
+use Rattle.wac_taking.specs.Takes.{shared_keys, shared_in, state_of, AreFiledIn, MayTake, AreWithin, LeadsToOwner, OwnersImported, IsOwnersImport, IsSharedFrom, IsOwnerImported, OnlyAdds, Takes}
 use Rattle.wac_taking.specs.declared.state.Merging.{Merging}
+use Rattle.wac_component.proofs.Adding.{Extends-with_entry}
+use Rattle.wac_call_lists.specs.PlainList.{ArePlain}
+use Rattle.wac_taking.proofs.Plain.{OnlyAdds-refl, OnlyAdds-trans, plain_within, not_plain_owner}
 use Rattle.wac_taking.proofs.Within.{within_all, openly_within, leads_within}
 
 -- what is found is shared
@@ -114,6 +117,7 @@ module _ (f : Collection) where
     stays = λ c i is. is;
     due = λ c i is. inl is;
     shares = λ e among. inl among;
+    plain = λ p. OnlyAdds-refl a;
     holds = q;
   }
 
@@ -128,6 +132,7 @@ module _ (f : Collection) where
     stays = h.stays;
     due = λ q i is. elim (h.due q i is) [ inl was ↦ inl was | inr new ↦ inr (owners_import_within f b ks js within q i.0 new) ];
     shares = λ e among. elim (h.shares e among) [ inl was ↦ inl was | inr new ↦ inr (shared_from_within f b ks js within e new) ];
+    plain = λ p. h.plain (plain_within f ks js within p);
     holds = p (state_of b) (h.run.kept may.kept) h.holds;
   }
 
@@ -157,6 +162,7 @@ module _ (f : Collection) where
           ]
           | inr new ↦ inr (shared_from_within f c js ls second e new)
         ];
+        plain = λ p. OnlyAdds-trans a b c (g.plain (plain_within f ks ls first p)) (h.plain (plain_within f js ls second p));
         holds = (stays (state_of b) (state_of c) kept h.run g.holds, h.holds);
       }
 
@@ -198,6 +204,7 @@ module _ (f : Collection) where
         stays = λ c i is. is;
         due = λ c i is. inl is;
         shares = λ e among. inl among;
+        plain = λ p. record { grows = h.grows (state_of a) (record { own = refl; copies = refl; kept = may.kept; truly = may.truly }); shared = refl; imports = refl };
         holds = r.1;
       }
 
@@ -238,8 +245,8 @@ module _ (f : Collection) where
   -- what was taken in entered, and nothing was imported
   pub Takes-entered : (a c : Merging) (theirs own : Key) → IsSound f → Stands f theirs → AddsPair (memo_of a.taken) (memo_of c.taken) theirs own → c.imports ≡ a.imports → AreFiledIn c.types c.shared.entries
       → ((e : Key) → IsAmong e (shared_keys c.shared.entries) → IsAmong e (shared_keys a.shared.entries) ⊎ IsSharedFrom f (theirs ∷ []) c e)
-      → HasOwners (state_of a) theirs → IsEntered class_of f (state_of a) (state_of c) theirs own → Takes f a c (height f theirs) (theirs ∷ []) (λ t. IsTakenKey class_of f t theirs own)
-  Takes-entered a c theirs own sound stands adds same filed shares has in_to = record {
+      → (ArePlain f (theirs ∷ []) → OnlyAdds a c) → HasOwners (state_of a) theirs → IsEntered class_of f (state_of a) (state_of c) theirs own → Takes f a c (height f theirs) (theirs ∷ []) (λ t. IsTakenKey class_of f t theirs own)
+  Takes-entered a c theirs own sound stands adds same filed shares plain has in_to = record {
     low = λ k above absent. still_none (memo_of a.taken) (memo_of c.taken) theirs own k adds (λ e. omega (arith, above, ap (height f) e)) absent (memo_of c.taken k) refl;
     run = in_to.run;
     filed = filed;
@@ -248,6 +255,7 @@ module _ (f : Collection) where
     stays = λ q i is. ap (λ s. import_of s q) same ∙ is;
     due = λ q i is. inl (ap (λ s. import_of s q) (sym same) ∙ is);
     shares = shares;
+    plain = plain;
     holds = in_to.taken;
   }
 
@@ -262,7 +270,8 @@ module _ (f : Collection) where
       let in_to = enters (state_of c) kept g.holds adds_entry (ap (λ (m : Merging). (state_of m).shared) same) in
       let filed : AreFiledIn c.types c.shared.entries = subst (λ (ss : List (Class × Id)). AreFiledIn c.types ss) (ap (λ (m : Merging). m.shared.entries) (sym same)) (AreFiledIn-run (state_of b) (state_of c) b.shared.entries kept refl in_to.0.run g.filed) in
       Takes-after a b c low (height f theirs) ks (theirs ∷ []) Q (λ t. IsTakenKey class_of f t theirs own) below within may g
-      (Takes-entered b c theirs own sound stands adds (ap (λ (m : Merging). m.imports) same) filed (λ e among. inl (subst (IsAmong e) (ap (λ (m : Merging). shared_keys m.shared.entries) same) among)) in_to.1
+      (Takes-entered b c theirs own sound stands adds (ap (λ (m : Merging). m.imports) same) filed (λ e among. inl (subst (IsAmong e) (ap (λ (m : Merging). shared_keys m.shared.entries) same) among))
+      (λ p. record { grows = subst (Extends b.types) (sym added) (Extends-with_entry b.types z kept.good.sound); shared = ap (λ (m : Merging). m.shared.entries) same; imports = ap (λ (m : Merging). m.imports) same }) in_to.1
       (subst (λ k. IsEntered class_of f (state_of b) (state_of c) theirs k) (sym last) in_to.0))
 
   -- shared entries stay filed where one is added, under the class of its identifier
@@ -323,6 +332,7 @@ module _ (f : Collection) where
       stays = kept_of;
       due = due;
       shares = λ e m. inl m;
+      plain = λ p. absurd (not_plain_owner f ks from owner_name among leads p);
       holds = rw (ap (λ c. option_map (λ (i : ImportContent). i.1) (import_of is c)) on ∙ ap (option_map (λ (i : ImportContent). i.1)) (puts q ∙ ap (λ t. cond t (Some (name, Instance own)) (import_of a.imports q)) ((classes_decided q q).1 refl))) refl;
     }
       where

@@ -6,6 +6,7 @@ use Rattle.std.specs.Option.{option_and_then}
 use Rattle.wac_model.specs.Text.{Text}
 use Rattle.wac_component.specs.Collection.{Collection, AliasContent, UseContent, InterfaceContent}
 use Rattle.wac_component.specs.Entries.{identifier_at, owner_at}
+use Rattle.wac_component.specs.Growth.{Extends}
 use Rattle.wac_component.specs.Height.{height}
 use Rattle.wac_component.specs.Id.{Id}
 use Rattle.wac_component.specs.Key.{Key, Stands, alias_keys, optional_keys, resource_key, interface_key}
@@ -14,6 +15,7 @@ use Rattle.wac_component.specs.Reach.{IsAmong}
 use Rattle.wac_component.specs.Tree.{root_name}
 use Rattle.wac_component.specs.declared.items.ItemKind.{ItemKind}
 use Rattle.wac_names.specs.Class.{Class, class_eq, class_of}
+use Rattle.wac_call_lists.specs.PlainList.{ArePlain}
 use Rattle.wac_narrowing.specs.Entering.{InterfaceIsTaken}
 use Rattle.wac_narrowing.specs.Identified.{IsCovered}
 use Rattle.wac_narrowing.specs.Remembers.{RemembersTruly}
@@ -98,7 +100,13 @@ pub record IsSharedFrom (f : Collection) (ks : List Key) (b : Merging) (e : Key)
   pub identified : identifier_at f theirs ≡ Some name
   pub own_identified : identifier_at b.types e ≡ Some name
 
--- what taking in from f does: the state runs on to one of which the fact holds, and no id above the height is noted; each owner is imported still. What is imported stays; what is new is an owner to which the ids openly lead, and each new shared entry has the identifier of an interface to which they do
+-- entries were added to the own collection, and nothing else became another: neither shared entries nor imports
+pub record OnlyAdds (a b : Merging) : Type 0 where
+  pub grows : Extends a.types b.types
+  pub shared : b.shared.entries ≡ a.shared.entries
+  pub imports : b.imports ≡ a.imports
+
+-- what taking in from f does: the state runs on to one of which the fact holds, and no id above the height is noted; each owner is imported still. What is imported stays; what is new is an owner to which the ids openly lead, and each new shared entry has the identifier of an interface to which they do. Where the ids are plain, entries are only added
 pub record Takes (f : Collection) (a b : Merging) (top : ℕ) (ks : List Key) (Holds : State → Type 0) : Type 0 where
   pub low : (k : Key) → top < height f k → memo_of a.taken k ≡ None → memo_of b.taken k ≡ None
   pub run : Runs (RemembersTruly class_of) f (state_of a) (state_of b)
@@ -108,6 +116,7 @@ pub record Takes (f : Collection) (a b : Merging) (top : ℕ) (ks : List Key) (H
   pub stays : (q : Class) (i : ImportContent) → import_of a.imports q ≡ Some i → import_of b.imports q ≡ Some i
   pub due : (q : Class) (i : ImportContent) → import_of b.imports q ≡ Some i → (import_of a.imports q ≡ Some i) ⊎ IsOwnersImport f ks b q i.0
   pub shares : (e : Key) → IsAmong e (shared_keys b.shared.entries) → IsAmong e (shared_keys a.shared.entries) ⊎ IsSharedFrom f ks b e
+  pub plain : ArePlain f ks → OnlyAdds a b
   pub holds : Holds (state_of b)
 
 -- what the resource is another name of, if it is

@@ -1,6 +1,6 @@
 //! Shared entries that grow.
 
-ghost use Rattle.std.specs.Prelude.{◌≡◌, [], ◌∷◌, Some, IfOk, OnOk, length, slice_set, string_bytes};
+ghost use Rattle.std.specs.Prelude.{◌≡◌, [], ◌∷◌, Some, IfOk, MatchResult, OnOk, length, slice_set, string_bytes};
 ghost use Rattle.wac_component.specs.Collection.{InterfaceContent};
 ghost use Rattle.wac_component.specs.Content.{named, use_content, interface_content};
 ghost use Rattle.wac_component.specs.Entries.{identifier_at};
@@ -12,6 +12,7 @@ ghost use Rattle.wac_names.specs.Class.{class_of};
 ghost use Rattle.wac_narrowing.specs.Narrows.{grown};
 ghost use Rattle.wac_narrowing.specs.Taking.{IsTakenKey};
 ghost use Rattle.wac_taking.specs.Growing.{IsMetWith, AreMetWith};
+ghost use Rattle.wac_taking.specs.Refused.{IsRefused};
 ghost use Rattle.wac_taking.specs.Takes.{MayTake, MayPut, Takes, shared_in};
 
 use super::meeting::meet_own;
@@ -67,7 +68,7 @@ pub(crate) fn grow(
     requires identified { identifier_at types.now (interface_key id) ≡ Some (string_bytes name) }
     requires shared { shared_in state.old.shared.entries (class_of (string_bytes name)) ≡ Some own }
     requires taken { MayPut types.now state.old id (named use_content uses.entries) (named (λ k. k) exports.entries) }
-    ensures { IfOk result (λ r. Takes types.now state.old state.new (height types.now (interface_key id)) (interface_key id ∷ []) (λ t. IsTakenKey class_of types.now t (interface_key id) (interface_key r))) }
+    ensures { MatchResult result (λ r. Takes types.now state.old state.new (height types.now (interface_key id)) (interface_key id ∷ []) (λ t. IsTakenKey class_of types.now t (interface_key id) (interface_key r))) (IsRefused types.now (interface_key id ∷ [])) }
 {
     let alloc = state.alloc();
     let mut entry = state.types[own].clone()?;

@@ -1,7 +1,10 @@
 //! Uses of one name.
 
+ghost use Rattle.std.specs.Prelude.{◌≡◌, ◌⊎◌, [], ◌∷◌, IfErr};
 ghost use Rattle.wac_component.specs.Content.{named, use_content};
 ghost use Rattle.wac_component.specs.Key.{Stands, AllStand, item_keys, type_keys, interface_key, world_key, named_keys, use_keys};
+ghost use Rattle.wac_refusals.specs.declared.error.AggregateError.TheVariants.{Memory};
+ghost use Rattle.wac_taking.specs.Refused.{IsUsesRefusal};
 
 use indexmap::IndexMap;
 use std::alloc::{AllocError, Global};
@@ -19,6 +22,7 @@ pub fn check_uses_of(
 ) -> Result<(), AggregateError>
     requires existing { AllStand types.now (item_keys existing) }
     requires new { AllStand types.now (item_keys new) }
+    ensures { IfErr result (IsUsesRefusal types.now (item_keys new)) }
 {
     match (&existing, &new) {
         (ItemKind::Instance(a), ItemKind::Instance(b)) => check_interfaces(alloc, types, *a, *b),
@@ -37,6 +41,7 @@ fn check_types(
 ) -> Result<(), AggregateError>
     requires existing { AllStand types.now (type_keys existing) }
     requires new { AllStand types.now (type_keys new) }
+    ensures { IfErr result (IsUsesRefusal types.now (type_keys new)) }
 {
     match (&existing, &new) {
         (Type::Interface(a), Type::Interface(b)) => check_interfaces(alloc, types, *a, *b),
@@ -54,6 +59,7 @@ fn check_interfaces(
 ) -> Result<(), AggregateError>
     requires existing { Stands types.now (interface_key existing) }
     requires new { Stands types.now (interface_key new) }
+    ensures { IfErr result (IsUsesRefusal types.now (interface_key new ∷ [])) }
 {
     check_uses(alloc, types, &types[existing].uses, &types[new].uses)
 }
@@ -67,6 +73,7 @@ fn check_worlds(
 ) -> Result<(), AggregateError>
     requires existing { Stands types.now (world_key existing) }
     requires new { Stands types.now (world_key new) }
+    ensures { IfErr result (IsUsesRefusal types.now (world_key new ∷ [])) }
 {
     check_uses(alloc, types, &types[existing].uses, &types[new].uses)
 }
@@ -80,6 +87,7 @@ pub(crate) fn check_uses(
 ) -> Result<(), AggregateError>
     requires existing { AllStand types.now (named_keys use_keys (named use_content existing.now.entries)) }
     requires new { AllStand types.now (named_keys use_keys (named use_content new.now.entries)) }
+    ensures { IfErr result (λ e. (e ≡ Memory) ⊎ ¬ (named use_content new.now.entries ≡ [])) }
 {
     for (name, used) in new {
         if let Some(other) = existing.get(name) {

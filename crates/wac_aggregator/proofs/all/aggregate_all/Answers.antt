@@ -1,6 +1,14 @@
 use Rattle.std.proofs.Common.{◌∙◌, ap, subst, add-one, arith, take}
-use Rattle.std.proofs.lemmas.List.{length-map, take_all}
+use Rattle.std.proofs.lemmas.List.{drop_all, length-map, take_all}
+use Rattle.std.proofs.lemmas.List.Elements.{All-contains}
 use Rattle.wac_component.specs.Collection.{Collection}
+use Rattle.wac_call_lists.specs.Aggregated.{track_imports}
+use Rattle.wac_call_lists.specs.Answer.{accepted, refused}
+use Rattle.wac_call_lists.specs.Call.{Call}
+use Rattle.wac_call_lists.specs.PlainList.{IsPlain}
+use Rattle.wac_call_lists.proofs.PlainRuns.{plain_runs_answer}
+use Rattle.wac_aggregator.specs.Content.{shown, content_of}
+use Rattle.wac_aggregator.proofs.Plain.{run_starts, run_on, run_stops, run_ends, plain_step, plain_refusal}
 use Rattle.wac_imports.specs.Import.{ImportsContent, import_of}
 use Rattle.wac_aggregator.specs.HandedIn.{called, handed_in}
 use Rattle.wac_aggregator.specs.Served.{AreServed}
@@ -15,6 +23,7 @@ loop-at-init c =
     record {
       order = start.in_order;
       number = ap (λ (t : Collection). t.number) start.empty;
+      runs = λ p. run_starts (handed_in c.args.calls.now) c.no_imports-state.result start.imports;
       served = none_served (handed_in c.args.calls.now) c.no_imports-state.result start.taken start.copies (λ q. ap (λ (is : ImportsContent). import_of is q) start.imports) start.shared;
     }
 
@@ -41,6 +50,7 @@ loop-at-preserved c =
     record {
       order = advances_in_order call c.loop-at.state c.advance.new.state may before.order.imports c.filed.ensures c.in_default.ensures;
       number = advances_number call c.loop-at.state c.advance.new.state may before.order.imports c.filed.ensures c.in_default.ensures ∙ before.number;
+      runs = λ p. rw add-one (run_on calls c.loop-at.at call at (track_imports (shown (content_of c.loop-at.state))) (track_imports (shown (content_of c.advance.new.state))) (plain_step call c.loop-at.state c.advance.new.state may before.order.imports c.filed.ensures c.in_default.ensures (All-contains (λ (d : Call). IsPlain d.types d.kind) calls call p among)) (before.runs p));
       served = rw add-one (one_more calls c.args.number c.requires.one c.requires.apart c.loop-at.at call c.loop-at.state c.advance.new.state at (c.requires.source call among) c.filed.ensures before.number before.order before.served c.in_default.ensures);
     }
 
@@ -52,3 +62,17 @@ returns-clause-aggregated c =
 
 pub returns-clause-by_track : goal.returns-clause-by_track
 returns-clause-by_track c = by_track c.loop-at.state c.loop-at.invariant.order.imports
+
+pub returns-in-Err-clause-plain : goal.returns-in-Err-clause-plain
+returns-in-Err-clause-plain c = λ p other.
+    let calls = handed_in c.args.calls.now in
+    let call = called c.index-calls-at.result in
+    let at = called_at c.args.calls.now c.loop-at.at c.index-calls-at.result c.loop-at-test.true c.index-calls-at.is in
+    let plain = All-contains (λ (d : Call). IsPlain d.types d.kind) calls call p (Contains-at calls c.loop-at.at call at) in
+    plain_runs_answer calls (refused c.loop-at.at) p (run_stops calls c.loop-at.at call at (track_imports (shown (content_of c.loop-at.state))) (plain_refusal call c.loop-at.state c.loop-at.invariant.order.imports (c.in-Err.ensures.plain plain other)) (c.loop-at.invariant.runs p))
+
+pub returns-clause-plain : goal.returns-clause-plain
+returns-clause-plain c = λ p.
+    let calls = handed_in c.args.calls.now in
+    let is = track_imports (shown (content_of c.loop-at.state)) in
+    plain_runs_answer calls (accepted is) p (run_ends calls c.loop-at.at is (drop_all c.loop-at.at calls (simp length-map (omega arith))) (c.loop-at.invariant.runs p))

@@ -1,10 +1,11 @@
 use Rattle.std.proofs.Common.{sym, subst}
-use Rattle.std.proofs.lemmas.Result.{IfOk-weaker}
+use Rattle.std.proofs.lemmas.Result.{MatchResult-weaker}
 use Rattle.wac_call_lists.specs.Call.{Call}
 use Rattle.wac_taking.specs.Takes.{MayTake}
 use Rattle.wac_taking.specs.declared.state.Merging.{Merging}
-use Rattle.wac_aggregator.specs.Advances.{Advances}
+use Rattle.wac_aggregator.specs.Advances.{Advances, IsRefusedCall}
 use Rattle.wac_aggregator.proofs.Calls.{told_may, told_advances}
+use Rattle.wac_aggregator.proofs.Refusing.{told_refused}
 use Rattle.wac_aggregator.proofs.importing.advance.Goals as goal
 
 pub import-requires-clause-state : goal.import-requires-clause-state
@@ -14,5 +15,6 @@ import-requires-clause-state c =
 pub returns-in-Ok : goal.returns-in-Ok
 returns-in-Ok c =
     let call : Call = record { name = c.args.name.now; types = c.args.types.now; kind = c.args.kind } in
-    IfOk-weaker c.import.result _ _
-    (λ u h. told_advances c.args.state.now c.note_handed_in.new.state.handed_in call c.import.new.state (subst (λ (m : Merging). Advances call m c.import.new.state) c.note_handed_in.ensures h)) c.import.ensures
+    MatchResult-weaker c.import.result c.import.ensures
+    (λ u h. told_advances c.args.state.now c.note_handed_in.new.state.handed_in call c.import.new.state (subst (λ (m : Merging). Advances call m c.import.new.state) c.note_handed_in.ensures h))
+    (λ e h. told_refused c.args.state.now c.note_handed_in.new.state.handed_in call e (subst (λ (m : Merging). IsRefusedCall call m e) c.note_handed_in.ensures h))

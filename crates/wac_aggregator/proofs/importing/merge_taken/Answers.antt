@@ -1,9 +1,10 @@
 use Rattle.std.proofs.Common.{◌≡◌, Some, IsSome, sym, subst}
 use Rattle.std.specs.Option.{option_map}
-use Rattle.std.proofs.lemmas.Result.{IfOk-weaker}
+use Rattle.std.proofs.lemmas.Result.{MatchResult-weaker}
 use Rattle.wac_call_lists.specs.Call.{Call}
 use Rattle.wac_imports.specs.Import.{ImportContent, import_of}
 use Rattle.wac_aggregator.proofs.Calls.{near_import, existing_stands, some_still, merged_advances}
+use Rattle.wac_aggregator.proofs.Refusing.{not_merged}
 use Rattle.wac_aggregator.proofs.importing.merge_taken.Goals as goal
 
 pub take_item-requires-clause-near : goal.take_item-requires-clause-near
@@ -15,7 +16,11 @@ pub returns-in-Ok : goal.returns-in-Ok
 returns-in-Ok c =
     let call : Call = record { name = c.args.name.now; types = c.args.types.now; kind = c.args.kind } in
     let found = subst (λ q. option_map (λ (i : ImportContent). i.1) (import_of c.args.state.now.imports q) ≡ Some c.args.existing) c.requires.of c.requires.found in
-    IfOk-weaker c.note_import.result _ _ (λ u h. merged_advances call c.args.state.now c.take_item.new.state c.in-Ok.own c.requires.state c.in-Ok.ensures c.args.existing found c.note_import.new.state h) c.note_import.ensures
+    MatchResult-weaker c.note_import.result c.note_import.ensures (λ u h. merged_advances call c.args.state.now c.take_item.new.state c.in-Ok.own c.requires.state c.in-Ok.ensures c.args.existing found c.note_import.new.state h)
+    (λ e h. not_merged call c.args.state.now c.take_item.new.state c.in-Ok.own c.requires.state c.in-Ok.ensures c.args.existing found e h)
+
+pub returns-in-Err : goal.returns-in-Err
+returns-in-Err c = record { plain = λ p other. absurd (other (c.in-Err.ensures.plain p)) }
 
 pub note_import-requires-clause-existing : goal.note_import-requires-clause-existing
 note_import-requires-clause-existing c =

@@ -18,6 +18,7 @@ use Rattle.wac_taking.specs.Takes.{shared_keys, state_of}
 use Rattle.wac_taking.proofs.TakeLemmas.{content_identifier, taken_as, Takes-entered, AreFiledIn-put, adds_last}
 use Rattle.wac_component.specs.Open.{stay}
 use Rattle.wac_component.specs.Reach.{here}
+use Rattle.wac_taking.proofs.Plain.{not_plain_interface}
 use Rattle.wac_taking.proofs.Enters.{interface_owners}
 use Rattle.wac_taking.proofs.entering.put_shared.Goals as goal
 
@@ -47,5 +48,6 @@ returns c =
       | inl is ↦ inr (record { theirs = theirs; name = string_bytes c.args.name; walk = (theirs, here, stay); identified = c.requires.identified; own_identified = ap (identifier_at now.types) (is ∙ sym last) ∙ identified })
       | inr stood ↦ inl stood
     ])
+    (λ p. absurd (not_plain_interface f c.args.id (string_bytes c.args.name) c.requires.identified p))
     (interface_owners f (state_of was) taken.sound c.requires.state.kept c.args.id c.requires.taken.content _ taken)
     (subst (λ k. IsEntered class_of f (state_of was) (state_of now) theirs k) (sym last) enters)

@@ -8,6 +8,7 @@ use Rattle.wac_narrowing.proofs.Entering.{interface_named}
 use Rattle.wac_taking.specs.Takes.{state_of}
 use Rattle.wac_taking.proofs.GrowLemmas.{each_used}
 use Rattle.wac_taking.proofs.Grows.{new_named, still_stands, Takes-grown}
+use Rattle.wac_taking.proofs.Plain.{refused_interface}
 use Rattle.wac_taking.proofs.TakeLemmas.{lookup-shared, shared_stands}
 use Rattle.wac_taking.proofs.growing.grow.Goals as goal
 
@@ -61,3 +62,15 @@ returns c =
     = λ P h g. subst (λ us. Each P (named_keys use_keys (named use_content us))) (sym c.in_ok-add_new.ensures.entries) (each_used P _ c.in_ok-entry.entry.uses.entries c.args.uses.entries h g) in
     Takes-grown c.args.types.now a c.requires.state c.args.id c.args.own (string_bytes c.args.name) (named use_content c.args.uses.entries) (extern_list c.args.exports) c.requires.taken c.requires.identified c.requires.shared old new was stand refl uses c.meet_exports.new.types c.in_ok-meet_exports.ensures
     c.replace.new.types c.put_interface.new.self c.in_ok-replace.ensures.acyclic c.in_ok-replace.ensures.grown (c.in_ok-put_interface.ensures c.requires.taken.absent)
+
+pub returns-in_err-check_uses : goal.returns-in_err-check_uses
+returns-in_err-check_uses c = refused_interface c.args.types.now c.args.id (string_bytes c.args.name) c.requires.identified c.from_residual-in_err-check_uses.result _ c.from_residual-in_err-check_uses.ensures.0
+
+pub returns-in_err-meet_exports : goal.returns-in_err-meet_exports
+returns-in_err-meet_exports c = refused_interface c.args.types.now c.args.id (string_bytes c.args.name) c.requires.identified c.from_residual-in_err-meet_exports.result _ c.from_residual-in_err-meet_exports.ensures.0
+
+pub returns-in_err-replace : goal.returns-in_err-replace
+returns-in_err-replace c = refused_interface c.args.types.now c.args.id (string_bytes c.args.name) c.requires.identified c.from_residual-in_err-replace.result _ c.from_residual-in_err-replace.ensures.0
+
+pub returns-in_err-put_interface : goal.returns-in_err-put_interface
+returns-in_err-put_interface c = refused_interface c.args.types.now c.args.id (string_bytes c.args.name) c.requires.identified c.from_residual-in_err-put_interface.result _ c.from_residual-in_err-put_interface.ensures.0

@@ -1,8 +1,8 @@
 use Rattle.std.proofs.Common.{◌≡◌, ◌+◌, ◌++◌, zero, [], ◌∷◌, Some, None, length, length-set, refl, ap, sym, subst, ◌∙◌, arith, IsSome}
 use Rattle.std.proofs.lemmas.List.Elements.{same_from_all_zip}
-use Rattle.std.proofs.lemmas.Result.{IfOk-weaker}
+use Rattle.std.proofs.lemmas.Result.{MatchResult-weaker, MatchResult-from_err}
 use Rattle.std.specs.List.{flat_map}
-use Rattle.std.specs.Option.{option_and_then, option_map, option_to_list}
+use Rattle.std.specs.Option.{option_and_then, option_map, option_map_or, option_to_list}
 use Rattle.wac_model.specs.ItemTree.{item, type_item}
 use Rattle.wac_model.specs.ValueTree.{list, fixed_size_list, option, flags, enum, stream, future}
 use Rattle.wac_component.proofs.CloneLemmas.{named-clones, option-clone}
@@ -28,19 +28,20 @@ use Rattle.wac_copies.proofs.Arms.{named_stands, named_lower, used_there, used_s
 use Rattle.wac_copies.proofs.Contents.{content_one, content_option, content_result, content_record, content_variant}
 use Rattle.wac_copies.proofs.Parts.{items_still as copies_still}
 use Rattle.wac_copies.proofs.Placed.{ArePlaced, set_start, set_whole, set_count, named_count, length-named, placed_start, placed_whole}
-use Rattle.wac_taking.specs.Takes.{state_of, Takes, LeadsToOwner, IsTakenAlias, IsTakenOwner, IsTakenUse, alias_at}
+use Rattle.wac_taking.specs.Takes.{AreWithin, state_of, Takes, LeadsToOwner, IsTakenAlias, IsTakenOwner, IsTakenUse, alias_at}
 use Rattle.wac_taking.proofs.Within.{within_all, within_same, within_left, within_right, within_trans, within_first, within_others, within_option, within_params, within_at, within_named, within_used, within_parts, alias_within, alias_owner, alias_stands as alias_named, owned_within}
 use Rattle.wac_component.specs.Collection.{ResourceContent}
 use Rattle.wac_component.specs.Open.{stay}
 use Rattle.wac_component.specs.Reach.{here}
 use Rattle.wac_component.proofs.Reading.{defined_at, func_at, interface_at, world_at}
 use Rattle.std.proofs.Common.{Contains, map, ◌≤◌}
-use Rattle.wac_component.specs.Entries.{owner_at}
+use Rattle.wac_component.specs.Entries.{entry_uses, owner_at}
 use Rattle.wac_component.specs.Id.{Id}
 use Rattle.wac_alike.specs.Alike.{IsMadeOf, IsAlikeAnswer}
 use Rattle.wac_taking.specs.Takes.{owners_keys, AreOwnersTaken}
-use Rattle.wac_taking.proofs.Alike.{same_resource, same_defined_type, owners_lower, owned_stand, alike_absent, Takes-alike, own_if_led, resource_at, within_resources, owner_stands, absent_of, Takes-also, AreFirstTaken, first_still, first_next, first_whole, IsNear-none, IsNear-led, IsNear-Takes}
+use Rattle.wac_taking.proofs.Alike.{same_resource, same_defined_type, owners_lower, owned_within_type, owned_stand, alike_absent, Takes-alike, own_if_led, resource_at, within_resources, owner_stands, absent_of, Takes-also, AreFirstTaken, first_still, first_next, first_whole, IsNear-none, IsNear-led, IsNear-Takes}
 use Rattle.wac_taking.proofs.Arms.{taken_item, taken_value, taken_content, Takes-set, Takes-place, Takes-use, used_index}
+use Rattle.wac_taking.proofs.Plain.{refused_within, refused_part, refused_uses, refused_owned, not_plain_owned}
 use Rattle.wac_taking.proofs.Enters.{defined_stands, func_stands, alias_stands, world_stands, interface_is_taken, world_is_taken, defined_enters, func_enters, resource_enters, world_enters}
 use Rattle.wac_taking.proofs.Parts.{item_of_value, type_of_value, borrow_of_taken, own_of_taken, defined_of_taken, alias_of_taken, owner_still, owner_taken, uses_still, values_still, option_still}
 use Rattle.wac_taking.proofs.TakeLemmas.{content_identifier, some_name, MayTake-Takes, MayTake-copies, Takes-copied, Takes-after, Takes-none, Takes-more, Takes-then, Takes-hit, Takes-enter}
@@ -382,7 +383,7 @@ take_interface-returns t c =
     let exported : State → Type 0 = λ s. AreMapped (IsTakenItem class_of f s) x.exports (named (λ k. k) c.in_ok-exports.exports.entries) in
     let first = Takes-then f c.args.state.now c.take_uses.new.state c.take_alike.new.state _ _ (keys_height f (interface_keys x)) _ _ (interface_keys x) used (λ s. Unit {0}) (uses_lower f x) (exports_lower f x) (within_left f (named_keys use_keys x.uses) (named_keys item_keys x.exports)) (within_right f (named_keys use_keys x.uses) (named_keys item_keys x.exports)) c.requires.state (λ s u kept run h. uses_still f s u kept (RemembersTruly class_of) f run x.uses us h) c.in_ok-uses.ensures c.in_ok-take_alike.ensures in
     let parts = Takes-then f c.args.state.now c.take_alike.new.state c.take_externs.new.state _ _ (keys_height f (interface_keys x)) _ _ (interface_keys x) (λ s. used s × Unit {0}) exported (omega arith) (exports_lower f x) (within_all f (interface_keys x)) (within_right f (named_keys use_keys x.uses) (named_keys item_keys x.exports)) c.requires.state (λ s u kept run h. (uses_still f s u kept (RemembersTruly class_of) f run x.uses us h.0, tt)) first c.in_ok-exports.ensures in
-    IfOk-weaker c.put_interface.result _ _ (λ r h. Takes-after f c.args.state.now c.take_externs.new.state c.put_interface.new.state (keys_height f (interface_keys x)) (height f (interface_key c.args.id)) (interface_keys x) (interface_key c.args.id ∷ []) (λ s. (used s × Unit {0}) × exported s) (λ s. IsTakenKey class_of f s (interface_key c.args.id) (interface_key r)) (omega (arith, c.index-interface.ensures.lower)) (within_parts f (interface_key c.args.id) (interface_keys x) (ap (optional_keys other_keys) (interface_at f c.args.id x c.index-interface.ensures.entry))) c.requires.state parts h) c.put_interface.ensures
+    MatchResult-weaker c.put_interface.result c.put_interface.ensures (λ r h. Takes-after f c.args.state.now c.take_externs.new.state c.put_interface.new.state (keys_height f (interface_keys x)) (height f (interface_key c.args.id)) (interface_keys x) (interface_key c.args.id ∷ []) (λ s. (used s × Unit {0}) × exported s) (λ s. IsTakenKey class_of f s (interface_key c.args.id) (interface_key r)) (omega (arith, c.index-interface.ensures.lower)) (within_parts f (interface_key c.args.id) (interface_keys x) (ap (optional_keys other_keys) (interface_at f c.args.id x c.index-interface.ensures.entry))) c.requires.state parts h) (λ e h. h)
 
 pub take_uses-loop-i-init : goal.take_uses-loop-i-init
 take_uses-loop-i-init t c =
@@ -420,8 +421,9 @@ pub take_used-returns : goal.take_used-returns
 take_used-returns t c =
     let f = c.args.types.now in
     let p = c.used_at-interface.result in
-    IfOk-weaker c.take_interface.result _ _ (λ r h.
-    Takes-more f c.args.state.now c.take_interface.new.state (height f (interface_key p)) _ _ _ _ _ (omega (arith, used_lower f c.args.uses.now.entries c.args.index p c.used_at-interface.ensures)) (within_used f c.args.uses.now.entries c.args.index p c.used_at-interface.ensures) c.requires.state (λ s kept taken q at. let both : Some p ≡ Some q = sym c.used_at-interface.ensures ∙ at in let same : p ≡ q = cc in subst (λ j. IsTakenKey class_of f s (interface_key j) (interface_key r)) same taken) h) c.take_interface.ensures
+    MatchResult-weaker c.take_interface.result c.take_interface.ensures (λ r h.
+    Takes-more f c.args.state.now c.take_interface.new.state (height f (interface_key p)) _ _ _ _ _ (omega (arith, used_lower f c.args.uses.now.entries c.args.index p c.used_at-interface.ensures)) (within_used f c.args.uses.now.entries c.args.index p c.used_at-interface.ensures) c.requires.state (λ s kept taken q at. let both : Some p ≡ Some q = sym c.used_at-interface.ensures ∙ at in let same : p ≡ q = cc in subst (λ j. IsTakenKey class_of f s (interface_key j) (interface_key r)) same taken) h)
+    (λ e h none. absurd (omega (arith, ap length none, length-named use_content c.args.uses.now.entries, c.requires.at)))
 
 pub take_world-returns-in-Some : goal.take_world-returns-in-Some
 take_world-returns-in-Some t c =
@@ -706,3 +708,143 @@ take_owners-returns t c =
     let rs = c.args.resources.now.items in
     Takes-more f c.args.state.now c.loop-i.state (keys_height f (owners_keys f rs)) (keys_height f (owners_keys f rs)) (map resource_key rs) (map resource_key rs) (AreFirstTaken f c.loop-i.i rs) (AreOwnersTaken f rs) (omega arith) (within_all f (map resource_key rs)) c.requires.state
     (λ s kept q. first_whole f s c.loop-i.i rs (omega (arith, c.loop-i-test.false, c.len-i-end.ensures)) q) c.loop-i.invariant.takes
+
+pub take_alias-returns-in_err-source : goal.take_alias-returns-in_err-source
+take_alias-returns-in_err-source t c =
+    let f = c.args.types.now in
+    let x = alias_content c.args.alias in
+    refused_part f (resource_key x.source ∷ []) (resource_key c.args.id ∷ []) c.from_residual-in_err-source.result _ c.in_err-source.field-0.0 (within_trans f (resource_key x.source ∷ []) (alias_keys x) (resource_key c.args.id ∷ []) (within_right f (optional_keys (λ p. interface_key p ∷ []) x.owner) (resource_key x.source ∷ [])) (alias_within f c.args.id x c.requires.of)) c.in_err-source.ensures c.from_residual-in_err-source.ensures
+
+pub take_alike-returns-in-Err : goal.take_alike-returns-in-Err
+take_alike-returns-in-Err t c =
+    let f = c.args.types.now in
+    refused_within f (item_keys c.extern_at.result) (named_keys item_keys (named (λ k. k) c.args.externs.now.entries)) c.in-Err.refusal (within_named f item_keys (λ k. k) c.args.externs.now.entries c.loop-i.i c.extern_at.result c.extern_at.ensures) c.in-Err.ensures
+
+pub take_externs-returns-in-Err : goal.take_externs-returns-in-Err
+take_externs-returns-in-Err t c =
+    let f = c.args.types.now in
+    refused_within f (item_keys c.extern_at.result) (named_keys item_keys (named (λ k. k) c.args.externs.now.entries)) c.in-Err.refusal (within_named f item_keys (λ k. k) c.args.externs.now.entries c.loop-i.i c.extern_at.result c.extern_at.ensures) c.in-Err.ensures
+
+pub take_alike_resource-returns-in_err-take_owners : goal.take_alike_resource-returns-in_err-take_owners
+take_alike_resource-returns-in_err-take_owners t c =
+    let f = c.args.types.now in
+    let rs = c.in-Some.owned.items in
+    let answer : IsAlikeAnswer c.args.state.now.types f (resource_key c.args.own) (resource_key c.args.id) (Some c.in-Some.owned) = subst (IsAlikeAnswer c.args.state.now.types f (resource_key c.args.own) (resource_key c.args.id)) c.in-Some.is c.in_ok-owned.ensures in
+    let made : (r : Id) → Contains rs r → IsMadeOf f (resource_key c.args.id) (resource_key r) = λ r m. (answer.1.each r m).0 in
+    refused_part f (map resource_key rs) (resource_key c.args.id ∷ []) c.from_residual-in_err-take_owners.result _ c.in_err-take_owners.field-0.0 (owned_within_type f c.sound.ensures (resource_key c.args.id) rs made) c.in_err-take_owners.ensures c.from_residual-in_err-take_owners.ensures
+
+pub take_alike_defined-returns-in_err-take_owners : goal.take_alike_defined-returns-in_err-take_owners
+take_alike_defined-returns-in_err-take_owners t c =
+    let f = c.args.types.now in
+    let rs = c.in-Some.owned.items in
+    let answer : IsAlikeAnswer c.args.state.now.types f (defined_key c.args.own) (defined_key c.args.id) (Some c.in-Some.owned) = subst (IsAlikeAnswer c.args.state.now.types f (defined_key c.args.own) (defined_key c.args.id)) c.in-Some.is c.in_ok-owned.ensures in
+    let made : (r : Id) → Contains rs r → IsMadeOf f (defined_key c.args.id) (resource_key r) = λ r m. (answer.1.each r m).0 in
+    refused_part f (map resource_key rs) (defined_key c.args.id ∷ []) c.from_residual-in_err-take_owners.result _ c.in_err-take_owners.field-0.0 (owned_within_type f c.sound.ensures (defined_key c.args.id) rs made) c.in_err-take_owners.ensures c.from_residual-in_err-take_owners.ensures
+
+pub take_cases-returns-in_err-own : goal.take_cases-returns-in_err-own
+take_cases-returns-in_err-own t c =
+    let f = c.args.types.now in
+    let es = types_of c.args.cases.now.entries in
+    refused_part f (optional_keys value_keys c.case_at.result) (flat_map (optional_keys value_keys) es) c.from_residual-in_err-own.result _ c.in_err-own.field-0.0 (within_at f (optional_keys value_keys) es c.loop-i.i c.case_at.result c.case_at.ensures) c.in_err-own.ensures c.from_residual-in_err-own.ensures
+
+pub take_fields-returns-in_err-own : goal.take_fields-returns-in_err-own
+take_fields-returns-in_err-own t c =
+    let f = c.args.types.now in
+    let es = types_of c.args.fields.now.entries in
+    refused_part f (value_keys c.field_at.result) (flat_map value_keys es) c.from_residual-in_err-own.result _ c.in_err-own.field-0.0 (within_at f value_keys es c.loop-i.i c.field_at.result c.field_at.ensures) c.in_err-own.ensures c.from_residual-in_err-own.ensures
+
+pub take_values-returns-in_err-own : goal.take_values-returns-in_err-own
+take_values-returns-in_err-own t c =
+    let f = c.args.types.now in
+    let vs = c.args.values.now.items in
+    refused_part f (value_keys c.value_at.result) (flat_map value_keys vs) c.from_residual-in_err-own.result _ c.in_err-own.field-0.0 (within_at f value_keys vs c.loop-i.i c.value_at.result c.value_at.ensures) c.in_err-own.ensures c.from_residual-in_err-own.ensures
+
+pub take_content-returns-in_err-ok-in-Result : goal.take_content-returns-in_err-ok-in-Result
+take_content-returns-in_err-ok-in-Result t c =
+    let f = c.args.types.now in
+    refused_part f (optional_keys value_keys c.in-Result.ok) (defined_keys (defined_content c.args.ty.now)) c.from_residual-in_err-ok-in-Result.result _ c.in_err-ok-in-Result.field-0.0 (subst (λ ty. AreWithin f (optional_keys value_keys c.in-Result.ok) (defined_keys (defined_content ty))) (sym c.in-Result.is) (within_first f c.in-Result.ok (option_to_list c.in-Result.err))) c.in_err-ok-in-Result.ensures c.from_residual-in_err-ok-in-Result.ensures
+
+pub take_content-returns-in_err-err-in-Result : goal.take_content-returns-in_err-err-in-Result
+take_content-returns-in_err-err-in-Result t c =
+    let f = c.args.types.now in
+    refused_part f (optional_keys value_keys c.in-Result.err) (defined_keys (defined_content c.args.ty.now)) c.from_residual-in_err-err-in-Result.result _ c.in_err-err-in-Result.field-0.0 (subst (λ ty. AreWithin f (optional_keys value_keys c.in-Result.err) (defined_keys (defined_content ty))) (sym c.in-Result.is) (within_trans f (optional_keys value_keys c.in-Result.err) (flat_map value_keys (option_to_list c.in-Result.err)) _ (within_option f c.in-Result.err) (within_others f c.in-Result.ok (option_to_list c.in-Result.err)))) c.in_err-err-in-Result.ensures c.from_residual-in_err-err-in-Result.ensures
+
+pub take_content-returns-in_err-cases-in-Variant : goal.take_content-returns-in_err-cases-in-Variant
+take_content-returns-in_err-cases-in-Variant t c =
+    let f = c.args.types.now in
+    refused_part f (flat_map (optional_keys value_keys) (types_of c.in-Variant.variant.cases.entries)) (defined_keys (defined_content c.args.ty.now)) c.from_residual-in_err-cases-in-Variant.result _ c.in_err-cases-in-Variant.field-0.0 (subst (λ ty. AreWithin f (flat_map (optional_keys value_keys) (types_of c.in-Variant.variant.cases.entries)) (defined_keys (defined_content ty))) (sym c.in-Variant.is) (within_same f (flat_map (optional_keys value_keys) (types_of c.in-Variant.variant.cases.entries)) (flat_map value_keys (case_types c.in-Variant.variant.cases.entries)) (cases_flat f c.in-Variant.variant.cases.entries))) c.in_err-cases-in-Variant.ensures c.from_residual-in_err-cases-in-Variant.ensures
+
+pub take_defined-returns-in_err-content : goal.take_defined-returns-in_err-content
+take_defined-returns-in_err-content t c =
+    let f = c.args.types.now in
+    let x = defined_content c.index.result.now in
+    refused_part f (defined_keys x) (defined_key c.args.id ∷ []) c.from_residual.result _ c.in_err-content.field-0.0 (within_parts f (defined_key c.args.id) (defined_keys x) (ap (optional_keys other_keys) (defined_at f c.args.id x c.index.ensures.entry))) c.in_err-content.ensures c.from_residual.ensures
+
+pub take_func-returns-in_err-params : goal.take_func-returns-in_err-params
+take_func-returns-in_err-params t c =
+    let f = c.args.types.now in
+    let x = func_content c.index-func.result.now in
+    refused_part f (flat_map value_keys (types_of c.index-func.result.now.params.entries)) (func_key c.args.id ∷ []) c.from_residual.result _ c.in_err-params.field-0.0 (within_trans f (flat_map value_keys (types_of c.index-func.result.now.params.entries)) (func_keys x) (func_key c.args.id ∷ []) (within_params f c.index-func.result.now.params.entries x.«result») (within_parts f (func_key c.args.id) (func_keys x) (ap (optional_keys other_keys) (func_at f c.args.id x c.index-func.ensures.entry)))) c.in_err-params.ensures c.from_residual.ensures
+
+pub take_func-returns-in_err-result : goal.take_func-returns-in_err-result
+take_func-returns-in_err-result t c =
+    let f = c.args.types.now in
+    let x = func_content c.index-func.result.now in
+    refused_part f (optional_keys value_keys x.«result») (func_key c.args.id ∷ []) c.from_residual-in_err-result.result _ c.in_err-result.field-0.0 (within_trans f (optional_keys value_keys x.«result») (func_keys x) (func_key c.args.id ∷ []) (within_right f (named_keys value_keys x.params) (optional_keys value_keys x.«result»)) (within_parts f (func_key c.args.id) (func_keys x) (ap (optional_keys other_keys) (func_at f c.args.id x c.index-func.ensures.entry)))) c.in_err-result.ensures c.from_residual-in_err-result.ensures
+
+pub take_interface-returns-in_err-take_alike : goal.take_interface-returns-in_err-take_alike
+take_interface-returns-in_err-take_alike t c =
+    let f = c.args.types.now in
+    let x = interface_content c.index-interface.result.now in
+    refused_part f (named_keys item_keys x.exports) (interface_key c.args.id ∷ []) c.from_residual-in_err-take_alike.result _ c.in_err-take_alike.field-0.0 (within_trans f (named_keys item_keys x.exports) (interface_keys x) (interface_key c.args.id ∷ []) (within_right f (named_keys use_keys x.uses) (named_keys item_keys x.exports)) (within_parts f (interface_key c.args.id) (interface_keys x) (ap (optional_keys other_keys) (interface_at f c.args.id x c.index-interface.ensures.entry)))) c.in_err-take_alike.ensures c.from_residual-in_err-take_alike.ensures
+
+pub take_interface-returns-in_err-exports : goal.take_interface-returns-in_err-exports
+take_interface-returns-in_err-exports t c =
+    let f = c.args.types.now in
+    let x = interface_content c.index-interface.result.now in
+    refused_part f (named_keys item_keys x.exports) (interface_key c.args.id ∷ []) c.from_residual-in_err-exports.result _ c.in_err-exports.field-0.0 (within_trans f (named_keys item_keys x.exports) (interface_keys x) (interface_key c.args.id ∷ []) (within_right f (named_keys use_keys x.uses) (named_keys item_keys x.exports)) (within_parts f (interface_key c.args.id) (interface_keys x) (ap (optional_keys other_keys) (interface_at f c.args.id x c.index-interface.ensures.entry)))) c.in_err-exports.ensures c.from_residual-in_err-exports.ensures
+
+pub take_interface-returns-in_err-uses : goal.take_interface-returns-in_err-uses
+take_interface-returns-in_err-uses t c =
+    let f = c.args.types.now in
+    let x = interface_content c.index-interface.result.now in
+    refused_uses f (interface_key c.args.id) x.uses c.from_residual.result _ c.in_err-uses.field-0.0 (ap (λ o. option_map_or entry_uses o []) (interface_at f c.args.id x c.index-interface.ensures.entry)) c.in_err-uses.ensures c.from_residual.ensures
+
+pub take_world-returns-in_err-exports : goal.take_world-returns-in_err-exports
+take_world-returns-in_err-exports t c =
+    let f = c.args.types.now in
+    let x = world_content c.index-world.result.now in
+    refused_part f (named_keys item_keys x.exports) (world_key c.args.id ∷ []) c.from_residual-in_err-exports.result _ c.in_err-exports.field-0.0 (within_trans f (named_keys item_keys x.exports) (named_keys use_keys x.uses ++ named_keys item_keys x.exports) (world_key c.args.id ∷ []) (within_right f (named_keys use_keys x.uses) (named_keys item_keys x.exports)) (within_parts f (world_key c.args.id) (named_keys use_keys x.uses ++ named_keys item_keys x.exports) (ap (optional_keys other_keys) (world_at f c.args.id x c.index-world.ensures.entry)))) c.in_err-exports.ensures c.from_residual-in_err-exports.ensures
+
+pub take_world-returns-in_err-uses : goal.take_world-returns-in_err-uses
+take_world-returns-in_err-uses t c =
+    let f = c.args.types.now in
+    let x = world_content c.index-world.result.now in
+    refused_uses f (world_key c.args.id) x.uses c.from_residual-in_err-uses.result _ c.in_err-uses.field-0.0 (ap (λ o. option_map_or entry_uses o []) (world_at f c.args.id x c.index-world.ensures.entry)) c.in_err-uses.ensures c.from_residual-in_err-uses.ensures
+
+pub take_owner-returns-then-is_none : goal.take_owner-returns-then-is_none
+take_owner-returns-then-is_none t c =
+    record { plain = λ p. absurd (not_plain_owned c.args.types.now c.args.id c.in-Some.owner (c.requires.of ∙ c.in-Some.is) p) }
+
+pub take_owner-returns-in_err-own : goal.take_owner-returns-in_err-own
+take_owner-returns-in_err-own t c =
+    refused_owned c.args.types.now c.args.id c.in-Some.owner (c.requires.of ∙ c.in-Some.is) c.from_residual-in_err-own.result _ c.from_residual-in_err-own.ensures.0
+
+pub take_owner-returns-in_err-import_owner : goal.take_owner-returns-in_err-import_owner
+take_owner-returns-in_err-import_owner t c =
+    refused_owned c.args.types.now c.args.id c.in-Some.owner (c.requires.of ∙ c.in-Some.is) c.from_residual-in_err-import_owner.result _ c.from_residual-in_err-import_owner.ensures.0
+
+pub take_owners-returns-in_err-take_owner : goal.take_owners-returns-in_err-take_owner
+take_owners-returns-in_err-take_owner t c =
+    let f = c.args.types.now in
+    let rs = c.args.resources.now.items in
+    let r = c.resource_at-id.result in
+    refused_part f (resource_key r ∷ []) (map resource_key rs) c.from_residual.result _ c.in_err-take_owner.field-0.0 (within_resources f rs c.loop-i.i r c.resource_at-id.ensures) c.in_err-take_owner.ensures c.from_residual.ensures
+
+pub take_uses-returns-in_err-own : goal.take_uses-returns-in_err-own
+take_uses-returns-in_err-own t c =
+    MatchResult-from_err c.from_residual-in_err-own.result _ _ c.from_residual-in_err-own.ensures.0 (λ e none. absurd (omega (arith, ap length none, length-named use_content c.args.uses.now.entries, c.loop-i-test.true, c.len-i-end.ensures.len)))
+
+pub take_used-returns-then-is_none : goal.take_used-returns-then-is_none
+take_used-returns-then-is_none t c =
+    λ none. absurd (omega (arith, ap length none, length-named use_content c.args.uses.now.entries, c.requires.at))
