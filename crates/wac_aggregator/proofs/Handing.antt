@@ -1,5 +1,5 @@
 -- What a call does to an aggregator.
-use Rattle.std.proofs.Common.{◌≡◌, ◌≢◌, ap, sym, ◌∙◌, subst}
+use Rattle.std.proofs.Common.{◌≡◌, ◌≢◌, Some, None, ap, sym, ◌∙◌, subst}
 use Rattle.wac_mismatch.specs.declared.check.SubtypeCheck.{SubtypeCheck}
 use Rattle.wac_component.specs.Collection.{Collection}
 use Rattle.wac_component.specs.Key.{AllStand, item_keys}
@@ -10,22 +10,25 @@ use Rattle.wac_names.specs.Class.{class_of}
 use Rattle.wac_narrowing.specs.Remembers.{RemembersTruly}
 use Rattle.wac_narrowing.specs.State.{IsOneWith}
 use Rattle.wac_call_lists.specs.Aggregated.{IsStep, track_imports}
-use Rattle.wac_call_lists.specs.Call.{Call}
+use Rattle.wac_call_lists.specs.Attempt.{single_attempt}
+use Rattle.wac_call_lists.specs.Call.{Call, call_track}
 use Rattle.wac_call_lists.specs.PlainList.{IsPlain}
 use Rattle.wac_call_lists.specs.PlainRun.{IsPlainStep, IsPlainRefusal}
+use Rattle.wac_call_lists.specs.Reason.{IsReason}
 use Rattle.wac_refusals.specs.declared.error.AggregateError.{AggregateError}
 use Rattle.wac_refusals.specs.declared.error.AggregateError.TheVariants.{Memory}
 use Rattle.wac_imports.specs.Import.{AreFiled}
 use Rattle.wac_imports.specs.Left.{listed}
 use Rattle.wac_imports.proofs.Listed.{of_Contains}
+use Rattle.wac_taking.specs.Refused.{said, HasReason}
 use Rattle.wac_taking.specs.Takes.{MayTake}
 use Rattle.wac_taking.specs.declared.state.Merging.{Merging}
-use Rattle.wac_aggregator.specs.Advances.{Advances, IsRefusedCall}
+use Rattle.wac_aggregator.specs.Advances.{attempt_at, Advances, IsRefusedCall}
 use Rattle.wac_aggregator.specs.Content.{AggregatorContent, shown, content_of, state_in}
 use Rattle.wac_aggregator.specs.InOrder.{IsInOrder}
 use Rattle.wac_aggregator.proofs.Advancing.{at_of, run, advances_step}
 use Rattle.wac_aggregator.proofs.Listing.{advances_in_order, advances_number}
-use Rattle.wac_aggregator.proofs.Plain.{plain_step, plain_refusal}
+use Rattle.wac_aggregator.proofs.Plain.{track_import, plain_step, plain_refusal}
 use Rattle.wac_aggregator.proofs.Remembering.{truly_in, truly_of}
 
 -- each import stands
@@ -56,4 +59,10 @@ module _ (call : Call) (inside : Merging) (told : SubtypeCheck) (before : Aggreg
     call_plain p = subst (λ s. IsPlainStep (track_imports (shown s)) (track_imports (shown (content_of b))) call) is (plain_step call a b call_may order.imports filed h p)
 
   pub call_refused : (e : AggregateError) → IsRefusedCall call a e → IsPlain call.types call.kind → e ≢ Memory → IsPlainRefusal (track_imports (shown before)) call
-  call_refused e h p ne = subst (λ s. IsPlainRefusal (track_imports (shown s)) call) is (plain_refusal call a order.imports (h.plain p ne))
+  call_refused e h p ne = subst (λ s. IsPlainRefusal (track_imports (shown s)) call) is (plain_refusal call a order.imports ((h ne).plain p))
+
+  pub call_reason : (e : AggregateError) → IsRefusedCall call a e → HasReason (single_attempt before.types (track_imports (shown before) (call_track call)) call) e
+  call_reason e h = subst (λ s. HasReason (single_attempt s.types (track_imports (shown s) (call_track call)) call) e) is (by (track_import a (call_track call) order.imports))
+    where
+      by : track_imports (shown (content_of a)) (call_track call) ≡ (attempt_at call a).import → HasReason (single_attempt a.types (track_imports (shown (content_of a)) (call_track call)) call) e
+      by same r says item = subst (λ import. IsReason (single_attempt a.types import call) r) (sym same) ((h (λ memory. let no : None ≡ Some r = sym (ap said memory) ∙ says in absurd (cc))).reason r says item)

@@ -1,5 +1,6 @@
 -- What a call does to the state of merging.
 use Rattle.std.specs.Prelude.{◌≡◌, ◌≢◌, Some, None}
+use Rattle.std.specs.Option.{option_map}
 use Rattle.wac_model.specs.Text.{Text}
 use Rattle.wac_model.specs.ItemTree.{ItemTree}
 use Rattle.wac_model.specs.Order.{Fits}
@@ -11,6 +12,7 @@ use Rattle.wac_component.specs.declared.items.ItemKind.{ItemKind}
 use Rattle.wac_names.specs.Class.{class_of}
 use Rattle.wac_narrowing.specs.Identified.{IsCovered}
 use Rattle.wac_narrowing.specs.Taking.{IsTakenItem}
+use Rattle.wac_call_lists.specs.Attempt.{Attempt, single_attempt}
 use Rattle.wac_call_lists.specs.Call.{Call, call_track, call_tree}
 use Rattle.wac_call_lists.specs.PlainList.{IsPlain}
 use Rattle.wac_call_lists.specs.TreeSets.{HaveNoLowerBound}
@@ -18,7 +20,7 @@ use Rattle.wac_imports.specs.Import.{ImportContent, ImportsContent, import_of, P
 use Rattle.wac_refusals.specs.declared.error.AggregateError.{AggregateError}
 use Rattle.wac_refusals.specs.declared.error.AggregateError.TheVariants.{Memory}
 use Rattle.wac_taking.specs.Growing.{StepsOn, IsMetWith, AreApartIn}
-use Rattle.wac_taking.specs.Refused.{HaveUses}
+use Rattle.wac_taking.specs.Refused.{HasReason, HaveUses}
 use Rattle.wac_taking.specs.Takes.{shared_keys, Takes}
 use Rattle.wac_taking.specs.declared.state.Merging.{Merging}
 
@@ -50,9 +52,18 @@ pub record HasNoMeet (call : Call) (a : Merging) : Type 0 where
   pub stood : import_of a.imports (call_track call) ≡ Some import
   pub no_bound : HaveNoLowerBound (item_tree a.types import.1) (call_tree call)
 
--- why a call is refused: a plain item for want of memory, or since it has no meet with the import on its track
-pub record IsRefusedCall (call : Call) (a : Merging) (e : AggregateError) : Type 0 where
-  pub plain : IsPlain call.types call.kind → e ≢ Memory → HasNoMeet call a
+-- the call by itself, and the import that stands on its track
+abbrev pub attempt_at : Call → Merging → Attempt
+attempt_at call a = single_attempt a.types (option_map (λ i. item_tree a.types i.1) (import_of a.imports (call_track call))) call
+
+-- why a call is refused: a plain item since it has no meet with the import on its track
+pub record IsCallRefusal (call : Call) (a : Merging) (e : AggregateError) : Type 0 where
+  pub plain : IsPlain call.types call.kind → HasNoMeet call a
+  pub reason : HasReason (attempt_at call a) e
+
+-- that is so unless there is no memory
+abbrev pub IsRefusedCall : Call → Merging → AggregateError → Type 0
+IsRefusedCall call a e = e ≢ Memory → IsCallRefusal call a e
 
 -- an import under the name is put last, where none stood on its track
 pub record IsAdded (a b : Merging) (name : Text) (k : ItemKind) : Type 0 where

@@ -1,6 +1,6 @@
 //! The aggregator.
 
-ghost use Rattle.std.specs.Prelude.{◌≡◌, ◌≢◌, [], Contains, IfOk, MatchResult};
+ghost use Rattle.std.specs.Prelude.{◌≡◌, ◌≢◌, [], Contains, IfErr, IfOk, MatchResult};
 ghost use Rattle.wac_model.specs.Text.{Text};
 ghost use Rattle.wac_component.specs.Collection.{Collection};
 ghost use Rattle.wac_component.specs.Key.{AllStand, item_keys};
@@ -8,6 +8,7 @@ ghost use Rattle.wac_component.specs.declared.items.ItemKind.{ItemKind};
 ghost use Rattle.wac_checker.specs.Cache.{without_number};
 ghost use Rattle.wac_checker.specs.Checker.{direction, depth, remembered};
 ghost use Rattle.wac_call_lists.specs.Aggregated.{IsByTrack, IsStep, track_imports};
+ghost use Rattle.wac_call_lists.specs.Attempt.{single_attempt};
 ghost use Rattle.wac_call_lists.specs.PlainList.{IsPlain};
 ghost use Rattle.wac_call_lists.specs.PlainRun.{IsPlainStep, IsPlainRefusal};
 ghost use Rattle.wac_refusals.specs.declared.error.AggregateError.TheVariants.{Memory};
@@ -15,6 +16,7 @@ ghost use Rattle.wac_imports.specs.Left.{imports_left};
 ghost use Rattle.wac_names.specs.Class.{class_of};
 ghost use Rattle.wac_narrowing.specs.Remembers.{RemembersTruly};
 ghost use Rattle.wac_narrowing.specs.State.{IsOneWith};
+ghost use Rattle.wac_taking.specs.Refused.{HasReason};
 ghost use Rattle.wac_aggregator.specs.Content.{shown, state_in};
 
 use super::importing::advance;
@@ -91,6 +93,9 @@ impl TypeAggregator {
     /// last, and its old name leads to it; else the name leads to the import. A refusal consumes the aggregator. No
     /// pair with an id of the aggregator stays in the checker's cache; nothing else of the checker changes.
     ///
+    /// `Kinds`, `NoIdentifier`, `OwnerWithoutIdentifier` and `Taken` come only where there is that reason: with the import
+    /// that stood on the track, in the item.
+    ///
     /// An item that reaches no interface with an identifier, no interface or world with uses, and no resource with an
     /// owner changes no import but the one on its track, and is refused, but for want of memory, only where no item
     /// fits where either that import or the item is asked for.
@@ -106,6 +111,7 @@ impl TypeAggregator {
         requires remembered { RemembersTruly class_of types.now (state_in self) }
         ensures step { IfOk result (λ a. IsStep (shown self) (shown a) (record { name = name.now; types = types.now; kind = kind })) }
         ensures plain { MatchResult result (λ a. IsPlain types.now kind → IsPlainStep (track_imports (shown self)) (track_imports (shown a)) (record { name = name.now; types = types.now; kind = kind })) (λ e. IsPlain types.now kind → e ≢ Memory → IsPlainRefusal (track_imports (shown self)) (record { name = name.now; types = types.now; kind = kind })) }
+        ensures reason { IfErr result (HasReason (single_attempt self.types (track_imports (shown self) (class_of name.now)) (record { name = name.now; types = types.now; kind = kind }))) }
         ensures by_track { IfOk result (λ a. IsByTrack (shown a)) }
         ensures truly { IfOk result (λ a. (g : Collection) → IsOneWith types.now g → RemembersTruly class_of g (state_in self) → RemembersTruly class_of g (state_in a)) }
         ensures number { IfOk result (λ a. a.types.number ≡ self.types.number) }

@@ -2,12 +2,15 @@
 
 ghost use Rattle.std.specs.Prelude.{◌≡◌, ◌⊎◌, Some, None, IsSome, IfErr, MatchResult};
 ghost use Rattle.std.specs.Option.{option_map};
+ghost use Rattle.wac_model.specs.Desc.{item_desc};
 ghost use Rattle.wac_component.specs.Key.{AllStand, item_keys};
 ghost use Rattle.wac_component.specs.Tree.{item_tree};
 ghost use Rattle.wac_call_lists.specs.Case.{case_of};
+ghost use Rattle.wac_call_lists.specs.Reason.{kinds, taken};
 ghost use Rattle.wac_imports.specs.Import.{import_of};
 ghost use Rattle.wac_names.specs.Class.{class_of};
 ghost use Rattle.wac_refusals.specs.declared.error.AggregateError.TheVariants.{Memory};
+ghost use Rattle.wac_taking.specs.Refused.{said};
 ghost use Rattle.wac_taking.specs.Takes.{MayTake};
 ghost use Rattle.wac_aggregator.specs.Advances.{Advances, IsAdded, IsRefusedCall};
 
@@ -101,7 +104,7 @@ fn put_import(
     own: ItemKind,
 ) -> Result<(), AggregateError>
     requires of { class ≡ class_of name.now }
-    ensures { MatchResult result (λ u. IsAdded state.old state.new name.now own) (λ e. (e ≡ Memory) ⊎ IsSome (import_of state.old.imports (class_of name.now))) }
+    ensures { MatchResult result (λ u. IsAdded state.old state.new name.now own) (λ e. (e ≡ Memory) ⊎ (IsSome (import_of state.old.imports (class_of name.now)) × (said e ≡ Some (taken name.now)))) }
 {
     let name = String::from_str(state.alloc(), name)?;
     if state.imports.kind_of(&class).is_some() {
@@ -163,7 +166,8 @@ fn check_case(
 ) -> Result<(), AggregateError>
     requires existing { AllStand own.now (item_keys existing.now) }
     requires found { AllStand types.now (item_keys kind.now) }
-    ensures { IfErr result (λ e. ¬ (case_of (item_tree own.now existing.now) ≡ case_of (item_tree types.now kind.now))) }
+    ensures cases { IfErr result (λ e. ¬ (case_of (item_tree own.now existing.now) ≡ case_of (item_tree types.now kind.now))) }
+    ensures says { IfErr result (λ e. said e ≡ Some (kinds (item_desc (item_tree own.now existing.now)) (item_desc (item_tree types.now kind.now)))) }
 {
     if same_case(*existing, *kind) {
         return Ok(());

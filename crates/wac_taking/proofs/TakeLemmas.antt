@@ -63,6 +63,10 @@ pub some_name : (o : Option (String Global)) → is_some o ≡ true → (n : Tex
 some_name None h = absurd (cc)
 some_name (Some n) h = (string_bytes n, refl)
 
+pub no_name : (o : Option (String Global)) → is_some o ≡ false → option_map string_bytes o ≡ None
+no_name None h = refl
+no_name (Some n) h = absurd (cc)
+
 -- its parts were taken in whatever the own one's identifier is
 pub taken_as : (f : Collection) (s : State) (p : Id) (x : InterfaceContent) (us : List (Text × UseContent)) (es : List (Text × ItemKind)) (o : Option Text) → InterfaceIsTaken class_of f s p x (record { id = None; uses = us; exports = es })
     → InterfaceIsTaken class_of f s p x (record { id = o; uses = us; exports = es })

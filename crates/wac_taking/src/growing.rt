@@ -1,6 +1,6 @@
 //! Shared entries that grow.
 
-ghost use Rattle.std.specs.Prelude.{◌≡◌, [], ◌∷◌, Some, IfOk, MatchResult, OnOk, length, slice_set, string_bytes};
+ghost use Rattle.std.specs.Prelude.{◌≡◌, [], ◌∷◌, Some, IfErr, MatchResult, OnOk, length, slice_set, string_bytes};
 ghost use Rattle.wac_component.specs.Collection.{InterfaceContent};
 ghost use Rattle.wac_component.specs.Content.{named, use_content, interface_content};
 ghost use Rattle.wac_component.specs.Entries.{identifier_at};
@@ -12,7 +12,7 @@ ghost use Rattle.wac_names.specs.Class.{class_of};
 ghost use Rattle.wac_narrowing.specs.Narrows.{grown};
 ghost use Rattle.wac_narrowing.specs.Taking.{IsTakenKey};
 ghost use Rattle.wac_taking.specs.Growing.{IsMetWith, AreMetWith};
-ghost use Rattle.wac_taking.specs.Refused.{IsRefused};
+ghost use Rattle.wac_taking.specs.Refused.{IsRefused, IsOfMerging};
 ghost use Rattle.wac_taking.specs.Takes.{MayTake, MayPut, Takes, shared_in};
 
 use super::meeting::meet_own;
@@ -97,7 +97,7 @@ fn meet_exports(
 ) -> Result<(), AggregateError>
     requires existing { AllStand types.old (extern_keys (extern_list existing.old)) }
     requires new { AllStand types.old (extern_keys (extern_list exports.now)) }
-    ensures { IfOk result (λ u. AreMetWith types.old types.new (extern_list existing.old) (extern_list exports.now) (extern_list existing.new)) }
+    ensures { MatchResult result (λ u. AreMetWith types.old types.new (extern_list existing.old) (extern_list exports.now) (extern_list existing.new)) IsOfMerging }
 {
     for (name, kind) in exports {
         meet_export(alloc, place, types, existing, name, *kind)?;
@@ -116,7 +116,7 @@ fn meet_export(
 ) -> Result<(), AggregateError>
     requires existing { AllStand types.old (extern_keys (extern_list existing.old)) }
     requires new { AllStand types.old (item_keys kind) }
-    ensures { IfOk result (λ u. AreMetWith types.old types.new (extern_list existing.old) ((string_bytes name.now, kind) ∷ []) (extern_list existing.new)) }
+    ensures { MatchResult result (λ u. AreMetWith types.old types.new (extern_list existing.old) ((string_bytes name.now, kind) ∷ []) (extern_list existing.new)) IsOfMerging }
 {
     let Some(other) = extern_named(existing, name) else {
         put_extern(existing, name, kind)?;
@@ -139,7 +139,7 @@ fn meet_items(
 ) -> Result<ItemKind, AggregateError>
     requires existing { AllStand types.old (item_keys existing) }
     requires new { AllStand types.old (item_keys kind) }
-    ensures { IfOk result (IsMetWith types.old types.new existing kind) }
+    ensures { MatchResult result (IsMetWith types.old types.new existing kind) IsOfMerging }
 {
     check_uses_of(alloc, types, existing, kind)?;
     match meet_own(alloc, types, existing, kind)? {
@@ -172,6 +172,7 @@ fn replace(
     requires named { AllStand types.old (interface_keys (interface_content entry)) }
     ensures grown { OnOk result (types.new ≡ grown types.old own (interface_content entry)) }
     ensures acyclic { OnOk result (¬ (NamesReach types.old (interface_keys (interface_content entry)) (interface_key own))) }
+    ensures merging { IfErr result IsOfMerging }
 {
     match types.replace_interface(own, entry) {
         Ok(()) => Ok(()),

@@ -13,9 +13,9 @@ ghost use Rattle.wac_narrowing.specs.State.{IsKept};
 ghost use Rattle.wac_taking.specs.Takes.{shared_keys, state_of, LeadsToOwner, MayTake, Takes, alias_at};
 
 use super::state::Merging;
+use std::alloc::AllocError;
 use wac_component::{InterfaceId, ItemKind, ResourceAlias, ResourceId, Types};
 use wac_names::NameClass;
-use wac_refusals::AggregateError;
 
 // What a resource is another name of, if it is.
 pub(crate) fn alias_of(types: &Types, id: ResourceId) -> Option<ResourceAlias>
@@ -43,7 +43,7 @@ pub(crate) fn resource_at(resources: &Vec<ResourceId>, index: usize) -> Resource
 }
 
 // Imports a shared entry under its identifier, unless there is an import on the track of that.
-pub(crate) fn import_owner(state: &mut Merging, own: InterfaceId) -> Result<(), AggregateError>
+pub(crate) fn import_owner(state: &mut Merging, own: InterfaceId) -> Result<(), AllocError>
     requires state { IsKept (state_of state.old) }
     requires shared { IsAmong (interface_key own) (shared_keys state.old.shared.entries) }
     ensures { IfOk result (λ u. (f : Collection) (ks : List Key) (from : Key) (n m : Text) → MayTake f state.old → IsAmong from ks → LeadsToOwner f from n → identifier_at state.old.types (interface_key own) ≡ Some m → class_of m ≡ class_of n → Takes f state.old state.new 0 ks (λ t. IsSome (t.imports n))) }

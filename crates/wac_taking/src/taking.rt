@@ -1,6 +1,6 @@
 //! Entries of other collections, each taken in once.
 
-ghost use Rattle.std.specs.Prelude.{◌≡◌, ◌<◌, [], ◌∷◌, Some, length, map, slice_get, MatchResult, IfSome};
+ghost use Rattle.std.specs.Prelude.{◌≡◌, ◌<◌, [], ◌∷◌, Some, length, map, slice_get, MatchResult, IfOk, IfSome};
 ghost use Rattle.std.specs.List.{flat_map};
 ghost use Rattle.std.specs.Option.{option_map};
 ghost use Rattle.wac_component.specs.Entries.{owner_at};
@@ -12,7 +12,7 @@ ghost use Rattle.wac_component.specs.declared.items.ItemKind.TheVariants.{«Type
 ghost use Rattle.wac_names.specs.Class.{class_of};
 ghost use Rattle.wac_narrowing.specs.Taking.{AreMapped, IsTakenItem, IsTakenKey};
 ghost use Rattle.wac_narrowing.specs.Values.{IsTakenValue, AreListed, IfAny, AreDefined};
-ghost use Rattle.wac_taking.specs.Refused.{IsRefused, AreRefusedUses};
+ghost use Rattle.wac_taking.specs.Refused.{IsRefused, AreRefusedUses, SaysOfUse};
 ghost use Rattle.wac_taking.specs.Takes.{MayTake, IsOwnEntry, IsNear, Takes, owners_keys, AreOwnersTaken, IsTakenAlias, IsTakenOwner, IsTakenUse, alias_at};
 
 use super::entering::put_interface;
@@ -397,7 +397,7 @@ fn take_uses(
 ) -> Result<IndexMap<String, UsedType>, AggregateError>
     requires source { AllStand types.now (named_keys use_keys (named use_content uses.now.entries)) }
     requires state { MayTake types.now state.old }
-    ensures { MatchResult result (λ m. Takes types.now state.old state.new (keys_height types.now (named_keys use_keys (named use_content uses.now.entries))) (named_keys use_keys (named use_content uses.now.entries)) (λ t. AreMapped (IsTakenUse types.now t) (named use_content uses.now.entries) (named use_content m.entries))) (AreRefusedUses (named use_content uses.now.entries)) }
+    ensures { MatchResult result (λ m. Takes types.now state.old state.new (keys_height types.now (named_keys use_keys (named use_content uses.now.entries))) (named_keys use_keys (named use_content uses.now.entries)) (λ t. AreMapped (IsTakenUse types.now t) (named use_content uses.now.entries) (named use_content m.entries))) (AreRefusedUses types.now (named use_content uses.now.entries)) }
 {
     let mut taken = uses.clone()?;
     for i in 0..uses.len() {
@@ -413,6 +413,7 @@ fn no_identifier(
     index: usize,
 ) -> Result<AggregateError, AllocError>
     requires { index < length uses.now.entries }
+    ensures { IfOk result (SaysOfUse (named use_content uses.now.entries) index) }
 {
     let (name, _) = uses.get_index(index).unwrap();
     let used = name.clone()?;
@@ -430,7 +431,7 @@ fn take_used(
     requires source { AllStand types.now (named_keys use_keys (named use_content uses.now.entries)) }
     requires state { MayTake types.now state.old }
     requires at { index < length uses.now.entries }
-    ensures { MatchResult result (λ r. Takes types.now state.old state.new (keys_height types.now (named_keys use_keys (named use_content uses.now.entries))) (named_keys use_keys (named use_content uses.now.entries)) (λ t. (p : Id) → option_map (λ u. u.interface) (slice_get (types_of uses.now.entries) index) ≡ Some p → IsTakenKey class_of types.now t (interface_key p) (interface_key r))) (AreRefusedUses (named use_content uses.now.entries)) }
+    ensures { MatchResult result (λ r. Takes types.now state.old state.new (keys_height types.now (named_keys use_keys (named use_content uses.now.entries))) (named_keys use_keys (named use_content uses.now.entries)) (λ t. (p : Id) → option_map (λ u. u.interface) (slice_get (types_of uses.now.entries) index) ≡ Some p → IsTakenKey class_of types.now t (interface_key p) (interface_key r))) (AreRefusedUses types.now (named use_content uses.now.entries)) }
 {
     let interface = used_at(uses, index);
     types.sound();

@@ -1,10 +1,10 @@
 //! Uses of one name.
 
-ghost use Rattle.std.specs.Prelude.{◌≡◌, ◌⊎◌, [], ◌∷◌, IfErr};
+ghost use Rattle.std.specs.Prelude.{◌≡◌, ◌⊎◌, [], ◌∷◌, IfErr, IfOk};
 ghost use Rattle.wac_component.specs.Content.{named, use_content};
 ghost use Rattle.wac_component.specs.Key.{Stands, AllStand, item_keys, type_keys, interface_key, world_key, named_keys, use_keys};
 ghost use Rattle.wac_refusals.specs.declared.error.AggregateError.TheVariants.{Memory};
-ghost use Rattle.wac_taking.specs.Refused.{IsUsesRefusal};
+ghost use Rattle.wac_taking.specs.Refused.{IsUsesRefusal, IsOfMerging};
 
 use indexmap::IndexMap;
 use std::alloc::{AllocError, Global};
@@ -22,7 +22,8 @@ pub fn check_uses_of(
 ) -> Result<(), AggregateError>
     requires existing { AllStand types.now (item_keys existing) }
     requires new { AllStand types.now (item_keys new) }
-    ensures { IfErr result (IsUsesRefusal types.now (item_keys new)) }
+    ensures uses { IfErr result (IsUsesRefusal types.now (item_keys new)) }
+    ensures merging { IfErr result IsOfMerging }
 {
     match (&existing, &new) {
         (ItemKind::Instance(a), ItemKind::Instance(b)) => check_interfaces(alloc, types, *a, *b),
@@ -41,7 +42,8 @@ fn check_types(
 ) -> Result<(), AggregateError>
     requires existing { AllStand types.now (type_keys existing) }
     requires new { AllStand types.now (type_keys new) }
-    ensures { IfErr result (IsUsesRefusal types.now (type_keys new)) }
+    ensures uses { IfErr result (IsUsesRefusal types.now (type_keys new)) }
+    ensures merging { IfErr result IsOfMerging }
 {
     match (&existing, &new) {
         (Type::Interface(a), Type::Interface(b)) => check_interfaces(alloc, types, *a, *b),
@@ -59,7 +61,8 @@ fn check_interfaces(
 ) -> Result<(), AggregateError>
     requires existing { Stands types.now (interface_key existing) }
     requires new { Stands types.now (interface_key new) }
-    ensures { IfErr result (IsUsesRefusal types.now (interface_key new ∷ [])) }
+    ensures uses { IfErr result (IsUsesRefusal types.now (interface_key new ∷ [])) }
+    ensures merging { IfErr result IsOfMerging }
 {
     check_uses(alloc, types, &types[existing].uses, &types[new].uses)
 }
@@ -73,7 +76,8 @@ fn check_worlds(
 ) -> Result<(), AggregateError>
     requires existing { Stands types.now (world_key existing) }
     requires new { Stands types.now (world_key new) }
-    ensures { IfErr result (IsUsesRefusal types.now (world_key new ∷ [])) }
+    ensures uses { IfErr result (IsUsesRefusal types.now (world_key new ∷ [])) }
+    ensures merging { IfErr result IsOfMerging }
 {
     check_uses(alloc, types, &types[existing].uses, &types[new].uses)
 }
@@ -87,7 +91,8 @@ pub(crate) fn check_uses(
 ) -> Result<(), AggregateError>
     requires existing { AllStand types.now (named_keys use_keys (named use_content existing.now.entries)) }
     requires new { AllStand types.now (named_keys use_keys (named use_content new.now.entries)) }
-    ensures { IfErr result (λ e. (e ≡ Memory) ⊎ ¬ (named use_content new.now.entries ≡ [])) }
+    ensures uses { IfErr result (λ e. (e ≡ Memory) ⊎ ¬ (named use_content new.now.entries ≡ [])) }
+    ensures merging { IfErr result IsOfMerging }
 {
     for (name, used) in new {
         if let Some(other) = existing.get(name) {
@@ -107,6 +112,7 @@ fn check_use(
 ) -> Result<(), AggregateError>
     requires existing { Stands types.now (interface_key existing.now.interface) }
     requires new { Stands types.now (interface_key new.now.interface) }
+    ensures { IfErr result IsOfMerging }
 {
     if let (Some(expected), Some(found)) = (
         &types[existing.interface].id,
@@ -127,7 +133,9 @@ fn used_interface(
     name: &String,
     expected: &String,
     found: &String,
-) -> Result<AggregateError, AllocError> {
+) -> Result<AggregateError, AllocError>
+    ensures { IfOk result IsOfMerging }
+{
     Ok(AggregateError::UsedInterface {
         used: name.clone()?,
         expected: expected.clone()?,
@@ -136,7 +144,9 @@ fn used_interface(
 }
 
 // The refusal of two uses of one name that are of different names in their interface.
-fn used_name(name: &String) -> Result<AggregateError, AllocError> {
+fn used_name(name: &String) -> Result<AggregateError, AllocError>
+    ensures { IfOk result IsOfMerging }
+{
     let used = name.clone()?;
     Ok(AggregateError::UsedName { used })
 }

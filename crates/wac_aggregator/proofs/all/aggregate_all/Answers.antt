@@ -69,7 +69,7 @@ returns-in-Err-clause-plain c = λ p other.
     let call = called c.index-calls-at.result in
     let at = called_at c.args.calls.now c.loop-at.at c.index-calls-at.result c.loop-at-test.true c.index-calls-at.is in
     let plain = All-contains (λ (d : Call). IsPlain d.types d.kind) calls call p (Contains-at calls c.loop-at.at call at) in
-    plain_runs_answer calls (refused c.loop-at.at) p (run_stops calls c.loop-at.at call at (track_imports (shown (content_of c.loop-at.state))) (plain_refusal call c.loop-at.state c.loop-at.invariant.order.imports (c.in-Err.ensures.plain plain other)) (c.loop-at.invariant.runs p))
+    plain_runs_answer calls (refused c.loop-at.at) p (run_stops calls c.loop-at.at call at (track_imports (shown (content_of c.loop-at.state))) (plain_refusal call c.loop-at.state c.loop-at.invariant.order.imports ((c.in-Err.ensures other).plain plain)) (c.loop-at.invariant.runs p))
 
 pub returns-clause-plain : goal.returns-clause-plain
 returns-clause-plain c = λ p.

@@ -3,7 +3,7 @@ use Rattle.std.proofs.lemmas.Result.{MatchResult-weaker}
 use Rattle.wac_imports.specs.Import.{import_of}
 use Rattle.wac_taking.proofs.Alike.{IsNear-none}
 use Rattle.wac_aggregator.proofs.Calls.{added_advances}
-use Rattle.wac_aggregator.proofs.Refusing.{not_added}
+use Rattle.wac_aggregator.proofs.Refusing.{item_refused, not_added}
 use Rattle.wac_aggregator.proofs.importing.add_import.Goals as goal
 
 pub take_item-requires-clause-near : goal.take_item-requires-clause-near
@@ -17,4 +17,4 @@ returns-in-Ok c =
     (λ e h. not_added (record { name = c.args.name.now; types = c.args.types.now; kind = c.args.kind }) c.args.state.now c.take_item.new.state c.in-Ok.own c.requires.state c.in-Ok.ensures e (subst (λ q. import_of c.args.state.now.imports q ≡ None) c.requires.of c.requires.new) h)
 
 pub returns-in-Err : goal.returns-in-Err
-returns-in-Err c = record { plain = λ p other. absurd (other (c.in-Err.ensures.plain p)) }
+returns-in-Err c = item_refused (record { name = c.args.name.now; types = c.args.types.now; kind = c.args.kind }) c.args.state.now c.in-Err.error c.in-Err.ensures

@@ -14,4 +14,4 @@ pub returns-in-Err : goal.returns-in-Err
 returns-in-Err c =
     let call : Call = record { name = c.args.name.now; types = c.args.types.now; kind = c.args.kind } in
     let found = subst (λ q. option_map (λ (i : ImportContent). i.1) (import_of c.args.state.now.imports q) ≡ Some c.args.existing) c.requires.of c.requires.found in
-    cases_refused call c.args.state.now c.args.existing found c.in-Err.error c.in-Err.ensures
+    cases_refused call c.args.state.now c.args.existing found c.in-Err.error c.in-Err.ensures.cases c.in-Err.ensures.says

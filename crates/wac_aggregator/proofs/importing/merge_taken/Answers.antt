@@ -4,7 +4,7 @@ use Rattle.std.proofs.lemmas.Result.{MatchResult-weaker}
 use Rattle.wac_call_lists.specs.Call.{Call}
 use Rattle.wac_imports.specs.Import.{ImportContent, import_of}
 use Rattle.wac_aggregator.proofs.Calls.{near_import, existing_stands, some_still, merged_advances}
-use Rattle.wac_aggregator.proofs.Refusing.{not_merged}
+use Rattle.wac_aggregator.proofs.Refusing.{both_errors, item_refused, not_merged}
 use Rattle.wac_aggregator.proofs.importing.merge_taken.Goals as goal
 
 pub take_item-requires-clause-near : goal.take_item-requires-clause-near
@@ -16,11 +16,11 @@ pub returns-in-Ok : goal.returns-in-Ok
 returns-in-Ok c =
     let call : Call = record { name = c.args.name.now; types = c.args.types.now; kind = c.args.kind } in
     let found = subst (λ q. option_map (λ (i : ImportContent). i.1) (import_of c.args.state.now.imports q) ≡ Some c.args.existing) c.requires.of c.requires.found in
-    MatchResult-weaker c.note_import.result c.note_import.ensures (λ u h. merged_advances call c.args.state.now c.take_item.new.state c.in-Ok.own c.requires.state c.in-Ok.ensures c.args.existing found c.note_import.new.state h)
-    (λ e h. not_merged call c.args.state.now c.take_item.new.state c.in-Ok.own c.requires.state c.in-Ok.ensures c.args.existing found e h)
+    MatchResult-weaker c.note_import.result (both_errors c.note_import.result _ _ _ c.note_import.ensures.merged c.note_import.ensures.merging) (λ u h. merged_advances call c.args.state.now c.take_item.new.state c.in-Ok.own c.requires.state c.in-Ok.ensures c.args.existing found c.note_import.new.state h)
+    (λ e h. not_merged call c.args.state.now c.take_item.new.state c.in-Ok.own c.requires.state c.in-Ok.ensures c.args.existing found e h.0 h.1)
 
 pub returns-in-Err : goal.returns-in-Err
-returns-in-Err c = record { plain = λ p other. absurd (other (c.in-Err.ensures.plain p)) }
+returns-in-Err c = item_refused (record { name = c.args.name.now; types = c.args.types.now; kind = c.args.kind }) c.args.state.now c.in-Err.error c.in-Err.ensures
 
 pub note_import-requires-clause-existing : goal.note_import-requires-clause-existing
 note_import-requires-clause-existing c =

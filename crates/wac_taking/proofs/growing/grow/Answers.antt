@@ -5,6 +5,7 @@ use Rattle.wac_component.proofs.Keys.{Each-left, Each-right}
 use Rattle.wac_merge.specs.Items.{extern_keys, extern_list}
 use Rattle.wac_names.specs.Class.{class_of}
 use Rattle.wac_narrowing.proofs.Entering.{interface_named}
+use Rattle.wac_refusals.specs.declared.error.AggregateError.TheVariants.{Memory}
 use Rattle.wac_taking.specs.Takes.{state_of}
 use Rattle.wac_taking.proofs.GrowLemmas.{each_used}
 use Rattle.wac_taking.proofs.Grows.{new_named, still_stands, Takes-grown}
@@ -64,13 +65,13 @@ returns c =
     c.replace.new.types c.put_interface.new.self c.in_ok-replace.ensures.acyclic c.in_ok-replace.ensures.grown (c.in_ok-put_interface.ensures c.requires.taken.absent)
 
 pub returns-in_err-check_uses : goal.returns-in_err-check_uses
-returns-in_err-check_uses c = refused_interface c.args.types.now c.args.id (string_bytes c.args.name) c.requires.identified c.from_residual-in_err-check_uses.result _ c.from_residual-in_err-check_uses.ensures.0
+returns-in_err-check_uses c = refused_interface c.args.types.now c.args.id (string_bytes c.args.name) c.requires.identified c.from_residual-in_err-check_uses.result _ c.in_err-check_uses.field-0.0 c.in_err-check_uses.ensures.merging c.from_residual-in_err-check_uses.ensures
 
 pub returns-in_err-meet_exports : goal.returns-in_err-meet_exports
-returns-in_err-meet_exports c = refused_interface c.args.types.now c.args.id (string_bytes c.args.name) c.requires.identified c.from_residual-in_err-meet_exports.result _ c.from_residual-in_err-meet_exports.ensures.0
+returns-in_err-meet_exports c = refused_interface c.args.types.now c.args.id (string_bytes c.args.name) c.requires.identified c.from_residual-in_err-meet_exports.result _ c.in_err-meet_exports.field-0.0 c.in_err-meet_exports.ensures c.from_residual-in_err-meet_exports.ensures
 
 pub returns-in_err-replace : goal.returns-in_err-replace
-returns-in_err-replace c = refused_interface c.args.types.now c.args.id (string_bytes c.args.name) c.requires.identified c.from_residual-in_err-replace.result _ c.from_residual-in_err-replace.ensures.0
+returns-in_err-replace c = refused_interface c.args.types.now c.args.id (string_bytes c.args.name) c.requires.identified c.from_residual-in_err-replace.result _ c.in_err-replace.field-0.0 c.in_err-replace.ensures.merging c.from_residual-in_err-replace.ensures
 
 pub returns-in_err-put_interface : goal.returns-in_err-put_interface
-returns-in_err-put_interface c = refused_interface c.args.types.now c.args.id (string_bytes c.args.name) c.requires.identified c.from_residual-in_err-put_interface.result _ c.from_residual-in_err-put_interface.ensures.0
+returns-in_err-put_interface c = refused_interface c.args.types.now c.args.id (string_bytes c.args.name) c.requires.identified c.from_residual-in_err-put_interface.result _ Memory tt c.from_residual-in_err-put_interface.ensures

@@ -1,6 +1,6 @@
 use Rattle.std.proofs.Common.{◌≡◌, ◌+◌, ◌++◌, zero, [], ◌∷◌, Some, None, length, length-set, refl, ap, sym, subst, ◌∙◌, arith, IsSome}
 use Rattle.std.proofs.lemmas.List.Elements.{same_from_all_zip}
-use Rattle.std.proofs.lemmas.Result.{MatchResult-weaker, MatchResult-from_err}
+use Rattle.std.proofs.lemmas.Result.{MatchResult-weaker}
 use Rattle.std.specs.List.{flat_map}
 use Rattle.std.specs.Option.{option_and_then, option_map, option_map_or, option_to_list}
 use Rattle.wac_model.specs.ItemTree.{item, type_item}
@@ -30,7 +30,7 @@ use Rattle.wac_copies.proofs.Parts.{items_still as copies_still}
 use Rattle.wac_copies.proofs.Placed.{ArePlaced, set_start, set_whole, set_count, named_count, length-named, placed_start, placed_whole}
 use Rattle.wac_taking.specs.Takes.{AreWithin, state_of, Takes, LeadsToOwner, IsTakenAlias, IsTakenOwner, IsTakenUse, alias_at}
 use Rattle.wac_taking.proofs.Within.{within_all, within_same, within_left, within_right, within_trans, within_first, within_others, within_option, within_params, within_at, within_named, within_used, within_parts, alias_within, alias_owner, alias_stands as alias_named, owned_within}
-use Rattle.wac_component.specs.Collection.{ResourceContent}
+use Rattle.wac_component.specs.Collection.{InterfaceContent, ResourceContent}
 use Rattle.wac_component.specs.Open.{stay}
 use Rattle.wac_component.specs.Reach.{here}
 use Rattle.wac_component.proofs.Reading.{defined_at, func_at, interface_at, world_at}
@@ -41,10 +41,14 @@ use Rattle.wac_alike.specs.Alike.{IsMadeOf, IsAlikeAnswer}
 use Rattle.wac_taking.specs.Takes.{owners_keys, AreOwnersTaken}
 use Rattle.wac_taking.proofs.Alike.{same_resource, same_defined_type, owners_lower, owned_within_type, owned_stand, alike_absent, Takes-alike, own_if_led, resource_at, within_resources, owner_stands, absent_of, Takes-also, AreFirstTaken, first_still, first_next, first_whole, IsNear-none, IsNear-led, IsNear-Takes}
 use Rattle.wac_taking.proofs.Arms.{taken_item, taken_value, taken_content, Takes-set, Takes-place, Takes-use, used_index}
-use Rattle.wac_taking.proofs.Plain.{refused_within, refused_part, refused_uses, refused_owned, not_plain_owned}
+use Rattle.wac_taking.proofs.Plain.{passed_on, refused_within, refused_part, refused_uses, refused_owner, refused_use, refused_used, used_named}
+use Rattle.wac_taking.specs.Refused.{IsRefused}
+use Rattle.wac_component.specs.Implicit.{identifier}
+use Rattle.wac_call_lists.specs.Reason.{owner_without_identifier}
+use Rattle.wac_refusals.specs.declared.error.AggregateError.TheVariants.{OwnerWithoutIdentifier}
 use Rattle.wac_taking.proofs.Enters.{defined_stands, func_stands, alias_stands, world_stands, interface_is_taken, world_is_taken, defined_enters, func_enters, resource_enters, world_enters}
 use Rattle.wac_taking.proofs.Parts.{item_of_value, type_of_value, borrow_of_taken, own_of_taken, defined_of_taken, alias_of_taken, owner_still, owner_taken, uses_still, values_still, option_still}
-use Rattle.wac_taking.proofs.TakeLemmas.{content_identifier, some_name, MayTake-Takes, MayTake-copies, Takes-copied, Takes-after, Takes-none, Takes-more, Takes-then, Takes-hit, Takes-enter}
+use Rattle.wac_taking.proofs.TakeLemmas.{content_identifier, no_name, some_name, MayTake-Takes, MayTake-copies, Takes-copied, Takes-after, Takes-none, Takes-more, Takes-then, Takes-hit, Takes-enter}
 use Rattle.wac_taking.proofs.taking.+taking.Goals as goal
 
 pub take_defined-returns-in-Some : goal.take_defined-returns-in-Some
@@ -423,7 +427,9 @@ take_used-returns t c =
     let p = c.used_at-interface.result in
     MatchResult-weaker c.take_interface.result c.take_interface.ensures (λ r h.
     Takes-more f c.args.state.now c.take_interface.new.state (height f (interface_key p)) _ _ _ _ _ (omega (arith, used_lower f c.args.uses.now.entries c.args.index p c.used_at-interface.ensures)) (within_used f c.args.uses.now.entries c.args.index p c.used_at-interface.ensures) c.requires.state (λ s kept taken q at. let both : Some p ≡ Some q = sym c.used_at-interface.ensures ∙ at in let same : p ≡ q = cc in subst (λ j. IsTakenKey class_of f s (interface_key j) (interface_key r)) same taken) h)
-    (λ e h none. absurd (omega (arith, ap length none, length-named use_content c.args.uses.now.entries, c.requires.at)))
+    (λ e h.
+    let w = used_named c.args.uses.now.entries c.args.index p c.used_at-interface.ensures in
+    refused_used f (named use_content c.args.uses.now.entries) c.args.index w.0 w.1 e w.2 (subst (λ q. IsRefused f (interface_key q ∷ []) e) (sym w.3) h))
 
 pub take_world-returns-in-Some : goal.take_world-returns-in-Some
 take_world-returns-in-Some t c =
@@ -824,15 +830,16 @@ take_world-returns-in_err-uses t c =
 
 pub take_owner-returns-then-is_none : goal.take_owner-returns-then-is_none
 take_owner-returns-then-is_none t c =
-    record { plain = λ p. absurd (not_plain_owned c.args.types.now c.args.id c.in-Some.owner (c.requires.of ∙ c.in-Some.is) p) }
+    let f = c.args.types.now in
+    let unidentified = ap (option_and_then (λ (x : InterfaceContent). x.id)) c.index.ensures.entry ∙ no_name c.index.result.now.id c.if-is_none.ensures in
+    refused_owner f c.args.id c.in-Some.owner (resource_content c.index-then-is_none.result.now) (OwnerWithoutIdentifier c.in_ok-resource.resource) c.index-then-is_none.ensures.entry (c.requires.of ∙ c.in-Some.is) unidentified
+    (ap (λ n. Some (owner_without_identifier n)) c.in_ok-resource.ensures.cases)
 
 pub take_owner-returns-in_err-own : goal.take_owner-returns-in_err-own
 take_owner-returns-in_err-own t c =
-    refused_owned c.args.types.now c.args.id c.in-Some.owner (c.requires.of ∙ c.in-Some.is) c.from_residual-in_err-own.result _ c.from_residual-in_err-own.ensures.0
-
-pub take_owner-returns-in_err-import_owner : goal.take_owner-returns-in_err-import_owner
-take_owner-returns-in_err-import_owner t c =
-    refused_owned c.args.types.now c.args.id c.in-Some.owner (c.requires.of ∙ c.in-Some.is) c.from_residual-in_err-import_owner.result _ c.from_residual-in_err-import_owner.ensures.0
+    let f = c.args.types.now in
+    let o = c.in-Some.owner in
+    refused_part f (interface_key o ∷ []) (resource_key c.args.id ∷ []) c.from_residual-in_err-own.result _ c.in_err-own.field-0.0 (owned_within f c.args.id o (c.requires.of ∙ c.in-Some.is)) c.in_err-own.ensures c.from_residual-in_err-own.ensures
 
 pub take_owners-returns-in_err-take_owner : goal.take_owners-returns-in_err-take_owner
 take_owners-returns-in_err-take_owner t c =
@@ -843,8 +850,12 @@ take_owners-returns-in_err-take_owner t c =
 
 pub take_uses-returns-in_err-own : goal.take_uses-returns-in_err-own
 take_uses-returns-in_err-own t c =
-    MatchResult-from_err c.from_residual-in_err-own.result _ _ c.from_residual-in_err-own.ensures.0 (λ e none. absurd (omega (arith, ap length none, length-named use_content c.args.uses.now.entries, c.loop-i-test.true, c.len-i-end.ensures.len)))
+    passed_on c.from_residual-in_err-own.result _ _ c.in_err-own.field-0.0 c.from_residual-in_err-own.ensures c.in_err-own.ensures
 
 pub take_used-returns-then-is_none : goal.take_used-returns-then-is_none
 take_used-returns-then-is_none t c =
-    λ none. absurd (omega (arith, ap length none, length-named use_content c.args.uses.now.entries, c.requires.at))
+    let f = c.args.types.now in
+    let p = c.used_at-interface.result in
+    let w = used_named c.args.uses.now.entries c.args.index p c.used_at-interface.ensures in
+    let unidentified = ap (option_and_then (λ (x : InterfaceContent). x.id)) c.index.ensures.entry ∙ no_name c.index.result.now.id c.if-is_none.ensures in
+    refused_use f (named use_content c.args.uses.now.entries) c.args.index w.0 w.1 c.in_ok-no_identifier.field-0 w.2 (subst (λ q. identifier f q ≡ None) (sym w.3) unidentified) (c.in_ok-no_identifier.ensures w.0 w.1 w.2)

@@ -12,7 +12,7 @@ pub check_use-requires-clause-new : goal.check_use-requires-clause-new
 check_use-requires-clause-new c =
     each_yielded (Stands c.args.types.now) deref_pair c.args.new.now.entries c.loop-name.yielded _ _ _ _ (c.in-Some.name, c.in-Some.used) c.into_iter-name-iterator.ensures.into_iter_gives.0 c.loop-name.yielded_by c.in-Some.is c.next.ensures.steps c.requires.new
 
-pub returns-in_err-check_use : goal.returns-in_err-check_use
-returns-in_err-check_use c =
+pub returns-in_err-check_use-clause-uses : goal.returns-in_err-check_use-clause-uses
+returns-in_err-check_use-clause-uses c =
     if_err c.from_residual.result _ (λ e. inr (λ none. each_yielded (λ _. ⊥) deref_pair c.args.new.now.entries c.loop-name.yielded _ _ _ _ (c.in-Some.name, c.in-Some.used) c.into_iter-name-iterator.ensures.into_iter_gives.0 c.loop-name.yielded_by c.in-Some.is c.next.ensures.steps
     (subst (λ us. Each (λ _. ⊥) (named_keys use_keys us)) (sym none) tt)))

@@ -2,10 +2,10 @@ use Rattle.std.proofs.Common.{ap, ◌∙◌}
 use Rattle.wac_checker.specs.Cache.{without_number}
 use Rattle.wac_checker.specs.Checker.{remembered}
 use Rattle.wac_call_lists.specs.Call.{Call}
-use Rattle.wac_taking.proofs.Plain.{passed_on}
+use Rattle.wac_taking.proofs.Plain.{error_passed_on, passed_on}
 use Rattle.wac_aggregator.specs.Content.{AggregatorContent}
 use Rattle.wac_aggregator.proofs.Advancing.{by_track}
-use Rattle.wac_aggregator.proofs.Handing.{call_may, call_in_order, call_number, call_step, call_truly, call_plain, call_refused}
+use Rattle.wac_aggregator.proofs.Handing.{call_may, call_in_order, call_number, call_step, call_truly, call_plain, call_reason, call_refused}
 use Rattle.wac_aggregator.proofs.aggregator.TypeAggregator.aggregate.Goals as goal
 
 pub advance-requires-clause-state : goal.advance-requires-clause-state
@@ -48,3 +48,8 @@ pub returns-in_err-advance-clause-plain : goal.returns-in_err-advance-clause-pla
 returns-in_err-advance-clause-plain c =
     let call : Call = record { name = c.args.name.now; types = c.args.types.now; kind = c.args.kind } in
     passed_on c.from_residual.result _ _ c.in_err-advance.field-0.0 c.from_residual.ensures (call_refused call c.self.inside.state c.direction-state.result c.args.self c.self.view_is c.self.invariant c.requires.apart c.requires.remembered c.in_err-advance.field-0.0 c.in_err-advance.ensures)
+
+pub returns-in_err-advance-clause-reason : goal.returns-in_err-advance-clause-reason
+returns-in_err-advance-clause-reason c =
+    let call : Call = record { name = c.args.name.now; types = c.args.types.now; kind = c.args.kind } in
+    error_passed_on c.from_residual.result _ c.in_err-advance.field-0.0 c.from_residual.ensures (call_reason call c.self.inside.state c.direction-state.result c.args.self c.self.view_is c.self.invariant c.requires.apart c.requires.remembered c.in_err-advance.field-0.0 c.in_err-advance.ensures)
