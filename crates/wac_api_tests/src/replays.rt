@@ -120,10 +120,11 @@ fn a_benchmark_that_is_not_there_is_refused(rt: HostRuntime) {
 }
 
 // Benchmarks, and how many operations each has at size 3.
-static BENCHMARKS: [(&str, u32); 8] = [
+static BENCHMARKS: [(&str, u32); 9] = [
     ("1-subtype-instances", 3),
     ("1b-asked-again", 1),
     ("2-tuple-chain", 1),
+    ("3-aggregate-two-versions", 6),
     ("4a-validate-plain", 6),
     ("4b-validate-versions", 6),
     ("5a-namemap-insert", 3),

@@ -2,6 +2,7 @@
 
 mod benchmark;
 mod error;
+mod imports;
 mod instances;
 mod measuring;
 mod name_maps;

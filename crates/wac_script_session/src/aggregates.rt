@@ -82,6 +82,19 @@ fn push_call<'a>(
     }
 }
 
+/// What a new aggregator makes of calls, with one checker for all of them.
+pub(crate) fn aggregate_calls<'a>(
+    alloc: Global,
+    collections: &Collections,
+    calls: &[ItemCall],
+) -> Result<Result<TypeAggregator, AggregateAllError>, ScriptError<'a>> {
+    let Some(number) = collections.free_number() else {
+        return Err(ScriptError::Memory);
+    };
+    let calls = calls_of(alloc, collections, calls)?;
+    Ok(aggregated(alloc, number, &calls, true))
+}
+
 /// Puts the answer to `aggregate` last: the imports that calls make, the names that lead to them, and whether they fit
 /// where the items are asked for, or why a call is refused.
 pub(crate) fn aggregate<'a>(

@@ -11,6 +11,9 @@ pub enum Benchmark {
     /// With an empty cache, whether a value of the nth tuple fits where the nth tuple of another
     /// collection is asked for. The first is a pair of bytes, and each next one a pair of the one before.
     TupleChain,
+    /// Hands n instances to a new aggregator, and then n of a greater version on the same tracks, with one
+    /// checker, whose cache is empty at first. They are of two collections.
+    TwoVersions,
     /// Whether a component fits a target world of the same n imports and n exports, all functions.
     ValidatePlain,
     /// The same with instances, whose names have a greater version on their track in the target world.
@@ -30,6 +33,7 @@ impl Benchmark {
             "1-subtype-instances" => Some(Benchmark::Instances),
             "1b-asked-again" => Some(Benchmark::AskedAgain),
             "2-tuple-chain" => Some(Benchmark::TupleChain),
+            "3-aggregate-two-versions" => Some(Benchmark::TwoVersions),
             "4a-validate-plain" => Some(Benchmark::ValidatePlain),
             "4b-validate-versions" => Some(Benchmark::ValidateVersions),
             "5a-namemap-insert" => Some(Benchmark::Insert),
@@ -45,6 +49,7 @@ impl Benchmark {
             Benchmark::Instances => "1-subtype-instances",
             Benchmark::AskedAgain => "1b-asked-again",
             Benchmark::TupleChain => "2-tuple-chain",
+            Benchmark::TwoVersions => "3-aggregate-two-versions",
             Benchmark::ValidatePlain => "4a-validate-plain",
             Benchmark::ValidateVersions => "4b-validate-versions",
             Benchmark::Insert => "5a-namemap-insert",
@@ -57,7 +62,8 @@ impl Benchmark {
     pub fn operations(self, n: u32) -> u64 {
         match self {
             Benchmark::AskedAgain | Benchmark::TupleChain => 1,
-            Benchmark::ValidatePlain | Benchmark::ValidateVersions => u64::from(n) * 2,
+            Benchmark::TwoVersions | Benchmark::ValidatePlain | Benchmark::ValidateVersions =>
+                u64::from(n) * 2,
             Benchmark::Instances | Benchmark::Insert | Benchmark::GetExact | Benchmark::GetTrack =>
                 u64::from(n),
         }

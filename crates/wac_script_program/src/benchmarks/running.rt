@@ -2,6 +2,7 @@
 
 use super::benchmark::Benchmark;
 use super::error::BenchError;
+use super::imports::TwoVersions;
 use super::instances::{AskAfresh, AskAgain};
 use super::measuring::{Measured, measure};
 use super::name_maps::{Gets, Insertions};
@@ -21,6 +22,7 @@ fn measured<C: Clock>(
         Benchmark::Instances => measure(clock, alloc, &mut AskAfresh::instances(alloc, n)?),
         Benchmark::AskedAgain => measure(clock, alloc, &mut AskAgain::instances(alloc, n)?),
         Benchmark::TupleChain => measure(clock, alloc, &mut tuples(alloc, n)?),
+        Benchmark::TwoVersions => measure(clock, alloc, &mut TwoVersions::new(alloc, n)?),
         Benchmark::ValidatePlain => measure(clock, alloc, &mut Worlds::plain(alloc, n)?),
         Benchmark::ValidateVersions => measure(clock, alloc, &mut Worlds::versioned(alloc, n)?),
         Benchmark::Insert => measure(clock, alloc, &mut Insertions::new(alloc, n)?),
