@@ -36,7 +36,7 @@ module_identifier : (o : Option ModuleTree) → option_map_or entry_identifier (
 module_identifier None = refl
 module_identifier (Some m) = refl
 
-module_quiet : (c : Collection) (m : Id) → IsQuiet c (module_key m)
+pub module_quiet : (c : Collection) (m : Id) → IsQuiet c (module_key m)
 module_quiet c m t n w is = by_walk (module_key m) t refl w is
   where
     nowhere : (j : Key) → IsAmong j [] → ⊥

@@ -7,4 +7,5 @@ pub mod Keeping
 pub mod Roots
 pub mod Split
 pub mod Standing
+pub mod Trial
 pub mod Laws
