@@ -1,15 +1,16 @@
 -- What copying does to the state of merging.
-use Rattle.std.specs.Prelude.{◌≡◌, ◌<◌, ℕ, None}
+use Rattle.std.specs.Prelude.{◌≡◌, ◌<◌, ℕ, Some, None}
 use Rattle.wac_component.specs.Collection.{Collection, AliasContent, UseContent}
 use Rattle.wac_component.specs.Growth.{Extends}
 use Rattle.wac_component.specs.Height.{height}
-use Rattle.wac_component.specs.Key.{Key, AllStand, alias_keys, interface_key}
+use Rattle.wac_component.specs.Key.{Key, Each, Stands, AllStand, alias_keys, interface_key}
 use Rattle.wac_component.specs.Tree.{root_name}
 use Rattle.wac_names.specs.Class.{class_of}
-use Rattle.wac_narrowing.specs.Apart.{AreApart}
+use Rattle.wac_narrowing.specs.Apart.{IsApart, AreApart}
 use Rattle.wac_narrowing.specs.Remembers.{RemembersTruly}
-use Rattle.wac_narrowing.specs.Standing.{IsCopy}
-use Rattle.wac_narrowing.specs.State.{State, IsKept, Runs}
+use Rattle.wac_narrowing.specs.State.{State, IsNotedCopy, IsKept, Runs}
+use Rattle.wac_narrowing.specs.Taking.{SameTree}
+use Rattle.wac_reasons.specs.Split.{StaySplit}
 use Rattle.wac_copies.specs.Memo.{memo_of}
 use Rattle.wac_copies.specs.declared.memo.Memo.{Memo}
 
@@ -29,19 +30,30 @@ pub record MayCopy (f c : Collection) (m : Memo) : Type 0 where
 abbrev pub moved : State → Collection → Memo → State
 moved s d n = record s { own = d; copies = memo_of n }
 
--- what copying from f does to the own collection and to what was copied: entries are only added, each state runs on to one of which the fact holds, and no id above the height is noted
+-- what copying from f does to the own collection and to what was copied: entries are only added, each state runs on to one of which the fact holds, no id above the height is noted, and what open walks lead to stays apart from copies and from what is below imports
 pub record Copies (f c : Collection) (m : Memo) (d : Collection) (n : Memo) (top : ℕ) (Holds : State → Type 0) : Type 0 where
   pub low : (k : Key) → top < height f k → memo_of m k ≡ None → memo_of n k ≡ None
   pub grows : (s : State) → IsState f c m s → Extends c d
   pub runs : (s : State) → IsState f c m s → Runs (RemembersTruly class_of) f s (moved s d n) × Holds (moved s d n)
+  pub splits : (s : State) → IsState f c m s → StaySplit s (moved s d n)
+
+-- the own entry is a copy of the foreign one, and noted
+pub record IsNotedAs (f : Collection) (s : State) (theirs own : Key) : Type 0 where
+  pub sort : own.sort ≡ theirs.sort
+  pub theirs_stands : Stands f theirs
+  pub own_stands : Stands s.own own
+  pub apart : IsApart s.own s.shared own
+  pub same : SameTree f s.own theirs own
+  pub noted : s.copies theirs ≡ Some own
 
 -- the own alias names copies of what the foreign one names
 pub record IsCopiedAlias (f : Collection) (s : State) (a b : AliasContent) : Type 0 where
   pub stand : AllStand s.own (alias_keys b)
   pub apart : AreApart s.own s.shared (alias_keys b)
+  pub noted : Each (IsNotedCopy s) (alias_keys b)
   pub source : root_name s.own b.source ≡ root_name f a.source
 
 -- the own use is of a copy, under the same name
 pub record IsCopiedUse (f : Collection) (s : State) (u v : UseContent) : Type 0 where
   pub name : v.name ≡ u.name
-  pub interface : IsCopy f s.own s.shared (interface_key u.interface) (interface_key v.interface)
+  pub interface : IsNotedAs f s (interface_key u.interface) (interface_key v.interface)

@@ -23,7 +23,7 @@ use Rattle.wac_narrowing.specs.Identified.{use_names, use_names_at, IsUnstopped,
 use Rattle.wac_narrowing.specs.Narrows.{Narrows}
 use Rattle.wac_narrowing.specs.Remembers.{IsRememberedAs, RemembersTruly}
 use Rattle.wac_narrowing.specs.Standing.{StandsFor}
-use Rattle.wac_narrowing.specs.State.{State, Memo, IsKept, Runs}
+use Rattle.wac_narrowing.specs.State.{State, Memo, IsNotedCopy, IsKept, Runs}
 use Rattle.wac_narrowing.specs.Taking.{IsClosedIn, IsTakenKey, AreTakenKeys, no_keys, one_key, IsTakenItem, IsCopiedItem, AreMapped, none, one}
 use Rattle.wac_narrowing.proofs.Adding.{Narrows-all_stand, Narrows-all_apart}
 use Rattle.wac_narrowing.proofs.Remembered.{IsRememberedAs-step, quiet_unstopped, plain_remembered}
@@ -46,6 +46,11 @@ module _ {V W : Type 0} where
 quiet_keys : {T : Type 0} (track : Text → T) (f : Collection) (s : State) (is js : List Key) → AreTakenKeys track f s is js → Each (IsQuiet f) is → Each (IsUnstopped s.own) js
 quiet_keys track f s is js no_keys q = tt
 quiet_keys track f s is js (one_key {i = i} {j = j} {is = ps} {js = bs} h m) q = (quiet_unstopped track f s.own s.shared i j h.remembered q.0, quiet_keys track f s ps bs m q.1)
+
+-- what was noted as a copy is so still
+pub noted_still : (s t : State) → ((theirs own : Key) → s.copies theirs ≡ Some own → t.copies theirs ≡ Some own) → (ks : List Key) → Each (IsNotedCopy s) ks → Each (IsNotedCopy t) ks
+noted_still s t kept [] h = tt
+noted_still s t kept (k ∷ ks) h = ((h.0.0, kept h.0.0 k h.0.1), noted_still s t kept ks h.1)
 
 -- in every run
 module _ {T : Type 0} (track : Text → T) (f : Collection) (s t : State) (kept : IsKept s) (IsTrue : Collection → State → Type 0) (e : Collection) (run : Runs IsTrue e s t) where
@@ -76,6 +81,7 @@ module _ {T : Type 0} (track : Text → T) (f : Collection) (s t : State) (kept 
   copied_item_still x y h = record {
     stands = Narrows-all_stand s.own t.own s.shared t.shared (run.narrows kept) (item_keys y) h.stands;
     apart = Narrows-all_apart s.own t.own s.shared t.shared (run.narrows kept) (item_keys y) h.stands h.apart;
+    noted = noted_still s t run.copies (item_keys y) h.noted;
     same = (run.narrows kept).same y h.stands h.apart ∙ h.same;
   }
 

@@ -13,7 +13,7 @@ use Rattle.wac_merge.specs.Items.{entry_item}
 use Rattle.wac_narrowing.specs.Apart.{AreApart}
 use Rattle.wac_narrowing.specs.Identified.{IsQuiet, IsCovered}
 use Rattle.wac_narrowing.specs.Remembers.{IsRememberedAs}
-use Rattle.wac_narrowing.specs.State.{State, Memo}
+use Rattle.wac_narrowing.specs.State.{State, Memo, IsNotedCopy}
 
 -- the two entries have the same tree
 abbrev pub SameTree : Collection → Collection → Key → Key → Type 0
@@ -42,10 +42,11 @@ pub record IsTakenItem {T : Type 0} (track : Text → T) (f : Collection) (s : S
   pub quiet : Each (IsQuiet f) (item_keys x) → item_tree s.own y ≡ item_tree f x
   pub keys : AreTakenKeys track f s (item_keys x) (item_keys y)
 
--- an own item that is a copy of the foreign one
+-- an own item that is a copy of the foreign one; what it names was noted
 pub record IsCopiedItem (f : Collection) (s : State) (x y : ItemKind) : Type 0 where
   pub stands : AllStand s.own (item_keys y)
   pub apart : AreApart s.own s.shared (item_keys y)
+  pub noted : Each (IsNotedCopy s) (item_keys y)
   pub same : item_tree s.own y ≡ item_tree f x
 
 -- the same names in the same order, each with two values of this relation
