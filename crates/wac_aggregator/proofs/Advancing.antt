@@ -20,6 +20,12 @@ use Rattle.wac_call_lists.specs.Aggregated.{IsStep, IsByTrack}
 use Rattle.wac_call_lists.specs.Call.{Call, call_track, call_tree}
 use Rattle.wac_imports.specs.Import.{ImportContent, ImportsContent, import_of, import_at, AreFiled}
 use Rattle.wac_imports.proofs.Listed.{of_listed}
+use Rattle.wac_call_lists.specs.Attempt.{Attempt}
+use Rattle.wac_component.specs.Reach.{IsAmong}
+use Rattle.wac_component.proofs.Among.{among_each}
+use Rattle.wac_reasons.specs.Sharing.{of_import}
+use Rattle.wac_reasons.specs.Trial.{IsTrial, IsAccounted, IsOpenSource}
+use Rattle.wac_reasons.proofs.Accounts.{root_open, accounted_imports}
 use Rattle.wac_taking.specs.Takes.{shared_keys, state_of, MayTake}
 use Rattle.wac_taking.specs.declared.state.Merging.{Merging}
 use Rattle.wac_aggregator.specs.Advances.{IsPlaced, Advances, added, noted}
@@ -109,6 +115,14 @@ module _ (call : Call) (a b : Merging) (may : MayTake call.types a) (filed_a : A
 
   pub run : Runs (RemembersTruly class_of) f (state_of a) (state_of b)
   run = Runs-trans (RemembersTruly class_of) f (state_of a) (state_of h.taken) (state_of b) h.takes.run rest
+
+  -- all stays accounted for
+  pub call_accounts : (at : Attempt) → IsTrial at call.types (item_keys call.kind) → IsAccounted at (state_of a) → IsAccounted at (state_of b)
+  call_accounts at trial all =
+      let now = h.accounts at trial all in
+      let stays = accounted_imports at mid (record mid { imports = import_at b.imports }) (to_mid.kept taken_kept) refl refl refl refl
+      (was_or (λ x. (k : Key) → IsAmong k (item_keys x) → IsOpenSource at mid k) (λ k m. among_each (IsOpenSource at mid) k (item_keys h.import) m now.1) (λ n x is k m. root_open at mid k now.0 (of_import {n = n} is m))) now.0 in
+      subst (λ (m : Merging). IsAccounted at (state_of m)) (sym h.same) stays.now
 
   -- the import serves
   pub fits_item : Fits (item_tree b.types h.import) (call_tree call)

@@ -11,7 +11,9 @@ use Rattle.wac_component.proofs.Among.{each_among}
 use Rattle.wac_names.specs.Class.{Class}
 use Rattle.wac_narrowing.specs.Apart.{IsApart, IsGood}
 use Rattle.wac_narrowing.specs.Identified.{IsCovered}
+use Rattle.wac_narrowing.specs.Laws.{IsNew}
 use Rattle.wac_narrowing.specs.State.{IsKept}
+use Rattle.wac_reasons.proofs.Starting.{new_held}
 use Rattle.wac_copies.specs.Memo.{memo_of}
 use Rattle.wac_imports.specs.Import.{ImportsContent, import_at, AreFiled}
 use Rattle.wac_taking.specs.Takes.{shared_keys, shared_in, state_of, AreFiledIn}
@@ -38,6 +40,15 @@ module _ (a : Merging) (number : ℕ) (sound : IsSound a.types) (empty : a.types
     isolated = λ k st. each_among (IsApart a.types (shared_keys a.shared.entries)) (import_next a.types k) (λ j m s among walk. none_shared s among);
   }
 
+  new : IsNew (state_of a)
+  new = record {
+    sound = sound;
+    shared = ap (λ (es : List (Class × Id)). shared_keys es) shared;
+    imports = λ n. ap (λ (is : ImportsContent). import_at is n) imports;
+    taken = taken;
+    copies = copies;
+  }
+
   kept : IsKept (state_of a)
   kept = record {
     good = good;
@@ -51,4 +62,4 @@ module _ (a : Merging) (number : ℕ) (sound : IsSound a.types) (empty : a.types
   filed q i at = absurd (let no : None ≡ Some i = sym (ap (λ (es : List (Class × Id)). shared_in es q) shared) ∙ at in cc)
 
   pub starts : IsStart a number
-  starts = record { in_order = record { kept = kept; filed = filed; imports = imports_filed }; empty = empty; imports = imports; shared = shared; taken = taken; copies = copies }
+  starts = record { in_order = record { kept = kept; filed = filed; imports = imports_filed; held = (new_held (state_of a) new).0; split = (new_held (state_of a) new).1 }; empty = empty; imports = imports; shared = shared; taken = taken; copies = copies }

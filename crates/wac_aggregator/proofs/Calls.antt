@@ -18,11 +18,17 @@ use Rattle.wac_narrowing.specs.Taking.{IsTakenItem}
 use Rattle.wac_narrowing.proofs.Mapped.{taken_each}
 use Rattle.wac_call_lists.specs.Call.{Call, call_track}
 use Rattle.wac_imports.specs.Import.{ImportContent, ImportsContent, import_of, import_at, IsNoted}
-use Rattle.wac_taking.specs.Growing.{IsMetWith}
+use Rattle.wac_call_lists.specs.Attempt.{Attempt}
+use Rattle.wac_reasons.specs.Trial.{IsTrial, IsAccounted, IsOpenSource}
+use Rattle.wac_reasons.proofs.Accounts.{accounted_built}
+use Rattle.wac_taking.specs.Growing.{IsMetWith, with_own}
 use Rattle.wac_taking.specs.Takes.{shared_keys, state_of, MayTake, IsOwnEntry, IsNear, Takes}
 use Rattle.wac_taking.specs.declared.state.Merging.{Merging}
 use Rattle.wac_taking.proofs.GrowLemmas.{StepsOn-refl}
+use Rattle.wac_taking.proofs.MergeReasons.{met_sources}
+use Rattle.wac_taking.proofs.TakeLemmas.{near_none}
 use Rattle.wac_aggregator.specs.Advances.{added, noted, Advances, IsAdded, IsMerged}
+use Rattle.wac_aggregator.proofs.Trying.{import_open, own_open, taken_accounted}
 
 -- the import of which this is the item
 pub import_with : (o : Option ImportContent) (x : ItemKind) → option_map (λ (i : ImportContent). i.1) o ≡ Some x → (i : ImportContent) × (o ≡ Some i) × (i.1 ≡ x)
@@ -59,6 +65,7 @@ module _ (call : Call) (a mid : Merging) (own : ItemKind) (may : MayTake call.ty
     alone = λ q. refl;
     greatest = λ i at. absurd (let no : None ≡ Some i = sym none ∙ at in cc);
     placed = added none h.none h.puts h.led;
+    accounts = λ at trial all. (taken_accounted call a may mid own takes at trial all, own_open call a may mid own takes at trial all);
   }
 
   -- merged into one
@@ -72,11 +79,22 @@ module _ (call : Call) (a mid : Merging) (own : ItemKind) (may : MayTake call.ty
     pub some_still : IsSome (import_of mid.imports (call_track call))
     some_still = rw found_still refl
 
-    at_still : import_at mid.imports call.name ≡ Some existing
+    pub at_still : import_at mid.imports call.name ≡ Some existing
     at_still = ap (option_map (λ (i : ImportContent). i.1)) found_still ∙ ap (λ (x : ItemKind). Some x) was.2
 
     pub existing_stands : AllStand mid.types (item_keys existing)
     existing_stands = (takes.run.kept may.kept).imports call.name existing at_still
+
+    -- what is met is open where both are
+    met_accounted : (d : Collection) (m : ItemKind) → IsMetWith mid.types d existing own m → (at : Attempt) → IsTrial at call.types (item_keys call.kind) → IsAccounted at (state_of a)
+        → IsAccounted at (with_own (state_of mid) d) × Each (IsOpenSource at (with_own (state_of mid) d)) (item_keys m)
+    met_accounted d m met at trial all =
+        let now = taken_accounted call a may mid own takes at trial all in
+        let kept = takes.run.kept may.kept in
+        let stays = accounted_built at (state_of mid) d existing own met.answer kept met.builds now in (
+          stays.now,
+          met_sources mid.types d existing own m met at (state_of mid) kept existing_stands takes.holds.stands (import_open at mid call.name existing now at_still) (own_open call a may mid own takes at trial all),
+        )
 
     pub merged_advances : (b : Merging) → IsMerged mid b call.name existing own → Advances call a b
     merged_advances b h = subst (λ (m : Merging). Advances call a m) (sym h.same) record {
@@ -97,6 +115,7 @@ module _ (call : Call) (a mid : Merging) (own : ItemKind) (may : MayTake call.ty
           let same : was.0 ≡ i = let both : Some was.0 ≡ Some i = sym was.1 ∙ at in cc in
           subst (λ x. (t : ItemTree) → Fits t (item_tree mid.types x) → Fits t (item_tree mid.types own) → Fits t (item_tree b.types h.import)) (sym was.2 ∙ ap (λ (j : ImportContent). j.1) same) h.met.greatest;
       placed = noted was.0 was.1 (h.noted was.0 found_still);
+      accounts = λ at trial all. met_accounted b.types h.import h.met at trial all;
     }
 
 -- what is told of a mismatch changes nothing else
@@ -118,6 +137,7 @@ module _ (a : Merging) (told : Option (String Global)) where
       due = h.takes.due;
       shares = h.takes.shares;
       plain = λ p. let only = h.takes.plain p in record { grows = only.grows; shared = only.shared; imports = only.imports };
+      accounts = λ at trial all by. h.takes.accounts at trial all (near_none at (record a { handed_in = told }));
       holds = h.takes.holds;
     };
     same = h.same;
@@ -130,6 +150,7 @@ module _ (a : Merging) (told : Option (String Global)) where
     alone = h.alone;
     greatest = h.greatest;
     placed = h.placed;
+    accounts = h.accounts;
   }
 
 -- no import where there is none of which to ask

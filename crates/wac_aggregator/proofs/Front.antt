@@ -295,8 +295,8 @@ none_served calls a taken copies imports shared = record {
     no_key : {e : Key} → IsAmong e [] → ⊥
     no_key m = elim m [ ]
 
-module _ (calls : List Call) (a : Merging) (filed : AreFiled a.imports) (s : AreServed calls calls a) where
-  all_served : AllAreServed calls (shown (content_of a))
+module _ (calls front : List Call) (a : Merging) (filed : AreFiled a.imports) (s : AreServed calls front a) where
+  all_served : AllAreServed front (shown (content_of a))
   all_served c d m n on =
       let theirs = s.served c m in
       let i = s.served d n in
@@ -307,26 +307,26 @@ module _ (calls : List Call) (a : Merging) (filed : AreFiled a.imports) (s : Are
         fits = i.2;
       }
 
-  names : AreImportNames calls (keys_of (listed a.imports))
+  names : AreImportNames front (keys_of (listed a.imports))
   names = record {
     named = λ k d l. by_name (slice_index_or (keys_of (listed a.imports)) k d) (Contains-get_or (keys_of (listed a.imports)) k d l);
     one_each = subst (IsDistinct class_eq) (sym (classes_listed a.imports filed)) filed.distinct;
     all_due = λ t due. subst (λ cs. Contains cs t) (sym (classes_listed a.imports filed)) (Contains-keys_from_lookup (λ x y e. (classes_decided x y).0 e) t a.imports.list (has_import t due));
   }
     where
-      by_name : (n : Text) → Contains (keys_of (listed a.imports)) n → IsImportName calls n
+      by_name : (n : Text) → Contains (keys_of (listed a.imports)) n → IsImportName front n
       by_name n m =
           let i = of_key n (listed a.imports) m in
-          subst (IsImportName calls) i.2 (s.names (class_of i.0.0) i.0 (of_Contains a.imports filed i.0 i.1))
+          subst (IsImportName front) i.2 (s.names (class_of i.0.0) i.0 (of_Contains a.imports filed i.0 i.1))
         where
           of_key : (n : Text) (es : List ImportContent) → Contains (keys_of es) n → (i : ImportContent) × Contains es i × (i.0 ≡ n)
           of_key n [] m = absurd (omega (arith, m.1))
           of_key n (e ∷ es) (zero, l, q) = (e, Contains-first e es, q)
           of_key n (e ∷ es) (suc k, l, q) = let r = of_key n es (k, omega (arith, l), q) in (r.0, Contains-later r.0 e es r.1, r.2)
 
-      has_import : (t : Class) → IsDue calls t → IsSome (import_of a.imports t)
+      has_import : (t : Class) → IsDue front t → IsSome (import_of a.imports t)
       has_import t (of_name c h) = let r = s.served c h.among in rw (ap (import_of a.imports) (sym h.on_track) ∙ r.1.import) refl
       has_import t (of_owner c m o) = let r = s.owned c t m o in rw r.1 refl
 
-  pub all_aggregated : IsAggregated calls (shown (content_of a))
+  pub all_aggregated : IsAggregated front (shown (content_of a))
   all_aggregated = record { served = all_served; names = names }

@@ -3,6 +3,7 @@ use Rattle.std.proofs.Common.{◌≡◌, ◌≢◌, Some, None, ap, sym, ◌∙�
 use Rattle.wac_mismatch.specs.declared.check.SubtypeCheck.{SubtypeCheck}
 use Rattle.wac_component.specs.Collection.{Collection}
 use Rattle.wac_component.specs.Key.{AllStand, item_keys}
+use Rattle.wac_component.specs.Sound.{IsSound}
 use Rattle.wac_component.specs.declared.items.ItemKind.{ItemKind}
 use Rattle.std.specs.List.{Contains}
 use Rattle.wac_model.specs.Text.{Text}
@@ -23,7 +24,7 @@ use Rattle.wac_imports.proofs.Listed.{of_Contains}
 use Rattle.wac_taking.specs.Refused.{said, HasReason}
 use Rattle.wac_taking.specs.Takes.{MayTake}
 use Rattle.wac_taking.specs.declared.state.Merging.{Merging}
-use Rattle.wac_aggregator.specs.Advances.{attempt_at, Advances, IsRefusedCall}
+use Rattle.wac_aggregator.specs.Advances.{attempt_at, Advances, IsRefusedCall, MayTry}
 use Rattle.wac_aggregator.specs.Content.{AggregatorContent, shown, content_of, state_in}
 use Rattle.wac_aggregator.specs.InOrder.{IsInOrder}
 use Rattle.wac_aggregator.proofs.Advancing.{at_of, run, advances_step}
@@ -35,6 +36,13 @@ use Rattle.wac_aggregator.proofs.Remembering.{truly_in, truly_of}
 pub imports_stand : (a : Merging) → IsInOrder a → (n : Text) (k : ItemKind) → Contains (listed a.imports) (n, k) → AllStand a.types (item_keys k)
 imports_stand a h n k m = h.kept.imports n k (at_of a.imports n (n, k) (of_Contains a.imports h.imports (n, k) m))
 
+-- what refuses a call that may be tried is a reason, by the imports that are shown
+pub refused_reason : (call : Call) (a : Merging) → AreFiled a.imports → MayTry call a → (e : AggregateError) → IsRefusedCall call a e → HasReason (single_attempt a.types (track_imports (shown (content_of a)) (call_track call)) call) e
+refused_reason call a filed try e h = by (track_import a (call_track call) filed)
+  where
+    by : track_imports (shown (content_of a)) (call_track call) ≡ (attempt_at call a).import → HasReason (single_attempt a.types (track_imports (shown (content_of a)) (call_track call)) call) e
+    by same r says = subst (λ import. IsReason (single_attempt a.types import call) r) (sym same) ((h (λ memory. let no : None ≡ Some r = sym (ap said memory) ∙ says in absurd (cc))).reason try r says)
+
 module _ (call : Call) (inside : Merging) (told : SubtypeCheck) (before : AggregatorContent) (is : content_of inside ≡ before) (order : IsInOrder inside) (apart : call.types.number ≢ before.types.number) (truly : RemembersTruly class_of call.types (state_in before)) where
   abbrev a : Merging
   a = record inside { check = told }
@@ -42,9 +50,12 @@ module _ (call : Call) (inside : Merging) (told : SubtypeCheck) (before : Aggreg
   pub call_may : MayTake call.types a
   call_may = record { apart = λ e. apart (e ∙ ap (λ (s : AggregatorContent). s.types.number) is); kept = order.kept; truly = truly_of call.types inside (subst (λ s. RemembersTruly class_of call.types (state_in s)) (sym is) truly); filed = order.filed }
 
+  call_try : IsSound call.types → AllStand call.types (item_keys call.kind) → MayTry call a
+  call_try sound item = record { sound = record { sound = sound; stands = item }; held = order.held; split = order.split }
+
   module _ (b : Merging) (filed : AreFiled b.imports) (h : Advances call a b) where
-    pub call_in_order : IsInOrder b
-    call_in_order = advances_in_order call a b call_may order.imports filed h
+    pub call_in_order : IsSound call.types → AllStand call.types (item_keys call.kind) → IsInOrder b
+    call_in_order sound item = advances_in_order call a b call_may (call_try sound item) order.imports filed h
 
     pub call_number : b.types.number ≡ before.types.number
     call_number = advances_number call a b call_may order.imports filed h ∙ ap (λ (s : AggregatorContent). s.types.number) is
@@ -61,8 +72,5 @@ module _ (call : Call) (inside : Merging) (told : SubtypeCheck) (before : Aggreg
   pub call_refused : (e : AggregateError) → IsRefusedCall call a e → IsPlain call.types call.kind → e ≢ Memory → IsPlainRefusal (track_imports (shown before)) call
   call_refused e h p ne = subst (λ s. IsPlainRefusal (track_imports (shown s)) call) is (plain_refusal call a order.imports ((h ne).plain p))
 
-  pub call_reason : (e : AggregateError) → IsRefusedCall call a e → HasReason (single_attempt before.types (track_imports (shown before) (call_track call)) call) e
-  call_reason e h = subst (λ s. HasReason (single_attempt s.types (track_imports (shown s) (call_track call)) call) e) is (by (track_import a (call_track call) order.imports))
-    where
-      by : track_imports (shown (content_of a)) (call_track call) ≡ (attempt_at call a).import → HasReason (single_attempt a.types (track_imports (shown (content_of a)) (call_track call)) call) e
-      by same r says item = subst (λ import. IsReason (single_attempt a.types import call) r) (sym same) ((h (λ memory. let no : None ≡ Some r = sym (ap said memory) ∙ says in absurd (cc))).reason r says item)
+  pub call_reason : (e : AggregateError) → IsSound call.types → AllStand call.types (item_keys call.kind) → IsRefusedCall call a e → HasReason (single_attempt before.types (track_imports (shown before) (call_track call)) call) e
+  call_reason e sound item h = subst (λ s. HasReason (single_attempt s.types (track_imports (shown s) (call_track call)) call) e) is (refused_reason call a order.imports (call_try sound item) e h)

@@ -4,6 +4,7 @@ pub mod Advancing
 pub mod Front
 pub mod Calls
 pub mod Beginning
+pub mod Trying
 pub mod Listing
 pub mod Remembering
 pub mod Handing

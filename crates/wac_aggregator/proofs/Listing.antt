@@ -5,22 +5,26 @@ use Rattle.std.proofs.lemmas.List.Elements.{Contains-get_or}
 use Rattle.std.proofs.lemmas.Option.{slice_get_within, get_or_from_slice_get, slice_get-get_or}
 use Rattle.std.specs.Option.{option_map}
 use Rattle.wac_component.specs.Key.{AllStand, item_keys}
+use Rattle.wac_component.specs.Sound.{IsSound}
 use Rattle.wac_component.proofs.Lists.{slice_get-map}
 use Rattle.wac_call_lists.specs.Call.{Call}
 use Rattle.wac_imports.specs.Import.{AreFiled}
 use Rattle.wac_names.specs.Class.{class_of}
 use Rattle.wac_narrowing.specs.Remembers.{RemembersTruly}
-use Rattle.wac_narrowing.specs.State.{Runs}
+use Rattle.wac_narrowing.specs.State.{IsKept, Runs}
+use Rattle.wac_reasons.specs.Trial.{IsAccounted}
 use Rattle.wac_taking.specs.Takes.{state_of, AreFiledIn, MayTake}
 use Rattle.wac_taking.specs.declared.state.Merging.{Merging}
 use Rattle.wac_taking.proofs.TakeLemmas.{AreFiledIn-run}
-use Rattle.wac_aggregator.specs.Advances.{Advances}
+use Rattle.wac_reasons.proofs.Starting.{held_after}
+use Rattle.wac_aggregator.specs.Advances.{attempt_at, Advances, MayTry}
 use Rattle.wac_aggregator.specs.HandedIn.{called, handed_in}
 use Rattle.wac_aggregator.specs.Served.{AreServed}
 use Rattle.wac_aggregator.specs.InOrder.{IsInOrder}
 use Rattle.wac_aggregator.specs.declared.all.Call.{Call as Handed}
-use Rattle.wac_aggregator.proofs.Advancing.{run, rest, taken_kept}
+use Rattle.wac_aggregator.proofs.Advancing.{run, rest, taken_kept, call_accounts}
 use Rattle.wac_aggregator.proofs.Front.{advances_served}
+use Rattle.wac_aggregator.proofs.Trying.{call_trial, call_accounted}
 
 -- one more of a list
 pub take-next : {A : Type 0} (xs : List A) (i : ℕ) (x : A) → slice_get xs i ≡ Some x → take (suc i) xs ≡ take i xs ++ x ∷ []
@@ -33,14 +37,26 @@ Contains-at xs i x h = subst (Contains xs) (get_or_from_slice_get xs i x x h) (C
 pub called_at : (calls : List Handed) (i : ℕ) (x : Handed) → i < length calls → x ≡ slice_index_or calls i x → slice_get (handed_in calls) i ≡ Some (called x)
 called_at calls i x l is = slice_get-map called calls i ∙ ap (option_map called) (slice_get-get_or calls i x l ∙ ap (λ y. Some y) (sym is))
 
+-- a call of a sound collection may be tried
+pub may_try : (call : Call) (a : Merging) → IsSound call.types → AllStand call.types (item_keys call.kind) → IsInOrder a → MayTry call a
+may_try call a sound item order = record { sound = record { sound = sound; stands = item }; held = order.held; split = order.split }
+
 -- the state is in order after a call
-pub advances_in_order : (call : Call) (a b : Merging) → MayTake call.types a → AreFiled a.imports → AreFiled b.imports → Advances call a b → IsInOrder b
-advances_in_order call a b may filed_a filed_b h = record {
-  kept = (run call a b may filed_a filed_b h).kept may.kept;
+pub advances_in_order : (call : Call) (a b : Merging) → MayTake call.types a → MayTry call a → AreFiled a.imports → AreFiled b.imports → Advances call a b → IsInOrder b
+advances_in_order call a b may try filed_a filed_b h = record {
+  kept = kept_b;
   filed = subst (λ (m : Merging). AreFiledIn m.types m.shared.entries) (sym h.same) (AreFiledIn-run call.types (state_of h.taken) (state_of (record h.taken { types = b.types; imports = b.imports })) h.taken.shared.entries (taken_kept call a b may filed_a filed_b h) refl
       (subst (λ (m : Merging). Runs (RemembersTruly class_of) call.types (state_of h.taken) (state_of m)) h.same (rest call a b may filed_a filed_b h)) h.takes.filed);
   imports = filed_b;
+  held = held_after (attempt_at call a) (state_of b) kept_b now;
+  split = now.split;
 }
+  where
+    kept_b : IsKept (state_of b)
+    kept_b = (run call a b may filed_a filed_b h).kept may.kept
+
+    now : IsAccounted (attempt_at call a) (state_of b)
+    now = call_accounts call a b may filed_a filed_b h (attempt_at call a) (call_trial call a may try) (call_accounted call a may try)
 
 -- and its collection has the number that it had
 pub advances_number : (call : Call) (a b : Merging) → MayTake call.types a → AreFiled a.imports → AreFiled b.imports → Advances call a b → b.types.number ≡ a.types.number

@@ -13,16 +13,15 @@ use Rattle.wac_component.specs.declared.items.ItemKind.{ItemKind}
 use Rattle.wac_component.proofs.Extended.{AllStand-Extends}
 use Rattle.wac_names.specs.Class.{Class, class_eq, class_of}
 use Rattle.wac_names.proofs.Classes.{classes_decided}
-use Rattle.wac_narrowing.specs.State.{IsKept}
 use Rattle.wac_call_lists.specs.Aggregated.{track_imports}
 use Rattle.wac_call_lists.specs.Call.{Call, call_track, call_tree}
 use Rattle.wac_call_lists.specs.PlainList.{IsPlain}
 use Rattle.wac_call_lists.specs.Answer.{Imports, Answer, accepted, refused}
 use Rattle.wac_call_lists.specs.PlainRun.{IsMetWith, IsPlainStep, IsPlainRefusal, IsPlainRun, goes_on, stops, ends, no_imports}
-use Rattle.wac_imports.specs.Import.{ImportContent, ImportsContent, import_of, import_at, AreFiled}
+use Rattle.wac_imports.specs.Import.{ImportContent, ImportsContent, import_of, AreFiled}
 use Rattle.wac_imports.specs.Left.{listed}
 use Rattle.wac_imports.proofs.Listed.{classes_listed}
-use Rattle.wac_taking.specs.Takes.{state_of, MayTake, OnlyAdds}
+use Rattle.wac_taking.specs.Takes.{MayTake, OnlyAdds}
 use Rattle.wac_taking.specs.declared.state.Merging.{Merging}
 use Rattle.wac_taking.proofs.Plain.{plain_quiet}
 use Rattle.wac_aggregator.specs.Advances.{Advances, HasNoMeet}

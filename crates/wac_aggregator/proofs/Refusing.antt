@@ -1,63 +1,45 @@
 -- Why a call is refused.
-use Rattle.std.proofs.Common.{◌≡◌, ◌≢◌, ◌⊎◌, inl, inr, [], ◌∷◌, Option, Some, None, IsSome, Result, Ok, Err, String, Global, refl, ap, sym, subst, ◌∙◌}
+use Rattle.std.proofs.Common.{◌≡◌, ◌⊎◌, inl, inr, Option, Some, None, IsSome, String, Global, refl, ap, sym, subst, ◌∙◌}
 use Rattle.std.specs.Option.{option_map}
-use Rattle.std.specs.Result.{IfErr, MatchResult}
 use Rattle.wac_model.specs.Desc.{item_desc}
 use Rattle.wac_model.specs.ItemTree.{ItemTree}
 use Rattle.wac_model.specs.Text.{Text}
 use Rattle.wac_model.specs.Order.{Fits}
-use Rattle.wac_bounds.specs.Bounds.{IsLowerBound}
-use Rattle.wac_component.specs.Collection.{Collection}
-use Rattle.wac_component.specs.Growth.{Extends}
 use Rattle.wac_component.specs.Height.{keys_height}
-use Rattle.wac_component.specs.Key.{AllStand, item_keys, interface_key}
+use Rattle.wac_component.specs.Key.{item_keys, interface_key}
 use Rattle.wac_component.specs.Tree.{item_tree}
 use Rattle.wac_component.specs.declared.items.ItemKind.{ItemKind}
 use Rattle.wac_names.specs.Class.{class_of}
 use Rattle.wac_narrowing.specs.Taking.{IsTakenItem}
+use Rattle.wac_reasons.proofs.Reasons.{merges_clash}
 use Rattle.wac_call_lists.specs.Call.{Call, call_track, call_tree}
 use Rattle.wac_call_lists.specs.Case.{case_of}
 use Rattle.wac_call_lists.specs.PlainList.{IsPlain}
-use Rattle.wac_call_lists.specs.Reason.{kinds, taken, IsReason, IsTaken}
+use Rattle.wac_call_lists.specs.Reason.{kinds, mismatch, taken, IsTaken}
 use Rattle.wac_call_lists.proofs.WitReasons.{fits_case}
 use Rattle.wac_imports.specs.Import.{ImportContent, ImportsContent, import_of}
 use Rattle.wac_refusals.specs.declared.error.AggregateError.{AggregateError}
 use Rattle.wac_refusals.specs.declared.error.AggregateError.TheVariants.{Memory}
-use Rattle.wac_taking.specs.Growing.{AreApartIn}
-use Rattle.wac_taking.specs.Refused.{said, IsOfMerging, IsRefused, IsUsesRefusal}
+use Rattle.wac_taking.specs.Refused.{said, HasReason, IsRefused, IsMergeRefusal, UsesDiffer, SaysMismatch}
 use Rattle.wac_taking.specs.Takes.{state_of, IsOwnersImport, MayTake, Takes}
 use Rattle.wac_taking.specs.declared.state.Merging.{Merging}
-use Rattle.wac_taking.proofs.GrowLemmas.{below_both}
 use Rattle.wac_taking.proofs.Identifiers.{has_identifier}
-use Rattle.wac_taking.proofs.Plain.{not_of_item, plain_quiet}
+use Rattle.wac_taking.proofs.MergeReasons.{one_reason, entries_refused}
+use Rattle.wac_taking.proofs.Plain.{plain_quiet}
+use Rattle.wac_taking.proofs.TakeLemmas.{near_none}
 use Rattle.wac_taking.proofs.UseLemmas.{plain_no_uses}
-use Rattle.wac_taking.proofs.Within.{within_all}
-use Rattle.wac_aggregator.specs.Advances.{attempt_at, HasNoMeet, IsRefusedCall, IsMergeRefusal, for_memory, over_uses, have_no_meet}
-use Rattle.wac_aggregator.proofs.Calls.{import_with}
+use Rattle.wac_aggregator.specs.Advances.{attempt_at, HasNoMeet, IsRefusedCall, MayTry}
+use Rattle.wac_aggregator.proofs.Calls.{import_with, at_still, existing_stands}
+use Rattle.wac_aggregator.proofs.Trying.{call_trial, call_accounted, import_open, own_open, taken_accounted}
 
 -- what refuses the item refuses the call
-pub item_refused : (call : Call) (a : Merging) (e : AggregateError) → IsRefused call.types (item_keys call.kind) e → IsRefusedCall call a e
-item_refused call a e h ne =
+pub item_refused : (call : Call) (a : Merging) (e : AggregateError) → MayTake call.types a → IsRefused call.types a (item_keys call.kind) e → IsRefusedCall call a e
+item_refused call a e may h ne =
     let r = h ne in
     record {
       plain = λ p. absurd (r.plain p);
-      reason = r.reason call.name call.kind (attempt_at call a).import (attempt_at call a).sources (within_all call.types (item_keys call.kind));
+      reason = λ try. r.reason (attempt_at call a) (call_trial call a may try) (call_accounted call a may try) (near_none (attempt_at call a) a);
     }
-
--- uses that may disagree
-pub over_uses_of : (c : Collection) (existing own : ItemKind) (e : AggregateError) → IsUsesRefusal c (item_keys own) e → IsMergeRefusal c existing own e
-over_uses_of c existing own e (inl is) = for_memory is
-over_uses_of c existing own e (inr uses) = over_uses uses
-
--- two that have no meet once entries were added had none before
-pub apart_before : (c d : Collection) (a b : ItemKind) → Extends c d → AllStand c (item_keys a) → AllStand c (item_keys b) → AreApartIn d a b → AreApartIn c a b
-apart_before c d a b grows sa sb apart t low =
-    apart t (subst (IsLowerBound t) (ap (λ x. x ∷ item_tree c b ∷ []) (sym (grows.trees a sa)) ∙ ap (λ x. item_tree d a ∷ x ∷ []) (sym (grows.trees b sb))) low)
-
--- what holds of each error, beside what does so
-pub both_errors : {X : Type 0} (r : Result X AggregateError) (P : X → Type 0) (Q R : AggregateError → Type 0) → MatchResult r P Q → IfErr r R → MatchResult r P (λ e. Q e × R e)
-both_errors (Ok x) P Q R h k = h
-both_errors (Err e) P Q R h k = (h, k)
 
 no_some : (o : Option ImportContent) → o ≡ None → IsSome o → ⊥
 no_some None is h = absurd (cc h)
@@ -79,9 +61,7 @@ module _ (call : Call) (a : Merging) (existing : ItemKind) (found : option_map (
   pub cases_refused : (e : AggregateError) → ¬ (case_of (item_tree a.types existing) ≡ case_of (call_tree call)) → said e ≡ Some (kinds (item_desc (item_tree a.types existing)) (item_desc (call_tree call))) → IsRefusedCall call a e
   cases_refused e differ says ne = record {
     plain = λ p. no_meet (λ t x y. differ (sym (fits_case x) ∙ fits_case y));
-    reason = λ r is item.
-        let same : r ≡ kinds (item_desc (item_tree a.types existing)) (item_desc (call_tree call)) = let both : Some r ≡ Some (kinds (item_desc (item_tree a.types existing)) (item_desc (call_tree call))) = sym is ∙ says in cc in
-        subst (IsReason (attempt_at call a)) (sym same) (record { tree = item_tree a.types existing; stood = stood; differ = differ; existing_desc = refl; found_desc = refl });
+    reason = λ try. one_reason (attempt_at call a) e (kinds (item_desc (item_tree a.types existing)) (item_desc (call_tree call))) says (record { tree = item_tree a.types existing; stood = stood; differ = differ; existing_desc = refl; found_desc = refl });
   }
 
 module _ (call : Call) (a mid : Merging) (own : ItemKind) (may : MayTake call.types a)
@@ -91,9 +71,7 @@ module _ (call : Call) (a mid : Merging) (own : ItemKind) (may : MayTake call.ty
   not_added e none (inl is) ne = absurd (ne is)
   not_added e none (inr h) ne = record {
     plain = λ p. absurd (no_some (import_of mid.imports (call_track call)) (ap (λ (is : ImportsContent). import_of is (call_track call)) (takes.plain p).imports ∙ none) h.0);
-    reason = λ r is item.
-        let same : r ≡ taken call.name = let both : Some r ≡ Some (taken call.name) = sym is ∙ h.1 in cc in
-        subst (IsReason (attempt_at call a)) (sym same) (came (import_of mid.imports (call_track call)) refl h.0);
+    reason = λ try. one_reason (attempt_at call a) e (taken call.name) h.1 (came (import_of mid.imports (call_track call)) refl h.0);
   }
     where
       of_owner : (n : Text) → IsOwnersImport call.types (item_keys call.kind) mid (call_track call) n → IsTaken (attempt_at call a) call.name
@@ -114,21 +92,36 @@ module _ (call : Call) (a mid : Merging) (own : ItemKind) (may : MayTake call.ty
         | inr o ↦ of_owner i.0 o
       ]
 
-  -- it has no meet with the import
-  pub not_merged : (existing : ItemKind) → option_map (λ (i : ImportContent). i.1) (import_of a.imports (call_track call)) ≡ Some existing → (e : AggregateError) → IsMergeRefusal mid.types existing own e → IsOfMerging e → IsRefusedCall call a e
-  not_merged existing found e h of ne = record { plain = λ p. by p ne h; reason = λ r is item. absurd (not_of_item e of r is item) }
-    where
-      by : IsPlain call.types call.kind → e ≢ Memory → IsMergeRefusal mid.types existing own e → HasNoMeet call a
-      by p ne (for_memory is) = absurd (ne is)
-      by p ne (over_uses uses) = absurd (plain_no_uses call.types (state_of mid) call.kind own p takes.holds uses)
-      by p ne (have_no_meet apart) =
-          let only = takes.plain p in
-          let same_import = only.grows.trees existing (may.kept.imports call.name existing found) in
-          let same_item = takes.holds.quiet (plain_quiet call.types (item_keys call.kind) p) in
-          no_meet call a existing found (λ t x y. apart t (below_both t (item_tree mid.types existing) (item_tree mid.types own) (subst (Fits t) (sym same_import) x) (subst (Fits t) (sym same_item) y)))
+  -- it has no meet with the import, or their uses differ
+  module _ (existing : ItemKind) (found : option_map (λ (i : ImportContent). i.1) (import_of a.imports (call_track call)) ≡ Some existing) (e : AggregateError) where
+    plain_apart : IsPlain call.types call.kind → UsesDiffer mid.types (item_keys existing) (item_keys own) e ⊎ SaysMismatch mid.types existing own e → HasNoMeet call a
+    plain_apart p (inl uses) = absurd (plain_no_uses call.types (state_of mid) call.kind own p takes.holds (item_keys existing) e uses)
+    plain_apart p (inr clash) =
+        let only = takes.plain p in
+        let same_import = only.grows.trees existing (may.kept.imports call.name existing found) in
+        let same_item = takes.holds.quiet (plain_quiet call.types (item_keys call.kind) p) in
+        no_meet call a existing found (λ t x y. clash.no_bound t (subst (Fits t) (sym same_import) x) (subst (Fits t) (sym same_item) y))
+
+    clash_reason : (try : MayTry call a) → UsesDiffer mid.types (item_keys existing) (item_keys own) e ⊎ SaysMismatch mid.types existing own e → HasReason (attempt_at call a) e
+    clash_reason try h =
+        let at = attempt_at call a in
+        let trial = call_trial call a may try in
+        let all = call_accounted call a may try in
+        let now = taken_accounted call a may mid own takes at trial all in
+        let kept = takes.run.kept may.kept in
+        let there = import_open at mid call.name existing now (at_still call a mid own may takes existing found) in
+        let taken_open = own_open call a may mid own takes at trial all in
+        elim h [
+          | inl uses ↦ entries_refused at (state_of mid) (item_keys existing) (item_keys own) e (inl (rw (stood call a existing found) refl)) kept (existing_stands call a mid own may takes existing found) takes.holds.stands there taken_open uses
+          | inr clash ↦ one_reason at e mismatch clash.says
+              (merges_clash at (state_of a) (state_of mid) existing own may.kept kept (takes.run.narrows may.kept) (may.kept.imports call.name existing found) (stood call a existing found) refl now takes.holds there taken_open clash.no_bound)
+        ]
+
+    pub not_merged : IsMergeRefusal mid.types existing own e → IsRefusedCall call a e
+    not_merged h ne = record { plain = λ p. plain_apart p (h ne); reason = λ try. clash_reason try (h ne) }
 
 -- what is told of a mismatch changes nothing else
 pub told_refused : (a : Merging) (told : Option (String Global)) (call : Call) (e : AggregateError) → IsRefusedCall call (record a { handed_in = told }) e → IsRefusedCall call a e
 told_refused a told call e h ne =
     let r = h ne in
-    record { plain = λ p. let n = r.plain p in record { import = n.import; stood = n.stood; no_bound = n.no_bound }; reason = r.reason }
+    record { plain = λ p. let n = r.plain p in record { import = n.import; stood = n.stood; no_bound = n.no_bound }; reason = λ try. r.reason (record { sound = try.sound; held = try.held; split = try.split }) }

@@ -4,7 +4,6 @@ use Rattle.std.specs.Option.{option_map}
 use Rattle.wac_model.specs.Text.{Text}
 use Rattle.wac_model.specs.ItemTree.{ItemTree}
 use Rattle.wac_model.specs.Order.{Fits}
-use Rattle.wac_component.specs.Collection.{Collection}
 use Rattle.wac_component.specs.Height.{keys_height}
 use Rattle.wac_component.specs.Key.{Each, AllStand, item_keys}
 use Rattle.wac_component.specs.Tree.{item_tree}
@@ -13,15 +12,18 @@ use Rattle.wac_names.specs.Class.{class_of}
 use Rattle.wac_narrowing.specs.Identified.{IsCovered}
 use Rattle.wac_narrowing.specs.Taking.{IsTakenItem}
 use Rattle.wac_call_lists.specs.Attempt.{Attempt, single_attempt}
-use Rattle.wac_call_lists.specs.Call.{Call, call_track, call_tree}
+use Rattle.wac_call_lists.specs.Call.{Call, IsSoundCall, call_track, call_tree}
 use Rattle.wac_call_lists.specs.PlainList.{IsPlain}
 use Rattle.wac_call_lists.specs.TreeSets.{HaveNoLowerBound}
 use Rattle.wac_imports.specs.Import.{ImportContent, ImportsContent, import_of, PutsImport, IsNoted}
+use Rattle.wac_reasons.specs.Sharing.{AreHeld}
+use Rattle.wac_reasons.specs.Split.{AreSplit}
+use Rattle.wac_reasons.specs.Trial.{IsTrial, IsAccounted, IsOpenSource}
 use Rattle.wac_refusals.specs.declared.error.AggregateError.{AggregateError}
 use Rattle.wac_refusals.specs.declared.error.AggregateError.TheVariants.{Memory}
-use Rattle.wac_taking.specs.Growing.{StepsOn, IsMetWith, AreApartIn}
-use Rattle.wac_taking.specs.Refused.{HasReason, HaveUses}
-use Rattle.wac_taking.specs.Takes.{shared_keys, Takes}
+use Rattle.wac_taking.specs.Growing.{StepsOn, IsMetWith, with_own}
+use Rattle.wac_taking.specs.Refused.{HasReason}
+use Rattle.wac_taking.specs.Takes.{shared_keys, state_of, Takes}
 use Rattle.wac_taking.specs.declared.state.Merging.{Merging}
 
 -- what is imported on the name's track is this item now: under the name where there was no import before the call and none came with the item, else as the import that stood there is noted
@@ -45,6 +47,8 @@ pub record Advances (call : Call) (a b : Merging) : Type 0 where
   pub alone : import_of a.imports (call_track call) ≡ None → item_tree b.types import ≡ item_tree taken.types own
   pub greatest : (i : ImportContent) → import_of a.imports (call_track call) ≡ Some i → (t : ItemTree) → Fits t (item_tree taken.types i.1) → Fits t (item_tree taken.types own) → Fits t (item_tree b.types import)
   pub placed : IsPlaced a.imports taken.imports b.imports call.name import
+  -- while a call is tried whose item openly reaches this one's, all stays accounted for, and the import is open and comes from sources
+  pub accounts : (at : Attempt) → IsTrial at call.types (item_keys call.kind) → IsAccounted at (state_of a) → IsAccounted at (with_own (state_of taken) b.types) × Each (IsOpenSource at (with_own (state_of taken) b.types)) (item_keys import)
 
 -- an import stands on the track of the name, and no item fits where either that or the item is asked for
 pub record HasNoMeet (call : Call) (a : Merging) : Type 0 where
@@ -56,10 +60,16 @@ pub record HasNoMeet (call : Call) (a : Merging) : Type 0 where
 abbrev pub attempt_at : Call → Merging → Attempt
 attempt_at call a = single_attempt a.types (option_map (λ i. item_tree a.types i.1) (import_of a.imports (call_track call))) call
 
--- why a call is refused: a plain item since it has no meet with the import on its track
+-- the call is sound, and before it all that open walks lead to is held, and apart from what is below imports
+pub record MayTry (call : Call) (a : Merging) : Type 0 where
+  pub sound : IsSoundCall call
+  pub held : AreHeld (state_of a)
+  pub split : AreSplit (state_of a)
+
+-- why a call is refused: a plain item since it has no meet with the import on its track; and there is reason
 pub record IsCallRefusal (call : Call) (a : Merging) (e : AggregateError) : Type 0 where
   pub plain : IsPlain call.types call.kind → HasNoMeet call a
-  pub reason : HasReason (attempt_at call a) e
+  pub reason : MayTry call a → HasReason (attempt_at call a) e
 
 -- that is so unless there is no memory
 abbrev pub IsRefusedCall : Call → Merging → AggregateError → Type 0
@@ -78,9 +88,3 @@ pub record IsMerged (a b : Merging) (name : Text) (existing own : ItemKind) : Ty
   pub import : ItemKind
   pub met : IsMetWith a.types b.types existing own import
   pub noted : (i : ImportContent) → import_of a.imports (class_of name) ≡ Some i → IsNoted a.imports b.imports (class_of name) i.0 name import
-
--- why an import and what was taken in for it are not merged: for want of memory, over uses, or since they have no meet
-pub data IsMergeRefusal (c : Collection) (existing own : ItemKind) (e : AggregateError) : Type 0 where
-  for_memory : e ≡ Memory → IsMergeRefusal c existing own e
-  over_uses : HaveUses c (item_keys own) → IsMergeRefusal c existing own e
-  have_no_meet : AreApartIn c existing own → IsMergeRefusal c existing own e

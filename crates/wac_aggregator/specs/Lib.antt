@@ -1,4 +1,5 @@
 pub mod Advances
+pub mod After
 pub mod Content
 pub mod HandedIn
 pub mod InOrder

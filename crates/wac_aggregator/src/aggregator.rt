@@ -93,8 +93,8 @@ impl TypeAggregator {
     /// last, and its old name leads to it; else the name leads to the import. A refusal consumes the aggregator. No
     /// pair with an id of the aggregator stays in the checker's cache; nothing else of the checker changes.
     ///
-    /// `Kinds`, `NoIdentifier`, `OwnerWithoutIdentifier` and `Taken` come only where there is that reason: with the import
-    /// that stood on the track, in the item.
+    /// A refusal but for want of memory comes only where there is that reason: with the import that stood on the track, in
+    /// the item, or, of what can't be merged with it, in what this aggregator had taken in.
     ///
     /// An item that reaches no interface with an identifier, no interface or world with uses, and no resource with an
     /// owner changes no import but the one on its track, and is refused, but for want of memory, only where no item
@@ -123,6 +123,7 @@ impl TypeAggregator {
         let mut state = self.state;
         checker.forget(state.types.number());
         state.check = checker.direction();
+        types.sound();
         advance(&mut state, name, types, kind)?;
         state.imports.filed();
         Ok(TypeAggregator { state })

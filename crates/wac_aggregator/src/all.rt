@@ -1,6 +1,6 @@
 //! Lists of calls.
 
-ghost use Rattle.std.specs.Prelude.{◌≡◌, ◌≢◌, ◌<◌, Contains, IfErr, IfOk, MatchResult, length};
+ghost use Rattle.std.specs.Prelude.{◌≡◌, ◌≢◌, ◌<◌, Some, Contains, IfErr, IfOk, MatchResult, length, slice_get, take};
 ghost use Rattle.wac_component.specs.Key.{AllStand, item_keys};
 ghost use Rattle.wac_checker.specs.Cache.{without_number};
 ghost use Rattle.wac_checker.specs.Checker.{direction, depth, remembered};
@@ -10,6 +10,7 @@ ghost use Rattle.wac_call_lists.specs.PlainList.{IsPlainList};
 ghost use Rattle.wac_refusals.specs.declared.error.AggregateError.TheVariants.{Memory};
 ghost use Rattle.wac_call_lists.specs.Call as listed;
 ghost use Rattle.wac_aggregator.specs.HandedIn.{handed_in};
+ghost use Rattle.wac_aggregator.specs.After.{HasReasonAfter};
 ghost use Rattle.wac_aggregator.specs.Content.{shown};
 
 use super::aggregator::TypeAggregator;
@@ -39,8 +40,10 @@ pub struct Call<'a> {
 /// memory, exactly where the items of each track of names have a common lower bound, whatever the order of calls; each
 /// import is then the greatest of these.
 ///
-/// The first refusal is answered with the number of its call, from 0 on. No pair with an id of the number stays in the
-/// checker's cache; nothing else of the checker changes.
+/// The first refusal is answered with the number of its call, from 0 on. But for want of memory it comes only where an
+/// aggregator that has the calls before it has reason to refuse this one, as `TypeAggregator::aggregate` says.
+///
+/// No pair with an id of the number stays in the checker's cache; nothing else of the checker changes.
 pub fn aggregate_all(
     alloc: Global,
     number: u64,
@@ -52,6 +55,7 @@ pub fn aggregate_all(
     requires apart { (c : listed.Call) → Contains (handed_in calls.now) c → c.types.number ≢ number }
     ensures aggregated { IfOk result (λ a. IsAggregated (handed_in calls.now) (shown a)) }
     ensures plain { IsPlainList (handed_in calls.now) → MatchResult result (λ a. IsPlainAnswer (handed_in calls.now) (accepted (track_imports (shown a)))) (λ e. e.error ≢ Memory → IsPlainAnswer (handed_in calls.now) (refused e.at)) }
+    ensures reason { IfErr result (λ e. (c : listed.Call) → slice_get (handed_in calls.now) e.at ≡ Some c → HasReasonAfter number (take e.at (handed_in calls.now)) c e.error) }
     ensures by_track { IfOk result (λ a. IsByTrack (shown a)) }
     ensures number { IfOk result (λ a. a.types.number ≡ number) }
     ensures at { IfErr result (λ e. e.at < length calls.now) }
@@ -64,6 +68,7 @@ pub fn aggregate_all(
     let mut state = no_imports(alloc, number, checker.direction());
     for at in 0..calls.len() {
         let call = &calls[at];
+        call.types.sound();
         if let Err(error) = advance(&mut state, call.name, call.types, call.kind) {
             return Err(AggregateAllError { at, error });
         }

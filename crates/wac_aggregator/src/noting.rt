@@ -1,12 +1,12 @@
 //! An import that is merged with what was taken in for it.
 
-ghost use Rattle.std.specs.Prelude.{◌≡◌, Some, IsSome, IfErr, IfOk, MatchResult};
+ghost use Rattle.std.specs.Prelude.{◌≡◌, Some, IsSome, IfOk, MatchResult};
 ghost use Rattle.wac_component.specs.Key.{AllStand, item_keys};
 ghost use Rattle.wac_imports.specs.Import.{ImportContent, import_of, IsNoted};
 ghost use Rattle.wac_names.specs.Class.{class_of};
 ghost use Rattle.wac_taking.specs.Growing.{IsMetWith};
-ghost use Rattle.wac_taking.specs.Refused.{IsOfMerging};
-ghost use Rattle.wac_aggregator.specs.Advances.{IsMerged, IsMergeRefusal};
+ghost use Rattle.wac_taking.specs.Refused.{IsMergeRefusal};
+ghost use Rattle.wac_aggregator.specs.Advances.{IsMerged};
 
 use std::alloc::AllocError;
 use wac_clashes::mismatch;
@@ -27,8 +27,7 @@ pub(crate) fn note_import(
     requires own { AllStand state.old.types (item_keys own) }
     requires of { class ≡ class_of name.now }
     requires found { IsSome (import_of state.old.imports class) }
-    ensures merged { MatchResult result (λ u. IsMerged state.old state.new name.now existing own) (IsMergeRefusal state.old.types existing own) }
-    ensures merging { IfErr result IsOfMerging }
+    ensures { MatchResult result (λ u. IsMerged state.old state.new name.now existing own) (IsMergeRefusal state.old.types existing own) }
 {
     match merge_items(state, existing, own) {
         Ok(met) => Ok(note(state, class, name, met)?),
@@ -46,7 +45,6 @@ fn merge_items(
     requires own { AllStand state.old.types (item_keys own) }
     ensures same { state.new ≡ record state.old { types = state.new.types } }
     ensures met { MatchResult result (IsMetWith state.old.types state.new.types existing own) (IsMergeRefusal state.old.types existing own) }
-    ensures merging { IfErr result IsOfMerging }
 {
     let alloc = state.alloc();
     check_uses_of(alloc, &state.types, existing, own)?;

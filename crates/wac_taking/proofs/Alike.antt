@@ -15,7 +15,6 @@ use Rattle.wac_component.specs.Sound.{IsSound}
 use Rattle.wac_component.specs.Tree.{item_tree, root_name, value_tree}
 use Rattle.wac_component.specs.declared.items.ItemKind.{ItemKind}
 use Rattle.wac_component.specs.declared.items.ValueType.TheVariants.{Defined}
-use Rattle.wac_component.proofs.Extended.{Extends-refl}
 use Rattle.wac_component.proofs.Among.{among_each, among_right, each_among, each_found, Contains-first, Contains-later, among_either, among_single}
 use Rattle.wac_component.proofs.Keys.{largest-append}
 use Rattle.wac_component.proofs.Lists.{slice_get-map}
@@ -34,15 +33,20 @@ use Rattle.wac_narrowing.specs.Standing.{StandsFor}
 use Rattle.wac_narrowing.specs.Values.{IfAny, neither, both}
 use Rattle.wac_narrowing.proofs.Adding.{fits_if_same}
 use Rattle.wac_narrowing.proofs.Remembered.{RemembersTruly-take}
-use Rattle.wac_narrowing.proofs.Running.{Runs-take, StandsFor-Narrows}
+use Rattle.wac_narrowing.proofs.Running.{Runs-take, Runs-trans, StandsFor-Narrows}
 use Rattle.wac_narrowing.proofs.Stopping.{stop_identified}
+use Rattle.wac_call_lists.specs.Attempt.{Attempt}
+use Rattle.wac_reasons.specs.Sharing.{of_shared}
+use Rattle.wac_reasons.specs.Trial.{IsAccounted, IsOpenSource}
+use Rattle.wac_reasons.proofs.Accounts.{root_open, part_open, accounted_then, accounted_taken}
 use Rattle.wac_copies.specs.Memo.{memo_of}
 use Rattle.wac_copies.specs.declared.memo.Memo.{Memo}
 use Rattle.wac_alike.specs.Alike.{made_keys, made_next, IsMadeOf, itself, part, AreOwnersIdentified, AreAlike, AreOwnedIn}
 use Rattle.wac_alike.proofs.MadeOf.{IsTypeKey, is_type_sort, made_opens, made_types, made_stands, made_unidentified, made_or_owned, no_identifier}
-use Rattle.wac_taking.specs.Takes.{state_of, MayTake, IsOwnEntry, IsNear, AreLedTo, AreWithin, Takes, owners_keys, LeadsToOwner, OwnersImported, IsOwnerImported, IsTakenOwner, AreOwnersTaken}
+use Rattle.wac_taking.specs.Takes.{state_of, MayTake, IsOwnEntry, IsNear, IsNearest, near_keys, AreNear, AreLedTo, AreWithin, TakesBy, Takes, owners_keys, LeadsToOwner, OwnersImported, IsOwnerImported, IsTakenOwner, AreOwnersTaken}
 use Rattle.wac_taking.specs.declared.state.Merging.{Merging}
-use Rattle.wac_taking.proofs.TakeLemmas.{Takes-after, Takes-more, Takes-then, still_none}
+use Rattle.wac_taking.proofs.TakeLemmas.{Takes-near, Takes-more, Takes-then, still_none, trial_within, near_still, near_none, owners_import_still, owners_import_within, shared_from_still, shared_from_within, shared_stands}
+use Rattle.wac_taking.proofs.Plain.{plain_within}
 use Rattle.wac_taking.proofs.Parts.{owner_still}
 use Rattle.wac_taking.proofs.Within.{within_all, owned_within}
 
@@ -285,25 +289,43 @@ module _ (f : Collection) (sound : IsSound f) (a b : Merging) (now : Memo) (thei
   pub alike_absent : memo_of a.taken theirs ≡ None → memo_of b.taken theirs ≡ None
   alike_absent none = g.low theirs (owners_lower f sound theirs rs stands is_type made) none
 
-  pub Takes-alike : AddsPair (memo_of b.taken) (memo_of now) theirs ours → memo_of b.taken theirs ≡ None → Takes f a (record b { taken = now }) (height f theirs) (theirs ∷ []) (λ t. Unit {0})
+  pub Takes-alike : AddsPair (memo_of b.taken) (memo_of now) theirs ours → memo_of b.taken theirs ≡ None → TakesBy (ours ∷ []) f a (record b { taken = now }) (height f theirs) (theirs ∷ []) (λ t. Unit {0})
   Takes-alike adds none =
       let s = state_of a in
       let t = state_of b in
       let c : Merging = record b { taken = now } in
+      let within = owned_within_type f sound theirs rs made in
+      let kept = g.run.kept may.kept in
       let runs = alike_runs f s t theirs ours rs sound stands is_type is_own_type same_sort may.kept g.run own.0 own.1 same alike owned g.holds (memo_of now) adds in
-      let noted : Takes f b c (height f theirs) (theirs ∷ []) (λ u. Unit {0}) = record {
-        low = λ k above absent. still_none f (memo_of b.taken) (memo_of now) theirs ours k adds (λ e. omega (arith, above, ap (height f) e)) absent (memo_of now k) refl;
-        run = runs;
+      record {
+        low = λ k above absent. still_none f (memo_of b.taken) (memo_of now) theirs ours k adds (λ e. omega (arith, above, ap (height f) e)) (g.low k (omega (arith, owners_lower f sound theirs rs stands is_type made, above)) absent) (memo_of now k) refl;
+        run = Runs-trans (RemembersTruly class_of) f s t (state_of c) g.run runs;
         filed = g.filed;
-        owners = λ e one h. alike_owners f s t theirs ours rs sound stands is_type is_own_type same_sort may.kept g.run own.0 own.1 same alike owned g.holds (memo_of now) e adds one h;
-        led = refl;
-        stays = λ q i is. is;
-        due = λ q i is. inl is;
-        shares = λ e among. inl among;
-        plain = λ p. record { grows = Extends-refl b.types; shared = refl; imports = refl };
+        owners = λ e one h. alike_owners f s t theirs ours rs sound stands is_type is_own_type same_sort may.kept g.run own.0 own.1 same alike owned g.holds (memo_of now) e adds one (g.owners e one h);
+        led = g.led;
+        stays = g.stays;
+        due = λ q i is. elim (g.due q i is) [
+          | inl was ↦ inl was
+          | inr new ↦ inr (owners_import_within f c (map resource_key rs) (theirs ∷ []) within q i.0 (owners_import_still f b c kept runs (map resource_key rs) q i.0 new))
+        ];
+        shares = λ e among. elim (g.shares e among) [
+          | inl was ↦ inl was
+          | inr new ↦ inr (shared_from_within f c (map resource_key rs) (theirs ∷ []) within e (shared_from_still f b c kept runs (map resource_key rs) e among new))
+        ];
+        plain = λ p. let only = g.plain (plain_within f (map resource_key rs) (theirs ∷ []) within p) in record { grows = only.grows; shared = only.shared; imports = only.imports };
+        accounts = λ at trial all by.
+            let standing = (g.run.narrows may.kept).standing in
+            let one = g.accounts at (trial_within at f (map resource_key rs) (theirs ∷ []) within trial) all (near_none at a) in
+            let now_open = (near_still at a b (ours ∷ []) standing one by).opens.0 in
+            let tree = subst (λ d. SameTree d a.types theirs ours) (sym trial.types) same in
+            accounted_then at s t (state_of c) standing one
+            (accounted_taken at t (state_of c) theirs ours kept refl refl refl refl adds now_open
+            (λ untold. elim one.grows [
+              | inl touches ↦ inl touches
+              | inr grows ↦ inr (λ k. grows.trees (entry_item k ours) (each_entry_item (Stands a.types) k ours own.0) ∙ tree k)
+            ]) one.now);
         holds = tt;
-      } in
-      Takes-after f a b c (keys_height f (owners_keys f rs)) (height f theirs) (map resource_key rs) (theirs ∷ []) (AreOwnersTaken f rs) (λ u. Unit {0}) (omega (arith, owners_lower f sound theirs rs stands is_type made)) (owned_within_type f sound theirs rs made) may g noted
+      }
 
 -- ---- near interfaces
 
@@ -311,10 +333,10 @@ module _ (f : Collection) (sound : IsSound f) (a b : Merging) (now : Memo) (thei
 pub IsOwnEntry-next : (a : Merging) (k j : Key) → IsKept (state_of a) → IsOwnEntry a k → IsAmong j (open_next a.types k) → IsOwnEntry a j
 IsOwnEntry-next a k j kept own m = (opens_stand a.types kept.good.sound k j own.0 (step m stay), λ t n w at. own.1 t n (step m w) at)
 
-pub IsOwnEntry-Takes : (f : Collection) (a b : Merging) (top : ℕ) (ks : List Key) (Q : State → Type 0) (k : Key) → MayTake f a → Takes f a b top ks Q → IsOwnEntry a k → IsOwnEntry b k
+pub IsOwnEntry-Takes : {near : List Key} (f : Collection) (a b : Merging) (top : ℕ) (ks : List Key) (Q : State → Type 0) (k : Key) → MayTake f a → TakesBy near f a b top ks Q → IsOwnEntry a k → IsOwnEntry b k
 IsOwnEntry-Takes f a b top ks Q k may g own = ((g.run.narrows may.kept).standing k own.0, (g.run.stops may.kept).covered k own.0 own.1)
 
-pub IsNear-Takes : (f : Collection) (a b : Merging) (top : ℕ) (ks : List Key) (Q : State → Type 0) (near : Option Id) → MayTake f a → Takes f a b top ks Q → IsNear a near → IsNear b near
+pub IsNear-Takes : {by : List Key} (f : Collection) (a b : Merging) (top : ℕ) (ks : List Key) (Q : State → Type 0) (near : Option Id) → MayTake f a → TakesBy by f a b top ks Q → IsNear a near → IsNear b near
 IsNear-Takes f a b top ks Q near may g h i is = IsOwnEntry-Takes f a b top ks Q (interface_key i) may g (h i is)
 
 pub IsNear-none : (a : Merging) → IsNear a None
@@ -340,6 +362,42 @@ led_to_export c near i x n is at (Some y) same =
     let all : Each P (named_keys item_keys x.exports) = each_among P (named_keys item_keys x.exports) (λ k m. subst (IsAmong k) (sym (ap (optional_keys other_keys) (interface_at c i x at))) (among_right (named_keys use_keys x.uses) (named_keys item_keys x.exports) m)) in
     let found = each_found P x.exports n y (sym same) all in
     (i, is, λ k m. among_each P k (item_keys y) m found)
+
+-- what a near interface names is near
+pub near_led : (at : Attempt) (a : Merging) (near : Option Id) (ks : List Key) → IsKept (state_of a) → AreLedTo a.types near ks → AreNear at a (near_keys near) → AreNear at a ks
+near_led at a near ks kept led h =
+    let by = subst (λ o. AreNear at a (near_keys o)) led.1 h in
+    let stands = by.stand.0 in
+    record {
+      stand = each_among (Stands a.types) ks (λ k m. opens_stand a.types kept.good.sound (interface_key led.0) k stands (step (led.2 k m) stay));
+      opens = each_among (IsOpenSource at (state_of a)) ks (λ k m. part_open at (state_of a) (interface_key led.0) k (led.2 k m) by.opens.0);
+    }
+
+-- so is an interface among them, if it is one
+pub near_below : (at : Attempt) (a : Merging) (near below : Option Id) → IsKept (state_of a) → IfSome below (λ i. AreLedTo a.types near (interface_key i ∷ [])) → AreNear at a (near_keys near) → AreNear at a (near_keys below)
+near_below at a near None kept led h = near_none at a
+near_below at a near (Some i) kept led h = near_led at a near (interface_key i ∷ []) kept led h
+
+-- and an item
+pub near_item : (at : Attempt) (a : Merging) (near : Option Id) (o : Option ItemKind) → IsKept (state_of a) → IfSome o (λ k. AreLedTo a.types near (item_keys k)) → AreNear at a (near_keys near) → AreNear at a (optional_keys item_keys o)
+near_item at a near None kept led h = near_none at a
+near_item at a near (Some k) kept led h = near_led at a near (item_keys k) kept led h
+
+-- what is shared is near
+pub near_nearest : (at : Attempt) (a : Merging) (near nearest : Option Id) → IsKept (state_of a) → IsNearest a near nearest → IsAccounted at (state_of a) → AreNear at a (near_keys near) → AreNear at a (near_keys nearest)
+near_nearest at a near None kept h all by = near_none at a
+near_nearest at a near (Some i) kept h all by = elim (h i refl) [
+  | inl same ↦ subst (λ o. AreNear at a (near_keys o)) same by
+  | inr shared ↦ record { stand = (shared_stands (state_of a) kept (interface_key i) shared, tt); opens = (root_open at (state_of a) (interface_key i) all (of_shared shared), tt) }
+]
+
+-- it is so still once more was taken in
+pub nearest_still : {by : List Key} (f : Collection) (a b : Merging) (top : ℕ) (ks : List Key) (Q : State → Type 0) (near nearest : Option Id) → MayTake f a → TakesBy by f a b top ks Q → IsNearest a near nearest → IsNearest b near nearest
+nearest_still f a b top ks Q near nearest may g h i is = elim (h i is) [ inl same ↦ inl same | inr shared ↦ inr ((g.run.stops may.kept).shared (interface_key i) shared) ]
+
+-- what was taken in near the nearest interface was so near the one that it was found from
+pub Takes-nearest : (f : Collection) (near nearest : Option Id) (a b : Merging) (top : ℕ) (ks : List Key) (Q : State → Type 0) → MayTake f a → IsNearest a near nearest → TakesBy (near_keys nearest) f a b top ks Q → TakesBy (near_keys near) f a b top ks Q
+Takes-nearest f near nearest a b top ks Q may h g = Takes-near f (near_keys nearest) (near_keys near) a b top ks Q (λ at all by. near_nearest at a near nearest may.kept h all by) g
 
 -- ---- the owners of a list of resources, one by one
 
@@ -401,7 +459,7 @@ absent_of g None h = refl
 absent_of g (Some x) h = absurd (cc)
 
 -- one more is taken in, with nothing to be said of it
-pub Takes-also : (f : Collection) (a b c : Merging) (top low : ℕ) (ks js : List Key) → low ≤ top → AreWithin f js ks → MayTake f a → Takes f a b top ks (λ t. Unit {0}) → Takes f b c low js (λ t. Unit {0}) → Takes f a c top ks (λ t. Unit {0})
+pub Takes-also : {near : List Key} (f : Collection) (a b c : Merging) (top low : ℕ) (ks js : List Key) → low ≤ top → AreWithin f js ks → MayTake f a → TakesBy near f a b top ks (λ t. Unit {0}) → TakesBy near f b c low js (λ t. Unit {0}) → TakesBy near f a c top ks (λ t. Unit {0})
 Takes-also f a b c top low ks js lower within may g h =
     Takes-more f a c top top ks ks (λ s. Unit {0} × Unit {0}) (λ s. Unit {0}) (omega arith) (within_all f ks) may (λ s kept q. tt)
     (Takes-then f a b c top low top ks js ks (λ s. Unit {0}) (λ s. Unit {0}) (omega arith) lower (within_all f ks) within may (λ s u kept run h. tt) g h)

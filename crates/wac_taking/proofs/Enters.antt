@@ -1,33 +1,49 @@
 -- Entries all of whose parts were taken in: what they name stands, and they enter.
-use Rattle.std.proofs.Common.{◌≡◌, ◌∙◌, List, ◌∷◌, Option, Some, None, slice_get, refl, ap, sym, subst, IsSome}
-use Rattle.std.specs.Option.{option_and_then}
-use Rattle.wac_component.specs.Entries.{owner_at}
+use Rattle.std.proofs.Common.{◌≡◌, ◌∙◌, List, [], ◌∷◌, length, Option, Some, None, slice_get, refl, ap, sym, subst, IsSome}
+use Rattle.std.specs.Option.{option_and_then, option_map_or}
+use Rattle.wac_component.specs.Entries.{owner_at, entry_exports, entry_uses, exports_at, uses_at}
 use Rattle.wac_component.specs.Open.{open_next}
 use Rattle.wac_component.specs.Reach.{IsAmong}
 use Rattle.wac_model.specs.Text.{Text}
 use Rattle.wac_model.specs.CoreTree.{ModuleTree}
 use Rattle.wac_component.specs.Id.{Id}
 use Rattle.wac_component.specs.Collection.{Collection, DefinedContent, ResourceContent, AliasContent, FuncContent, UseContent, InterfaceContent, WorldContent}
-use Rattle.wac_component.specs.Key.{defined_sort, resource_sort, func_sort, interface_sort, world_sort, module_sort, interface_keys, Key, Entry, entry_at, Stands, AllStand, other_keys, defined_entry, resource_entry, func_entry, world_entry, module_entry, defined_key, resource_key, func_key, interface_key, world_key, module_key, defined_keys, func_keys, world_keys, alias_keys, optional_keys, named_keys, use_keys}
+use Rattle.wac_component.specs.Key.{defined_sort, resource_sort, func_sort, interface_sort, world_sort, module_sort, interface_keys, Key, Entry, entry_at, Stands, AllStand, other_keys, defined_entry, resource_entry, func_entry, interface_entry, world_entry, module_entry, import_keys, entry_keys, item_keys, Each, defined_key, resource_key, func_key, interface_key, world_key, module_key, defined_keys, func_keys, world_keys, alias_keys, optional_keys, named_keys, use_keys}
 use Rattle.wac_component.specs.Sound.{IsSound}
-use Rattle.wac_component.specs.Tree.{root_name}
+use Rattle.wac_component.specs.Tree.{root_name, item_tree}
+use Rattle.wac_component.specs.Growth.{with_entry}
+use Rattle.wac_component.proofs.Adding.{IsSound-with_entry, Extends-with_entry}
+use Rattle.wac_component.proofs.Lists.{slice_get-last}
+use Rattle.wac_component.proofs.Among.{among_right}
+use Rattle.wac_narrowing.proofs.Adding.{last_at}
+use Rattle.wac_narrowing.proofs.Taking.{same_interface, same_world}
 use Rattle.wac_component.specs.declared.items.ItemKind.{ItemKind}
-use Rattle.wac_component.proofs.Reading.{defined_at, resource_at, func_at}
+use Rattle.wac_component.proofs.Reading.{defined_at, resource_at, func_at, interface_at, world_at}
 use Rattle.wac_merge.proofs.ReadLemmas.{module_at}
 use Rattle.wac_names.specs.Class.{class_of}
-use Rattle.wac_narrowing.specs.Entering.{AddsEntry, IsEntered, InterfaceIsTaken, WorldIsTaken}
+use Rattle.wac_narrowing.specs.Entering.{AddsEntry, InterfaceIsTaken, WorldIsTaken}
 use Rattle.wac_narrowing.specs.Identified.{used_names}
-use Rattle.wac_narrowing.specs.Last.{last_key}
 use Rattle.wac_narrowing.specs.Leaves.{SaysSame, same_func, same_defined, same_resource, same_module}
 use Rattle.wac_narrowing.specs.State.{State, IsKept}
 use Rattle.wac_narrowing.specs.Taking.{AreMapped, none, one, AreTakenKeys, no_keys, one_key, IsTakenItem, IsCopiedItem}
 use Rattle.wac_narrowing.specs.Values.{IsTakenValue, SameValue, IfAny, neither, both, AreFuncs, AreDefined}
-use Rattle.wac_narrowing.proofs.Entering.{interface_parts, world_parts, world_named as world_names, world_enters as world_goes}
-use Rattle.wac_narrowing.proofs.EnteringLeaves.{leaf_enters}
-use Rattle.wac_narrowing.proofs.Mapped.{taken_of, taken_each, taken_named}
+use Rattle.wac_narrowing.proofs.Entering.{interface_parts, interface_named, world_parts, world_named as world_names, world_enters as world_goes}
+use Rattle.wac_narrowing.proofs.EnteringLeaves.{leaf_enters, says_same}
+use Rattle.wac_narrowing.proofs.Mapped.{mapped_more, mapped_same, taken_of, taken_each, taken_named}
 use Rattle.wac_narrowing.proofs.Values.{funcs_more, defined_more, each_func, each_defined, func_parts, defined_parts}
 use Rattle.wac_taking.specs.Takes.{IsTakenAlias, IsTakenUse, IsOwnerImported}
-use Rattle.wac_taking.proofs.TakeLemmas.{HasOwners}
+use Rattle.wac_taking.proofs.TakeLemmas.{HasOwners, Enters}
+use Rattle.wac_copies.proofs.CopyLemmas.{noted_low}
+use Rattle.wac_copies.proofs.Enters.{items_noted}
+use Rattle.wac_reasons.specs.Entering.{IsTakenIdentifiedUse}
+use Rattle.wac_reasons.specs.Split.{IsLow}
+use Rattle.wac_reasons.proofs.EntryAccounts.{IsMadeFrom}
+
+-- the entry exports, uses and imports nothing
+record IsLeaf (e : Entry) : Type 0 where
+  exports : entry_exports e ≡ []
+  uses : entry_uses e ≡ []
+  imports : import_keys e ≡ []
 
 module _ (f : Collection) (s : State) where
   -- what is named stands
@@ -84,28 +100,87 @@ module _ (f : Collection) (s : State) where
     pub world_stands : IsKept s → (p : Id) (x z : WorldContent) → WorldIsTaken class_of f s p x z → AllStand s.own (world_keys z)
     world_stands kept p x z h = world_names class_of f s kept p x z h
 
+    -- what was made of parts that were taken in
+
+    identified_uses : (us vs : List (Text × UseContent)) → AreMapped (IsTakenUse f s) us vs → AreMapped (IsTakenIdentifiedUse f s) us vs
+    identified_uses us vs m = mapped_more (IsTakenUse f s) (IsTakenIdentifiedUse f s) (λ u v c. record { same_name = c.name; identified = c.identified; taken = c.interface }) us vs m
+
+    pub interface_made : IsKept s → (p : Id) (x z : InterfaceContent) → InterfaceIsTaken class_of f s p x z → AreMapped (IsTakenUse f s) x.uses z.uses → IsMadeFrom f s (interface_key p) (interface_entry z)
+    interface_made kept p x z h used =
+        let at = interface_at f p x h.entry in
+        let exports : exports_at f (interface_key p) ≡ x.exports = ap (λ o. option_map_or entry_exports o []) at in
+        let uses : uses_at f (interface_key p) ≡ x.uses = ap (λ o. option_map_or entry_uses o []) at in
+        let named = interface_named class_of f s kept p x z h in
+        record {
+          named = named;
+          parts = interface_parts class_of f s kept p x z h;
+          exports = subst (λ es. AreMapped (IsTakenItem class_of f s) es z.exports) (sym exports) h.exports;
+          opens = λ k m. subst (IsAmong k) (sym (ap (optional_keys other_keys) at)) (among_right (named_keys use_keys x.uses) (named_keys item_keys x.exports) (subst (λ es. IsAmong k (named_keys item_keys es)) exports m));
+          uses = subst (λ us. AreMapped (IsTakenIdentifiedUse f s) us z.uses) (sym uses) (identified_uses x.uses z.uses used);
+          lows = tt;
+          same = λ m.
+              let d = with_entry s.own (interface_entry z) in
+              same_interface f d p (record { number = s.own.number; index = length s.own.interfaces }) h.sound (IsSound-with_entry s.own (interface_entry z) kept.good.sound named) x z h.stands (last_at s.own (interface_entry z)).stands h.entry (slice_get-last s.own.interfaces z)
+              (mapped_same f d x.exports z.exports (subst (λ es. AreMapped (λ a b. item_tree d b ≡ item_tree f a) es z.exports) exports m));
+        }
+
+    world_made : IsKept s → (p : Id) (x z : WorldContent) → WorldIsTaken class_of f s p x z → AreMapped (IsTakenUse f s) x.uses z.uses → IsMadeFrom f s (world_key p) (world_entry z)
+    world_made kept p x z h used =
+        let at = world_at f p x h.entry in
+        let exports : exports_at f (world_key p) ≡ x.exports = ap (λ o. option_map_or entry_exports o []) at in
+        let uses : uses_at f (world_key p) ≡ x.uses = ap (λ o. option_map_or entry_uses o []) at in
+        let named = world_names class_of f s kept p x z h in
+        let grows = Extends-with_entry s.own (world_entry z) kept.good.sound in
+        record {
+          named = named;
+          parts = world_parts class_of f s kept p x z h;
+          exports = subst (λ es. AreMapped (IsTakenItem class_of f s) es z.exports) (sym exports) h.exports;
+          opens = λ k m. subst (IsAmong k) (sym (ap (optional_keys other_keys) at)) (among_right (named_keys use_keys x.uses) (named_keys item_keys x.exports) (subst (λ es. IsAmong k (named_keys item_keys es)) exports m));
+          uses = subst (λ us. AreMapped (IsTakenIdentifiedUse f s) us z.uses) (sym uses) (identified_uses x.uses z.uses used);
+          lows = noted_low s (named_keys item_keys z.imports) (items_noted f s x.imports z.imports h.imports);
+          same = λ m.
+              let d = with_entry s.own (world_entry z) in
+              same_world f d p (record { number = s.own.number; index = length s.own.worlds }) h.sound (IsSound-with_entry s.own (world_entry z) kept.good.sound named) x z h.stands (last_at s.own (world_entry z)).stands h.entry (slice_get-last s.own.worlds z)
+              (mapped_same f d x.imports z.imports (mapped_more (IsCopiedItem f s) (λ a b. item_tree d b ≡ item_tree f a) (λ a b k. grows.trees b k.stands ∙ k.same) x.imports z.imports h.imports))
+              (mapped_same f d x.exports z.exports (subst (λ es. AreMapped (λ a b. item_tree d b ≡ item_tree f a) es z.exports) exports m));
+        }
+
     -- entries enter, whose owners are imported where those of their parts are
 
     module _ (kept : IsKept s) (t : State) where
       noted : (theirs : Key) (x : Entry) (js : List Key) → entry_at f theirs ≡ Some x → AreTakenKeys class_of f s (other_keys x) js → (j : Key) → IsAmong j (open_next f theirs) → (o : Key) × (s.taken j ≡ Some o)
       noted theirs x js at parts j m = let o = taken_of class_of f s (other_keys x) js j parts (subst (IsAmong j) (ap (optional_keys other_keys) at) m) in (o.0, o.2.noted)
 
-      leaf : (theirs : Key) (x z : Entry) → Stands f theirs → entry_at f theirs ≡ Some x → SaysSame f s.own theirs z → AreTakenKeys class_of f s (other_keys x) (other_keys z) → ((r : Id) → theirs ≡ resource_key r → IsOwnerImported f s (owner_at f r)) → AddsEntry f s t theirs z → t.shared ≡ s.shared
-          → IsEntered class_of f s t theirs (last_key s.own z) × HasOwners f s theirs
-      leaf theirs x z st at says parts self adds same = (
-        leaf_enters class_of f s kept sound theirs z st says t (subst (λ ks. AreTakenKeys class_of f s ks (other_keys z)) (sym (ap (optional_keys other_keys) at)) parts) adds same,
-        record { parts = noted theirs x (other_keys z) at parts; self = self },
-      )
+      leaf : (theirs : Key) (x z : Entry) → IsLeaf x → IsLeaf z → Stands f theirs → entry_at f theirs ≡ Some x → AllStand s.own (entry_keys z) → SaysSame f s.own theirs z → AreTakenKeys class_of f s (other_keys x) (other_keys z) → ((r : Id) → theirs ≡ resource_key r → IsOwnerImported f s (owner_at f r))
+          → AddsEntry f s t theirs z → t.shared ≡ s.shared → Enters f s t theirs z
+      leaf theirs x z is own_is st at named says parts self adds same =
+          let taken = subst (λ ks. AreTakenKeys class_of f s ks (other_keys z)) (sym (ap (optional_keys other_keys) at)) parts in
+          record {
+            entered = leaf_enters class_of f s kept sound theirs z st says t taken adds same;
+            owners = record { parts = noted theirs x (other_keys z) at parts; self = self };
+            made = record {
+              named = named;
+              parts = taken;
+              exports = subst (λ es. AreMapped (IsTakenItem class_of f s) es (entry_exports z)) (sym (ap (λ o. option_map_or entry_exports o []) at ∙ is.exports)) (subst (λ es. AreMapped (IsTakenItem class_of f s) [] es) (sym own_is.exports) none);
+              opens = λ k m. absurd (nothing k (subst (λ es. IsAmong k (named_keys item_keys es)) (ap (λ o. option_map_or entry_exports o []) at ∙ is.exports) m));
+              uses = subst (λ us. AreMapped (IsTakenIdentifiedUse f s) us (entry_uses z)) (sym (ap (λ o. option_map_or entry_uses o []) at ∙ is.uses)) (subst (λ us. AreMapped (IsTakenIdentifiedUse f s) [] us) (sym own_is.uses) none);
+              lows = subst (λ ks. Each (IsLow s) ks) (sym own_is.imports) tt;
+              same = λ m. says_same f s.own sound kept.good.sound theirs z st named says;
+            };
+          }
+        where
+          nothing : (k : Key) → IsAmong k [] → ⊥
+          nothing k m = elim m [ ]
 
       pub defined_enters : (p : Id) (x z : DefinedContent) → Stands f (defined_key p) → slice_get f.defined p.index ≡ Some x → AreDefined (IsTakenValue class_of f s) x z → AddsEntry f s t (defined_key p) (defined_entry z) → t.shared ≡ s.shared
-          → IsEntered class_of f s t (defined_key p) (last_key s.own (defined_entry z)) × HasOwners f s (defined_key p)
+          → Enters f s t (defined_key p) (defined_entry z)
       defined_enters p x z st at h adds same =
-          leaf (defined_key p) (defined_entry x) (defined_entry z) st (defined_at f p x at) (same_defined at (defined_more (IsTakenValue class_of f s) (SameValue f s.own) (λ v w c. c.same) x z h)) (defined_parts class_of f s x z h) (λ r e. absurd (let no : defined_sort ≡ resource_sort = ap (λ (k : Key). k.sort) e in cc)) adds same
+          leaf (defined_key p) (defined_entry x) (defined_entry z) (record { exports = refl; uses = refl; imports = refl }) (record { exports = refl; uses = refl; imports = refl }) st (defined_at f p x at) (defined_stands x z h) (same_defined at (defined_more (IsTakenValue class_of f s) (SameValue f s.own) (λ v w c. c.same) x z h)) (defined_parts class_of f s x z h) (λ r e. absurd (let no : defined_sort ≡ resource_sort = ap (λ (k : Key). k.sort) e in cc)) adds same
 
       pub func_enters : (p : Id) (x z : FuncContent) → Stands f (func_key p) → slice_get f.funcs p.index ≡ Some x → AreFuncs (IsTakenValue class_of f s) x z → AddsEntry f s t (func_key p) (func_entry z) → t.shared ≡ s.shared
-          → IsEntered class_of f s t (func_key p) (last_key s.own (func_entry z)) × HasOwners f s (func_key p)
+          → Enters f s t (func_key p) (func_entry z)
       func_enters p x z st at h adds same =
-          leaf (func_key p) (func_entry x) (func_entry z) st (func_at f p x at) (same_func at (funcs_more (IsTakenValue class_of f s) (SameValue f s.own) (λ v w c. c.same) x z h)) (func_parts class_of f s x z h) (λ r e. absurd (let no : func_sort ≡ resource_sort = ap (λ (k : Key). k.sort) e in cc)) adds same
+          leaf (func_key p) (func_entry x) (func_entry z) (record { exports = refl; uses = refl; imports = refl }) (record { exports = refl; uses = refl; imports = refl }) st (func_at f p x at) (func_stands x z h) (same_func at (funcs_more (IsTakenValue class_of f s) (SameValue f s.own) (λ v w c. c.same) x z h)) (func_parts class_of f s x z h) (λ r e. absurd (let no : func_sort ≡ resource_sort = ap (λ (k : Key). k.sort) e in cc)) adds same
 
       alias_imported : (r : Id) (x : ResourceContent) (y : Option AliasContent) → slice_get f.resources r.index ≡ Some x → IfAny (IsTakenAlias f s) x.alias y → IsOwnerImported f s (owner_at f r)
       alias_imported r x y at h i n is named = go x.alias y h (sym (ap (λ o. option_and_then (λ (e : ResourceContent). option_and_then (λ (a : AliasContent). a.owner) e.alias) o) at) ∙ is)
@@ -115,19 +190,20 @@ module _ (f : Collection) (s : State) where
           go a b (both c) e = c.owner i n e named
 
       pub resource_enters : (p : Id) (x z : ResourceContent) → Stands f (resource_key p) → slice_get f.resources p.index ≡ Some x → z.name ≡ x.name → IfAny (IsTakenAlias f s) x.alias z.alias → AddsEntry f s t (resource_key p) (resource_entry z) → t.shared ≡ s.shared
-          → IsEntered class_of f s t (resource_key p) (last_key s.own (resource_entry z)) × HasOwners f s (resource_key p)
+          → Enters f s t (resource_key p) (resource_entry z)
       resource_enters p x z st at name h adds same =
-          leaf (resource_key p) (resource_entry x) (resource_entry z) st (resource_at f p x at) (same_resource at (record { name = name; alias = alias_roots x.alias z.alias h })) (alias_parts x.alias z.alias h)
+          leaf (resource_key p) (resource_entry x) (resource_entry z) (record { exports = refl; uses = refl; imports = refl }) (record { exports = refl; uses = refl; imports = refl }) st (resource_at f p x at) (alias_stands x.alias z.alias h) (same_resource at (record { name = name; alias = alias_roots x.alias z.alias h })) (alias_parts x.alias z.alias h)
           (λ r e. let same_id : p ≡ r = ap (λ (k : Key). k.id) e in subst (λ i. IsOwnerImported f s (owner_at f i)) same_id (alias_imported p x z.alias at h)) adds same
 
-      pub module_enters : (p : Id) (x : ModuleTree) → Stands f (module_key p) → slice_get f.modules p.index ≡ Some x → AddsEntry f s t (module_key p) (module_entry x) → t.shared ≡ s.shared → IsEntered class_of f s t (module_key p) (last_key s.own (module_entry x)) × HasOwners f s (module_key p)
-      module_enters p x st at adds same = leaf (module_key p) (module_entry x) (module_entry x) st (module_at f p x at) (same_module at) no_keys (λ r e. absurd (let no : module_sort ≡ resource_sort = ap (λ (k : Key). k.sort) e in cc)) adds same
+      pub module_enters : (p : Id) (x : ModuleTree) → Stands f (module_key p) → slice_get f.modules p.index ≡ Some x → AddsEntry f s t (module_key p) (module_entry x) → t.shared ≡ s.shared → Enters f s t (module_key p) (module_entry x)
+      module_enters p x st at adds same = leaf (module_key p) (module_entry x) (module_entry x) (record { exports = refl; uses = refl; imports = refl }) (record { exports = refl; uses = refl; imports = refl }) st (module_at f p x at) tt (same_module at) no_keys (λ r e. absurd (let no : module_sort ≡ resource_sort = ap (λ (k : Key). k.sort) e in cc)) adds same
 
-      pub world_enters : (p : Id) (x z : WorldContent) → WorldIsTaken class_of f s p x z → AddsEntry f s t (world_key p) (world_entry z) → t.shared ≡ s.shared → IsEntered class_of f s t (world_key p) (last_key s.own (world_entry z)) × HasOwners f s (world_key p)
-      world_enters p x z h adds same = (
-        world_goes class_of f s kept p x z h t adds same,
-        record { parts = λ j m. let o = taken_of class_of f s (open_next f (world_key p)) (other_keys (world_entry z)) j (world_parts class_of f s kept p x z h) m in (o.0, o.2.noted); self = λ r e. absurd (let no : world_sort ≡ resource_sort = ap (λ (k : Key). k.sort) e in cc) },
-      )
+      pub world_enters : (p : Id) (x z : WorldContent) → WorldIsTaken class_of f s p x z → AreMapped (IsTakenUse f s) x.uses z.uses → AddsEntry f s t (world_key p) (world_entry z) → t.shared ≡ s.shared → Enters f s t (world_key p) (world_entry z)
+      world_enters p x z h used adds same = record {
+        entered = world_goes class_of f s kept p x z h t adds same;
+        made = world_made kept p x z h used;
+        owners = record { parts = λ j m. let o = taken_of class_of f s (open_next f (world_key p)) (other_keys (world_entry z)) j (world_parts class_of f s kept p x z h) m in (o.0, o.2.noted); self = λ r e. absurd (let no : world_sort ≡ resource_sort = ap (λ (k : Key). k.sort) e in cc) };
+      }
 
     -- of an interface
     pub interface_owners : IsKept s → (p : Id) (x z : InterfaceContent) → InterfaceIsTaken class_of f s p x z → HasOwners f s (interface_key p)

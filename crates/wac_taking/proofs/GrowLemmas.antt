@@ -1,11 +1,13 @@
 -- Exports that are met one by one, and the shared entry that grows by them.
-use Rattle.std.proofs.Common.{◌≡◌, ◌++◌, Bool, true, false, cond, filter, List, [], ◌∷◌, map, Option, Some, None, IfSome, String, Global, refl, ap, sym, subst, ◌∙◌}
+use Rattle.std.proofs.Common.{◌≡◌, ◌++◌, arith, inl, inr, Contains, Ok, Bool, true, false, cond, filter, List, [], ◌∷◌, map, Option, Some, None, IfSome, String, Global, string_bytes, refl, ap, sym, subst, ◌∙◌}
 use Rattle.std.proofs.lemmas.Slice.Eq.{bytes_eq-Decides}
+use Rattle.std.proofs.lemmas.List.{map-append}
 use Rattle.std.proofs.lemmas.Map.Iter.{rest_so_far, rest_more}
 use Rattle.std.specs.Iterator.{Yields}
-use Rattle.std.specs.Map.{lookup as lookup_by}
+use Rattle.std.specs.List.{IsDistinct}
+use Rattle.std.specs.Map.{lookup as lookup_by, keys_of}
 use Rattle.std.specs.Map.Iter.{TakesFirst}
-use Rattle.std.proofs.lemmas.List.Elements.{All-cons, All-head, All-nil, All-tail}
+use Rattle.std.proofs.lemmas.List.Elements.{Contains-append_left, Contains-append_right, All-cons, All-head, All-nil, All-tail}
 use Rattle.std.specs.Option.{option_or, option_map}
 use Rattle.std.specs.Str.{bytes_eq}
 use Rattle.indexmap.specs.IndexMap.{insert_entry}
@@ -16,20 +18,23 @@ use Rattle.wac_model.specs.Order.{Fits}
 use Rattle.wac_bounds.specs.Bounds.{IsLowerBound, IsMeetIfAny}
 use Rattle.wac_component.specs.Growth.{Extends}
 use Rattle.wac_model.proofs.ItemOrder.{Fits-refl}
-use Rattle.wac_component.specs.Collection.{Collection}
+use Rattle.wac_model.proofs.Lookups.{IsDistinct-shown}
+use Rattle.wac_component.specs.Collection.{Collection, UseContent}
 use Rattle.wac_component.specs.Content.{named, use_content}
 use Rattle.wac_component.specs.Key.{Key, Each, Stands, AllStand, item_keys, named_keys, use_keys, interface_key}
 use Rattle.wac_component.specs.Sound.{IsSound}
 use Rattle.wac_component.specs.Tree.{item_tree}
 use Rattle.wac_component.specs.declared.interfaces.UsedType.{UsedType}
 use Rattle.wac_component.specs.declared.items.ItemKind.{ItemKind}
-use Rattle.wac_component.proofs.Among.{each_found}
+use Rattle.wac_component.proofs.Among.{each_found, Contains-first, Contains-later, Contains-cases}
 use Rattle.wac_component.proofs.Extended.{Extends-refl, Extends-trans, AllStand-Extends}
 use Rattle.wac_component.proofs.Keys.{Each-left, Each-right, Each-append}
 use Rattle.wac_checker.specs.Externs.{AreServed}
-use Rattle.wac_core_merge.proofs.NameLemmas.{lookup-append}
-use Rattle.wac_merge.specs.Built.{Origins, OnlyBuilds, IsBuilt}
-use Rattle.wac_merge.specs.Items.{Externs, extern_keys}
+use Rattle.wac_core_merge.specs.Names.{with_new}
+use Rattle.wac_core_merge.proofs.EntryLemmas.{All-found}
+use Rattle.wac_core_merge.proofs.NameLemmas.{lookup-append, with_new-shown}
+use Rattle.wac_merge.specs.Built.{Origins, OnlyBuilds, IsBuilt, uses_of_both}
+use Rattle.wac_merge.specs.Items.{Externs, AreFound, extern_keys}
 use Rattle.wac_merge.proofs.PutLemmas.{lookup-insert_entry}
 use Rattle.wac_narrowing.specs.Apart.{IsGood}
 use Rattle.wac_narrowing.specs.Identified.{IsCovered}
@@ -37,7 +42,19 @@ use Rattle.wac_narrowing.proofs.Building.{built_covered}
 use Rattle.wac_narrowing.proofs.Contents.{served_same}
 use Rattle.wac_narrowing.proofs.Mapped.{AreServed-trans}
 use Rattle.wac_narrowing.proofs.Steps.{IsStep-refl, IsStep-trans, building_steps}
-use Rattle.wac_taking.specs.Growing.{StepsOn, IsMetWith, IsMetIfAny, AreMetWith}
+use Rattle.wac_names.specs.Class.{Class, class_of}
+use Rattle.wac_call_lists.specs.Attempt.{Attempt}
+use Rattle.wac_narrowing.specs.Laws.{LeadsAlongArrows}
+use Rattle.wac_narrowing.specs.Remembers.{RemembersTruly}
+use Rattle.wac_narrowing.specs.State.{State, IsKept}
+use Rattle.wac_narrowing.specs.Traced.{Root, Arrows}
+use Rattle.wac_narrowing.proofs.Remembered.{RemembersTruly-step}
+use Rattle.wac_narrowing.proofs.Running.{Runs-step}
+use Rattle.wac_narrowing.proofs.Tracing.{along_added}
+use Rattle.wac_reasons.specs.Trial.{IsAccounted, IsOpenItem, AreOpenItems, StaysAccounted}
+use Rattle.wac_reasons.proofs.Accounts.{accounted_none, accounted_then, none_roots, then_roots}
+use Rattle.wac_reasons.proofs.Reasons.{items_stay, item_stays}
+use Rattle.wac_taking.specs.Growing.{StepsOn, IsMetWith, IsMetIfAny, AreMetWith, with_own, AreAllOpen, StaysAlong}
 
 -- ---- collections that are only added to
 
@@ -127,6 +144,70 @@ module _ (P : Key → Type 0) where
       later [] e us k = k.0
       later (v ∷ vs) e us k = later vs e us k.1
 
+-- the use under a name, and one that a `for` over uses yields, is in the list
+pub looked_use : (n : Text) (us : List (String Global × UsedType)) (u : UsedType) → lookup_by (λ (k : String Global). bytes_eq n (string_bytes k)) us ≡ Some u → Contains (named use_content us) (n, use_content u)
+looked_use n [] u is = absurd (cc)
+looked_use n (e ∷ us) u is = at (bytes_eq n (string_bytes e.0)) refl is (looked_use n us u)
+  where
+    at : (b : Bool) → bytes_eq n (string_bytes e.0) ≡ b → cond b (Some e.1) (lookup_by (λ (k : String Global). bytes_eq n (string_bytes k)) us) ≡ Some u → (lookup_by (λ (k : String Global). bytes_eq n (string_bytes k)) us ≡ Some u → Contains (named use_content us) (n, use_content u)) → Contains (named use_content (e ∷ us)) (n, use_content u)
+    at true same k rest =
+        let value : e.1 ≡ u = cc in
+        let name : n ≡ string_bytes e.0 = (bytes_eq-Decides n (string_bytes e.0)).0 same in
+        subst (λ (p : Text × UseContent). Contains (named use_content (e ∷ us)) p) (λ i. (sym name i, use_content (value i))) (Contains-first (string_bytes e.0, use_content e.1) (named use_content us))
+    at false same k rest = Contains-later (n, use_content u) (string_bytes e.0, use_content e.1) (named use_content us) (rest k)
+
+pub yielded_use : {A : Type 0} (shows : A → String Global × UsedType) (all : List (String Global × UsedType)) (ys : List A) (s t u : List (String Global × UsedType)) (r : Option A) (x : A) → s ≡ all → Yields (TakesFirst shows) s ys t → r ≡ Some x → TakesFirst shows t r u
+    → Contains (named use_content all) (string_bytes (shows x).0, use_content (shows x).1)
+yielded_use {A} shows all ys s t u r x start y is step =
+    subst (λ l. Contains (named use_content l) (string_bytes (shows x).0, use_content (shows x).1)) (sym (sym start ∙ rest_so_far shows ys s t y ∙ ap (λ l. map shows ys ++ l) (rest_more shows t u r x is step)))
+    (later (map shows ys) (shows x) u)
+  where
+    later : (vs : List (String Global × UsedType)) (e : String Global × UsedType) (us : List (String Global × UsedType)) → Contains (named use_content (vs ++ e ∷ us)) (string_bytes e.0, use_content e.1)
+    later [] e us = Contains-first (string_bytes e.0, use_content e.1) (named use_content us)
+    later (v ∷ vs) e us = Contains-later (string_bytes e.0, use_content e.1) (string_bytes v.0, use_content v.1) (named use_content (vs ++ e ∷ us)) (later vs e us)
+
+-- exports that a `for` has yielded, and the one that it yields, are in the list
+pub done_inside : {A : Type 0} (shows : A → String Global × ItemKind) (all : List (String Global × ItemKind)) (ys : List A) (s t u : List (String Global × ItemKind)) (r : Option A) (x : A) → s ≡ all → Yields (TakesFirst shows) s ys t → r ≡ Some x → TakesFirst shows t r u
+    → ((p : Text × ItemKind) → Contains (named (λ k. k) (map shows ys)) p → Contains (named (λ k. k) all) p) × Contains (named (λ k. k) all) (string_bytes (shows x).0, (shows x).1)
+done_inside {A} shows all ys s t u r x start y is step =
+    let e : named (λ k. k) all ≡ named (λ k. k) (map shows ys) ++ (string_bytes (shows x).0, (shows x).1) ∷ named (λ k. k) u =
+    ap (named (λ k. k)) (sym start ∙ rest_so_far shows ys s t y ∙ ap (λ l. map shows ys ++ l) (rest_more shows t u r x is step)) ∙ map-append (λ (e : String Global × ItemKind). (string_bytes e.0, e.1)) (map shows ys) (shows x ∷ u) in (
+      λ p m. subst (λ l. Contains l p) (sym e) (Contains-append_left (named (λ k. k) (map shows ys)) ((string_bytes (shows x).0, (shows x).1) ∷ named (λ k. k) u) p m),
+      subst (λ l. Contains l (string_bytes (shows x).0, (shows x).1)) (sym e) (Contains-append_right (named (λ k. k) (map shows ys)) ((string_bytes (shows x).0, (shows x).1) ∷ named (λ k. k) u) (string_bytes (shows x).0, (shows x).1) (Contains-first (string_bytes (shows x).0, (shows x).1) (named (λ k. k) u))),
+    )
+
+-- the one of a list of one is in a list that has it
+pub one_in : {X : Type 0} (x : X) (xs : List X) → Contains xs x → (p : X) → Contains (x ∷ []) p → Contains xs p
+one_in x xs m p one = elim (Contains-cases p x [] one) [ inl same ↦ subst (Contains xs) same m | inr none ↦ absurd (omega (arith, none.1)) ]
+
+-- ---- what is accounted for
+
+-- what stood stands
+on_standing : (c d : Collection) → StepsOn c d → (k : Key) → Stands c k → Stands d k
+on_standing c d on = on.grows.standing
+
+-- a state in order is so with what was added
+pub kept_on : (c d : Collection) → StepsOn c d → (s : State) → IsKept (with_own s c) → IsKept (with_own s d)
+kept_on c d on s kept =
+    (Runs-step (RemembersTruly class_of) d (with_own s c) d s.shared (λ h. on.steps s.shared h.good) (λ h g k. RemembersTruly-step class_of g (with_own s c) d s.shared (on.steps s.shared h.good).narrows (on.steps s.shared h.good).stops k)).kept kept
+
+-- one open item, as a list
+pub one_open : (at : Attempt) (s : State) (n : Text) (a : ItemKind) → IsOpenItem at s n a → AreAllOpen at s ((n, a) ∷ [])
+one_open at s n a h q x m =
+    elim (Contains-cases (q, x) (n, a) [] m) [
+      | inl same ↦ subst (λ (p : Text × ItemKind). IsOpenItem at s p.0 p.1) same h
+      | inr none ↦ absurd (omega (arith, none.1))
+    ]
+
+-- an open item is one still
+pub item_on : (c d : Collection) (on : StepsOn c d) (at : Attempt) (s : State) → IsKept (with_own s c) → StaysAccounted at (with_own s c) (with_own s d) → (n : Text) (a : ItemKind) → IsOpenItem at (with_own s c) n a → IsOpenItem at (with_own s d) n a
+item_on c d on at s kept stays n a h = item_stays at (with_own s c) (with_own s d) kept (on.steps s.shared kept.good).narrows stays.keys n a h
+
+-- what leads along arrows does so still
+pub along_on : (c d : Collection) → Extends c d → (ss : List Key) (rs : List Root) (from : Class) → IsGood c ss → (ks : List Key) → AllStand c ks → Each (LeadsAlongArrows c ss rs from) ks → Each (LeadsAlongArrows d ss rs from) ks
+along_on c d grows ss rs from good [] st h = tt
+along_on c d grows ss rs from good (k ∷ ks) st h = (along_added class_of (Arrows class_of rs) c d ss from k good grows st.0 h.0, along_on c d grows ss rs from good ks st.1 h.1)
+
 -- ---- meets
 
 -- of two items, what was built of them
@@ -135,6 +216,9 @@ pub built_met : (c d : Collection) (o : Origins) (a b m : ItemKind) → IsSound 
 built_met c d o a b m sound sound_too only built sa sb sm fa fb greatest = record {
   on = record { grows = only.extends; steps = λ ss g. building_steps c d ss o g sound_too only };
   stands = sm;
+  answer = Ok (Some m);
+  builds = record { origins = o; only = only; built = built };
+  built = built;
   fits_first = fa;
   fits_second = fb;
   greatest = greatest;
@@ -165,20 +249,37 @@ met_none c es st = record {
   serve_first = served_same c c es (λ n y is. Fits-refl (item_tree c y));
   serve_second = λ n. tt;
   covered = λ ss g h k. h;
+  accounts = λ at s kept all hx hy. (record { stays = accounted_none at (with_own s c) all; roots = none_roots at (with_own s c) all }, hx);
+  along = λ ss rs from g h k. h;
 }
 
 pub met_put : (c d : Collection) (es ms : Externs) (n : Text) (a m : ItemKind) → StepsOn c d → AllStand c (extern_keys es) → AllStand d (item_keys m) → Fits (item_tree d m) (item_tree c a)
     → ((b : ItemKind) → lookup bytes_eq es n ≡ Some b → Fits (item_tree d m) (item_tree c b))
     → ((ss : List Key) → IsGood c ss → Each (IsCovered c ss) (extern_keys es) → Each (IsCovered c ss) (item_keys a) → Each (IsCovered d ss) (item_keys m))
+    → ((at : Attempt) (s : State) → IsKept (with_own s c) → (all : IsAccounted at (with_own s c)) → AreOpenItems at (with_own s c) es → IsOpenItem at (with_own s c) n a → StaysAlong at (with_own s c) (with_own s d) all × IsOpenItem at (with_own s d) n m)
+    → ((ss : List Key) (rs : List Root) (from : Class) → IsGood c ss → Each (LeadsAlongArrows c ss rs from) (extern_keys es) → Each (LeadsAlongArrows c ss rs from) (item_keys a) → Each (LeadsAlongArrows d ss rs from) (item_keys m))
     → ms ≡ insert_entry bytes_eq es n m → AreMetWith c d es ((n, a) ∷ []) ms
-met_put c d es ms n a m on st sm fits before covers put = record {
+met_put c d es ms n a m on st sm fits before covers opens leads put = record {
   on = on;
   stand = rw put (each_put (Stands d) es n m (AllStand-Extends c d on.grows (extern_keys es) st) sm);
   serve_first = λ q. rw (found q) (first q (bytes_eq q n) refl (lookup bytes_eq es q) refl);
   serve_second = λ q. rw (found q) (second (bytes_eq q n) (lookup bytes_eq es q));
   covered = λ ss g h k. rw put (each_put (IsCovered d ss) es n m (covered_on c d on ss g (extern_keys es) st h) (covers ss g h (Each-left (IsCovered c ss) (item_keys a) [] k)));
+  accounts = λ at s kept all hx hy.
+      let r = opens at s kept all hx (hy n a (Contains-first (n, a) [])) in
+      (r.0, λ q x is. placed at s kept all hx r.0.stays r.1 q x (bytes_eq q n) refl (sym (found q) ∙ is));
+  along = λ ss rs from g h k. rw put (each_put (LeadsAlongArrows d ss rs from) es n m (along_on c d on.grows ss rs from g (extern_keys es) st h) (leads ss rs from g h (Each-left (LeadsAlongArrows c ss rs from) (item_keys a) [] k)));
 }
   where
+    -- what stands under a name is what was put there, or what stood
+    placed : (at : Attempt) (s : State) → IsKept (with_own s c) → IsAccounted at (with_own s c) → AreOpenItems at (with_own s c) es → StaysAccounted at (with_own s c) (with_own s d) → IsOpenItem at (with_own s d) n m
+        → (q : Text) (x : ItemKind) (b : Bool) → bytes_eq q n ≡ b → cond b (Some m) (lookup bytes_eq es q) ≡ Some x → IsOpenItem at (with_own s d) q x
+    placed at s kept all hx stays new q x true e is =
+        let same : m ≡ x = cc in
+        subst (λ y. IsOpenItem at (with_own s d) q y) same (subst (λ r. IsOpenItem at (with_own s d) r m) (sym ((bytes_eq-Decides q n).0 e)) new)
+    placed at s kept all hx stays new q x false e is =
+        items_stay at (with_own s c) (with_own s d) kept (on.steps s.shared kept.good).narrows stays.keys es hx q x is
+
     found : (q : Text) → lookup bytes_eq ms q ≡ cond (bytes_eq q n) (Some m) (lookup bytes_eq es q)
     found q = ap (λ l. lookup bytes_eq l q) put ∙ lookup-insert_entry es n m q
 
@@ -201,4 +302,25 @@ met_then c d e es xs ms ns n a st sa g h = record {
   covered = λ ss good k j.
       h.covered ss (g.on.steps ss good).good (g.covered ss good k (first_externs (IsCovered c ss) xs ((n, a) ∷ []) j))
       (covered_on c d g.on ss good (item_keys a ++ []) (Each-append (Stands c) (item_keys a) [] sa tt) (last_externs (IsCovered c ss) xs ((n, a) ∷ []) j));
+  accounts = λ at s kept all hx hy.
+      let first = g.accounts at s kept all hx (λ q x m. hy q x (Contains-append_left xs ((n, a) ∷ []) (q, x) m)) in
+      let kept_too = kept_on c d g.on s kept in
+      let one = item_on c d g.on at s kept first.0.stays n a (hy n a (Contains-append_right xs ((n, a) ∷ []) (n, a) (Contains-first (n, a) []))) in
+      let then = h.accounts at s kept_too first.0.stays.now first.1 (one_open at (with_own s d) n a one) in
+      (record { stays = accounted_then at (with_own s c) (with_own s d) (with_own s e) (on_standing c d g.on) first.0.stays then.0.stays; roots = then_roots at (with_own s c) (with_own s d) (with_own s e) (on_standing c d g.on) first.0.stays then.0.stays ∙ then.0.roots ∙ first.0.roots }, then.1);
+  along = λ ss rs from good k j.
+      h.along ss rs from (g.on.steps ss good).good (g.along ss rs from good k (first_externs (LeadsAlongArrows c ss rs from) xs ((n, a) ∷ []) j))
+      (along_on c d g.on.grows ss rs from good (item_keys a ++ []) (Each-append (Stands c) (item_keys a) [] sa tt) (last_externs (LeadsAlongArrows c ss rs from) xs ((n, a) ∷ []) j));
 }
+
+-- what stands under distinct names is found by them
+pub found_among : (es : Externs) → IsDistinct bytes_eq (keys_of es) → AreFound es
+found_among es h = All-found bytes_eq bytes_eq-Decides es h
+
+-- names of a map are distinct
+pub found_by : (es : List (String Global × ItemKind)) → IsDistinct (λ s t. bytes_eq (string_bytes s) (string_bytes t)) (keys_of es) → AreFound (named (λ k. k) es)
+found_by es h = found_among (named (λ k. k) es) (IsDistinct-shown string_bytes (λ s t. bytes_eq (string_bytes s) (string_bytes t)) bytes_eq (λ k l. refl) (λ k. k) es h)
+
+-- uses that were put last
+pub uses_put : (us vs : List (String Global × UsedType)) → named use_content (with_new (λ s t. bytes_eq (string_bytes s) (string_bytes t)) us vs) ≡ uses_of_both (named use_content us) (named use_content vs)
+uses_put us vs = with_new-shown string_bytes use_content (λ s t. bytes_eq (string_bytes s) (string_bytes t)) bytes_eq (λ k l. refl) us vs

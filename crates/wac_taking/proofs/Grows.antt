@@ -15,7 +15,8 @@ use Rattle.wac_component.proofs.Extended.{AllStand-Extends}
 use Rattle.wac_component.proofs.Keys.{Each-left, Each-right, Each-append}
 use Rattle.wac_component.proofs.Lists.{slice_get-map}
 use Rattle.wac_component.proofs.Reading.{interface_at}
-use Rattle.wac_merge.specs.Items.{Externs, extern_keys}
+use Rattle.wac_merge.specs.Built.{uses_of_both}
+use Rattle.wac_merge.specs.Items.{Externs, extern_keys, AreFound}
 use Rattle.wac_names.specs.Class.{class_of}
 use Rattle.wac_narrowing.specs.Entering.{InterfaceIsTaken}
 use Rattle.wac_narrowing.specs.Identified.{IsCovered}
@@ -33,6 +34,7 @@ use Rattle.wac_taking.specs.Growing.{AreMetWith}
 use Rattle.wac_taking.specs.Takes.{shared_in, state_of, MayTake, MayPut, Takes}
 use Rattle.wac_taking.specs.declared.state.Merging.{Merging}
 use Rattle.wac_taking.proofs.Enters.{interface_owners}
+use Rattle.wac_taking.proofs.GrowAccounts.{grown_accounted}
 use Rattle.wac_taking.proofs.GrowLemmas.{covered_on, served_on}
 use Rattle.wac_taking.proofs.Plain.{not_plain_interface}
 use Rattle.wac_taking.proofs.TakeLemmas.{lookup-shared, shared_stands, shared_covered, content_identifier, AreFiledIn-run, Takes-entered}
@@ -121,9 +123,9 @@ module _ (f : Collection) (a : Merging) (may : MayTake f a) (p e : Id) (name : T
     exports = served_on a.types d met.on d new.exports old.exports (Each-right (Stands a.types) (named_keys use_keys old.uses) (extern_keys old.exports) old_named) met.serve_first;
   }
 
-  pub Takes-grown : (w : Collection) (n : Memo) → ¬ (NamesReach d (interface_keys new) (interface_key e)) → w ≡ grown d e new → AddsPair (memo_of a.taken) (memo_of n) (interface_key p) (interface_key e)
+  pub Takes-grown : new.uses ≡ uses_of_both old.uses us → AreFound es → AreFound new.exports → (w : Collection) (n : Memo) → ¬ (NamesReach d (interface_keys new) (interface_key e)) → w ≡ grown d e new → AddsPair (memo_of a.taken) (memo_of n) (interface_key p) (interface_key e)
       → Takes f a (record a { types = w; taken = n }) (height f (interface_key p)) (interface_key p ∷ []) (λ t. IsTakenKey class_of f t (interface_key p) (interface_key e))
-  Takes-grown w n acyclic is adds =
+  Takes-grown uses_are found new_found w n acyclic is adds =
       let filed = may.filed (class_of name) e shared in
       let own_is : old.id ≡ Some filed.0 = sym (content_identifier a.types e old was) ∙ filed.1 in
       let theirs_is : put.content.id ≡ Some name = sym (content_identifier f p put.content put.taken.entry) ∙ identified in
@@ -134,3 +136,4 @@ module _ (f : Collection) (a : Merging) (may : MayTake f a) (p e : Id) (name : T
       Takes-entered f a (record a { types = w; taken = n }) (interface_key p) (interface_key e) put.taken.sound put.taken.stands adds refl (AreFiledIn-run f (state_of a) t a.shared.entries may.kept refl whole may.filed) (λ k m. inl m)
       (λ q. absurd (not_plain_interface f p name identified q))
       (interface_owners f (state_of a) put.taken.sound may.kept p put.content z put.taken) (record { run = whole; taken = enters.taken })
+      (λ at trial all. grown_accounted at f (state_of a) p e put.content us es name filed.0 may.kept trial all put.taken put.used identified put.absent among filed.1 filed.2 old new was d met uses_are found new_found t old_named uses can acyclic is refl refl refl adds own_is)

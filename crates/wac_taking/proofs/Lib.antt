@@ -1,6 +1,9 @@
 pub mod TakeLemmas
 pub mod GrowLemmas
+pub mod GrowAccounts
+pub mod MergeReasons
 pub mod Grows
+pub mod GrowReasons
 pub mod Parts
 pub mod Arms
 pub mod Enters
@@ -8,4 +11,5 @@ pub mod Within
 pub mod Alike
 pub mod Identifiers
 pub mod Plain
+pub mod Refusals
 pub mod UseLemmas

@@ -105,7 +105,7 @@ module _ (f : Collection) (s t : State) (kept : IsKept s) (IsTrue : Collection �
   owner_still x y h = record { taken = keys_still x y h.taken; imported = λ i n is named. some_still n (h.imported i n is named) }
 
   pub use_still : (u v : UseContent) → IsTakenUse f s u v → IsTakenUse f t u v
-  use_still u v h = record { name = h.name; interface = taken_key_still class_of f s t kept IsTrue e run (interface_key u.interface) (interface_key v.interface) h.interface }
+  use_still u v h = record { name = h.name; identified = h.identified; interface = taken_key_still class_of f s t kept IsTrue e run (interface_key u.interface) (interface_key v.interface) h.interface }
 
   pub uses_still : (us vs : List (Text × UseContent)) → AreMapped (IsTakenUse f s) us vs → AreMapped (IsTakenUse f t) us vs
   uses_still us vs m = mapped_more (IsTakenUse f s) (IsTakenUse f t) use_still us vs m

@@ -13,9 +13,9 @@ use Rattle.wac_component.specs.Open.{open_next, OpenReaches, stay, step}
 use Rattle.wac_component.specs.Sound.{IsSound}
 use Rattle.wac_component.specs.declared.items.ItemKind.{ItemKind}
 use Rattle.wac_component.specs.declared.items.ItemKind.TheVariants.{Instance}
-use Rattle.wac_component.proofs.OpenWalks.{opens_stand}
+use Rattle.wac_component.proofs.OpenWalks.{opens_stand, OpenReaches-trans}
 use Rattle.wac_component.specs.Reach.{IsAmong, here, there}
-use Rattle.wac_component.proofs.Among.{among_each}
+use Rattle.wac_component.proofs.Among.{among_each, each_among, among_single}
 use Rattle.wac_component.proofs.Reading.{interface_at}
 use Rattle.wac_names.specs.Class.{Class, class_eq, class_of}
 use Rattle.wac_narrowing.specs.Entering.{AddsEntry, IsEntered, InterfaceIsTaken}
@@ -29,10 +29,15 @@ use Rattle.wac_narrowing.specs.Identified.{IsCovered}
 use Rattle.wac_narrowing.specs.Imports.{IsImportFor}
 use Rattle.wac_narrowing.proofs.Running.{Runs-refl, Runs-trans, Runs-import, ImportsFit-refl}
 use Rattle.wac_imports.specs.Import.{ImportContent, ImportsContent, import_of, import_at, PutsImport}
-use Rattle.wac_copies.specs.Copies.{MayCopy, Copies, moved}
+use Rattle.wac_call_lists.specs.Attempt.{Attempt}
+use Rattle.wac_reasons.specs.Sharing.{of_shared, of_import}
+use Rattle.wac_reasons.specs.Trial.{IsTrial, IsAccounted, IsOpenSource, StaysAccounted}
+use Rattle.wac_reasons.proofs.Accounts.{root_open, accounted_none, accounted_then, accounted_added, accounted_imports}
+use Rattle.wac_reasons.proofs.EntryAccounts.{IsMadeFrom, made_accounted}
+use Rattle.wac_copies.specs.Copies.{IsState, MayCopy, Copies, moved}
 use Rattle.wac_copies.specs.Memo.{memo_of}
 use Rattle.wac_copies.specs.declared.memo.Memo.{Memo}
-use Rattle.wac_taking.specs.Takes.{shared_keys, shared_in, state_of, AreFiledIn, MayTake, AreWithin, LeadsToOwner, OwnersImported, IsOwnersImport, IsSharedFrom, IsOwnerImported, OnlyAdds, Takes}
+use Rattle.wac_taking.specs.Takes.{shared_keys, shared_in, state_of, AreFiledIn, MayTake, AreWithin, LeadsToOwner, OwnersImported, IsOwnersImport, IsSharedFrom, IsOwnerImported, OnlyAdds, TakesBy, AreNear, Takes}
 use Rattle.wac_taking.specs.declared.state.Merging.{Merging}
 use Rattle.wac_component.proofs.Adding.{Extends-with_entry}
 use Rattle.wac_call_lists.specs.PlainList.{ArePlain}
@@ -104,14 +109,40 @@ module _ (f : Collection) (b : Merging) (ks js : List Key) (within : AreWithin f
   pub shared_from_within : (e : Key) → IsSharedFrom f ks b e → IsSharedFrom f js b e
   shared_from_within e h = record { theirs = h.theirs; name = h.name; walk = openly_within f ks js h.theirs within h.walk; identified = h.identified; own_identified = h.own_identified }
 
+-- ---- what is tried, and what is near
+
+-- a call whose item openly reaches ids openly reaches those to which they lead
+pub trial_within : (at : Attempt) (f : Collection) (ks js : List Key) → AreWithin f ks js → IsTrial at f js → IsTrial at f ks
+trial_within at f ks js within h = record {
+  types = h.types;
+  reached = λ k m.
+      let w = within k m in
+      let r = h.reached w.0 w.1 in
+      (r.0, r.1, OpenReaches-trans at.call.types r.0 w.0 k r.2 (subst (λ c. OpenReaches c w.0 k) (sym h.types) w.2));
+  sound = h.sound;
+  source = h.source;
+  apart = h.apart;
+}
+
+-- what was near is so still
+pub near_still : (at : Attempt) (a b : Merging) (ks : List Key) → ((k : Key) → Stands a.types k → Stands b.types k) → StaysAccounted at (state_of a) (state_of b) → AreNear at a ks → AreNear at b ks
+near_still at a b ks standing stays h = record {
+  stand = each_among (Stands b.types) ks (λ k m. standing k (among_each (Stands a.types) k ks m h.stand));
+  opens = each_among (IsOpenSource at (state_of b)) ks (λ k m. stays.keys k (among_each (Stands a.types) k ks m h.stand) (among_each (IsOpenSource at (state_of a)) k ks m h.opens));
+}
+
+-- nothing is near
+pub near_none : (at : Attempt) (a : Merging) → AreNear at a []
+near_none at a = record { stand = tt; opens = tt }
+
 -- ---- takings
 
-module _ (f : Collection) where
-  pub MayTake-Takes : (a b : Merging) (top : ℕ) (ks : List Key) (Q : State → Type 0) → MayTake f a → Takes f a b top ks Q → MayTake f b
+module _ (f : Collection) {near : List Key} where
+  pub MayTake-Takes : (a b : Merging) (top : ℕ) (ks : List Key) (Q : State → Type 0) → MayTake f a → TakesBy near f a b top ks Q → MayTake f b
   MayTake-Takes a b top ks Q may h = record { apart = λ e. may.apart (e ∙ (h.run.narrows may.kept).number); kept = h.run.kept may.kept; truly = h.run.truly may.kept f (λ e. refl) may.truly; filed = h.filed }
 
   -- nothing is taken in
-  pub Takes-none : (a : Merging) (top : ℕ) (ks : List Key) (Q : State → Type 0) → MayTake f a → Q (state_of a) → Takes f a a top ks Q
+  pub Takes-none : (a : Merging) (top : ℕ) (ks : List Key) (Q : State → Type 0) → MayTake f a → Q (state_of a) → TakesBy near f a a top ks Q
   Takes-none a top ks Q may q = record {
     low = λ k above none. none;
     run = Runs-refl (RemembersTruly class_of) f (state_of a);
@@ -122,11 +153,12 @@ module _ (f : Collection) where
     due = λ c i is. inl is;
     shares = λ e among. inl among;
     plain = λ p. OnlyAdds-refl a;
+    accounts = λ at trial all h. accounted_none at (state_of a) all;
     holds = q;
   }
 
   -- the same, with another fact, below a greater height, and of more ids
-  pub Takes-more : (a b : Merging) (top more : ℕ) (ks js : List Key) (Q P : State → Type 0) → top ≤ more → AreWithin f ks js → MayTake f a → ((t : State) → IsKept t → Q t → P t) → Takes f a b top ks Q → Takes f a b more js P
+  pub Takes-more : (a b : Merging) (top more : ℕ) (ks js : List Key) (Q P : State → Type 0) → top ≤ more → AreWithin f ks js → MayTake f a → ((t : State) → IsKept t → Q t → P t) → TakesBy near f a b top ks Q → TakesBy near f a b more js P
   Takes-more a b top more ks js Q P low within may p h = record {
     low = λ k above none. h.low k (omega (arith, low, above)) none;
     run = h.run;
@@ -137,12 +169,13 @@ module _ (f : Collection) where
     due = λ q i is. elim (h.due q i is) [ inl was ↦ inl was | inr new ↦ inr (owners_import_within f b ks js within q i.0 new) ];
     shares = λ e among. elim (h.shares e among) [ inl was ↦ inl was | inr new ↦ inr (shared_from_within f b ks js within e new) ];
     plain = λ p. h.plain (plain_within f ks js within p);
+    accounts = λ at trial all by. h.accounts at (trial_within at f ks js within trial) all by;
     holds = p (state_of b) (h.run.kept may.kept) h.holds;
   }
 
   -- one after another: a fact that every run keeps stands beside the second
   pub Takes-then : (a b c : Merging) (top more most : ℕ) (ks js ls : List Key) (Q P : State → Type 0) → top ≤ most → more ≤ most → AreWithin f ks ls → AreWithin f js ls → MayTake f a
-      → ((s t : State) → IsKept s → Runs (RemembersTruly class_of) f s t → Q s → Q t) → Takes f a b top ks Q → Takes f b c more js P → Takes f a c most ls (λ t. Q t × P t)
+      → ((s t : State) → IsKept s → Runs (RemembersTruly class_of) f s t → Q s → Q t) → TakesBy near f a b top ks Q → TakesBy near f b c more js P → TakesBy near f a c most ls (λ t. Q t × P t)
   Takes-then a b c top more most ks js ls Q P low below first second may stays g h =
       let kept = g.run.kept may.kept in
       record {
@@ -167,23 +200,48 @@ module _ (f : Collection) where
           | inr new ↦ inr (shared_from_within f c js ls second e new)
         ];
         plain = λ p. OnlyAdds-trans a b c (g.plain (plain_within f ks ls first p)) (h.plain (plain_within f js ls second p));
+        accounts = λ at trial all by.
+            let standing = (g.run.narrows may.kept).standing in
+            let one = g.accounts at (trial_within at f ks ls first trial) all by in
+            accounted_then at (state_of a) (state_of b) (state_of c) standing one (h.accounts at (trial_within at f js ls second trial) one.now (near_still at a b near standing one by));
         holds = (stays (state_of b) (state_of c) kept h.run g.holds, h.holds);
       }
 
   -- the second alone, where nothing is asked of the first
-  pub Takes-after : (a b c : Merging) (low top : ℕ) (ks ls : List Key) (Q P : State → Type 0) → low ≤ top → AreWithin f ks ls → MayTake f a → Takes f a b low ks Q → Takes f b c top ls P → Takes f a c top ls P
+  pub Takes-after : (a b c : Merging) (low top : ℕ) (ks ls : List Key) (Q P : State → Type 0) → low ≤ top → AreWithin f ks ls → MayTake f a → TakesBy near f a b low ks Q → TakesBy near f b c top ls P → TakesBy near f a c top ls P
   Takes-after a b c low top ks ls Q P below first may g h =
       Takes-more a c top top ls ls (λ t. Unit {0} × P t) P (omega arith) (within_all f ls) may (λ t kept q. q.1)
       (Takes-then a b c top top top ls ls ls (λ t. Unit {0}) P (omega arith) (omega arith) (within_all f ls) (within_all f ls) may (λ s t kept run q. q) (Takes-more a b low top ks ls Q (λ t. Unit {0}) below first may (λ t kept q. tt) g) h)
 
   -- it was taken in before
-  pub Takes-hit : (a : Merging) (theirs own : Key) (top : ℕ) → MayTake f a → theirs.id.number ≡ f.number → memo_of a.taken theirs ≡ Some own → Takes f a a top (theirs ∷ []) (λ t. IsTakenKey class_of f t theirs own)
+  pub Takes-hit : (a : Merging) (theirs own : Key) (top : ℕ) → MayTake f a → theirs.id.number ≡ f.number → memo_of a.taken theirs ≡ Some own → TakesBy near f a a top (theirs ∷ []) (λ t. IsTakenKey class_of f t theirs own)
   Takes-hit a theirs own top may number is = Takes-none a top (theirs ∷ []) (λ t. IsTakenKey class_of f t theirs own) may record {
     remembered = may.truly.taken theirs own is number;
     noted = is;
     covered = (may.kept.taken theirs own is).1;
     closed = λ t n walk at. may.truly.closed theirs own t n is number walk at;
   }
+
+module _ (f : Collection) where
+  -- the same, where other ids are near if these are
+  pub Takes-near : (near others : List Key) (a b : Merging) (top : ℕ) (ks : List Key) (Q : State → Type 0) → ((at : Attempt) → IsAccounted at (state_of a) → AreNear at a others → AreNear at a near) → TakesBy near f a b top ks Q → TakesBy others f a b top ks Q
+  Takes-near near others a b top ks Q of h = record {
+    low = h.low;
+    run = h.run;
+    filed = h.filed;
+    owners = h.owners;
+    led = h.led;
+    stays = h.stays;
+    due = h.due;
+    shares = h.shares;
+    plain = h.plain;
+    accounts = λ at trial all by. h.accounts at trial all (of at all by);
+    holds = h.holds;
+  }
+
+  -- it holds where nothing is near
+  pub Takes-apart : {near : List Key} (a b : Merging) (top : ℕ) (ks : List Key) (Q : State → Type 0) → Takes f a b top ks Q → TakesBy near f a b top ks Q
+  Takes-apart {near} a b top ks Q h = Takes-near [] near a b top ks Q (λ at all by. near_none at a) h
 
   -- shared entries stay filed where none is added
   pub AreFiledIn-run : (s t : State) (ss : List (Class × Id)) → IsKept s → s.shared ≡ shared_keys ss → Runs (RemembersTruly class_of) f s t → AreFiledIn s.own ss → AreFiledIn t.own ss
@@ -198,7 +256,8 @@ module _ (f : Collection) where
 
   pub Takes-copied : (a : Merging) (d : Collection) (n : Memo) (top : ℕ) (ks : List Key) (Q : State → Type 0) → MayTake f a → Copies f a.types a.copies d n top Q → Takes f a (record a { types = d; copies = n }) top ks Q
   Takes-copied a d n top ks Q may h =
-      let r = h.runs (state_of a) (record { own = refl; copies = refl; kept = may.kept; truly = may.truly }) in
+      let is : IsState f a.types a.copies (state_of a) = record { own = refl; copies = refl; kept = may.kept; truly = may.truly } in
+      let r = h.runs (state_of a) is in
       record {
         low = λ k above none. none;
         run = r.0;
@@ -208,7 +267,8 @@ module _ (f : Collection) where
         stays = λ c i is. is;
         due = λ c i is. inl is;
         shares = λ e among. inl among;
-        plain = λ p. record { grows = h.grows (state_of a) (record { own = refl; copies = refl; kept = may.kept; truly = may.truly }); shared = refl; imports = refl };
+        plain = λ p. record { grows = h.grows (state_of a) is; shared = refl; imports = refl };
+        accounts = λ at trial all by. accounted_added at (state_of a) (moved (state_of a) d n) may.kept (h.grows (state_of a) is) refl refl refl (h.splits (state_of a) is) all;
         holds = r.1;
       }
 
@@ -249,8 +309,9 @@ module _ (f : Collection) where
   -- what was taken in entered, and nothing was imported
   pub Takes-entered : (a c : Merging) (theirs own : Key) → IsSound f → Stands f theirs → AddsPair (memo_of a.taken) (memo_of c.taken) theirs own → c.imports ≡ a.imports → AreFiledIn c.types c.shared.entries
       → ((e : Key) → IsAmong e (shared_keys c.shared.entries) → IsAmong e (shared_keys a.shared.entries) ⊎ IsSharedFrom f (theirs ∷ []) c e)
-      → (ArePlain f (theirs ∷ []) → OnlyAdds a c) → HasOwners (state_of a) theirs → IsEntered class_of f (state_of a) (state_of c) theirs own → Takes f a c (height f theirs) (theirs ∷ []) (λ t. IsTakenKey class_of f t theirs own)
-  Takes-entered a c theirs own sound stands adds same filed shares plain has in_to = record {
+      → (ArePlain f (theirs ∷ []) → OnlyAdds a c) → HasOwners (state_of a) theirs → IsEntered class_of f (state_of a) (state_of c) theirs own → ((at : Attempt) → IsTrial at f (theirs ∷ []) → IsAccounted at (state_of a) → StaysAccounted at (state_of a) (state_of c))
+      → Takes f a c (height f theirs) (theirs ∷ []) (λ t. IsTakenKey class_of f t theirs own)
+  Takes-entered a c theirs own sound stands adds same filed shares plain has in_to accounts = record {
     low = λ k above absent. still_none (memo_of a.taken) (memo_of c.taken) theirs own k adds (λ e. omega (arith, above, ap (height f) e)) absent (memo_of c.taken k) refl;
     run = in_to.run;
     filed = filed;
@@ -260,23 +321,31 @@ module _ (f : Collection) where
     due = λ q i is. inl (ap (λ s. import_of s q) (sym same) ∙ is);
     shares = shares;
     plain = plain;
+    accounts = λ at trial all by. accounts at trial all;
     holds = in_to.taken;
   }
+
+  -- an entry enters, whose owners are imported, made of what was taken in
+  pub record Enters (s t : State) (theirs : Key) (z : Entry) : Type 0 where
+    pub entered : IsEntered class_of f s t theirs (last_key s.own z)
+    pub owners : HasOwners s theirs
+    pub made : IsMadeFrom f s theirs z
 
   -- once its parts were taken in, an entry is added and noted
   pub Takes-enter : (a b c : Merging) (theirs own : Key) (z : Entry) (low : ℕ) (ks : List Key) (Q : State → Type 0) → MayTake f a → IsSound f → Stands f theirs → low ≤ height f theirs → AreWithin f ks (theirs ∷ [])
       → Takes f a b low ks Q → c ≡ record b { types = c.types; taken = c.taken } → c.types ≡ with_entry b.types z → own ≡ last_key b.types z → AddsPair (memo_of b.taken) (memo_of c.taken) theirs own
-      → ((t : State) → IsKept (state_of b) → Q (state_of b) → AddsEntry f (state_of b) t theirs z → t.shared ≡ (state_of b).shared → IsEntered class_of f (state_of b) t theirs (last_key b.types z) × HasOwners (state_of b) theirs)
+      → ((t : State) → IsKept (state_of b) → Q (state_of b) → AddsEntry f (state_of b) t theirs z → t.shared ≡ (state_of b).shared → Enters (state_of b) t theirs z)
       → Takes f a c (height f theirs) (theirs ∷ []) (λ t. IsTakenKey class_of f t theirs own)
   Takes-enter a b c theirs own z low ks Q may sound stands below within g same added last adds enters =
       let kept = g.run.kept may.kept in
       let adds_entry : AddsEntry f (state_of b) (state_of c) theirs z = record { own = added; imports = ap (λ (m : Merging). (state_of m).imports) same; copies = ap (λ (m : Merging). (state_of m).copies) same; number = stands.0; remembers = subst (AddsPair (memo_of b.taken) (memo_of c.taken) theirs) last adds } in
       let in_to = enters (state_of c) kept g.holds adds_entry (ap (λ (m : Merging). (state_of m).shared) same) in
-      let filed : AreFiledIn c.types c.shared.entries = subst (λ (ss : List (Class × Id)). AreFiledIn c.types ss) (ap (λ (m : Merging). m.shared.entries) (sym same)) (AreFiledIn-run (state_of b) (state_of c) b.shared.entries kept refl in_to.0.run g.filed) in
-      Takes-after a b c low (height f theirs) ks (theirs ∷ []) Q (λ t. IsTakenKey class_of f t theirs own) below within may g
+      let filed : AreFiledIn c.types c.shared.entries = subst (λ (ss : List (Class × Id)). AreFiledIn c.types ss) (ap (λ (m : Merging). m.shared.entries) (sym same)) (AreFiledIn-run (state_of b) (state_of c) b.shared.entries kept refl in_to.entered.run g.filed) in
+      Takes-after f a b c low (height f theirs) ks (theirs ∷ []) Q (λ t. IsTakenKey class_of f t theirs own) below within may g
       (Takes-entered b c theirs own sound stands adds (ap (λ (m : Merging). m.imports) same) filed (λ e among. inl (subst (IsAmong e) (ap (λ (m : Merging). shared_keys m.shared.entries) same) among))
-      (λ p. record { grows = subst (Extends b.types) (sym added) (Extends-with_entry b.types z kept.good.sound); shared = ap (λ (m : Merging). m.shared.entries) same; imports = ap (λ (m : Merging). m.imports) same }) in_to.1
-      (subst (λ k. IsEntered class_of f (state_of b) (state_of c) theirs k) (sym last) in_to.0))
+      (λ p. record { grows = subst (Extends b.types) (sym added) (Extends-with_entry b.types z kept.good.sound); shared = ap (λ (m : Merging). m.shared.entries) same; imports = ap (λ (m : Merging). m.imports) same }) in_to.owners
+      (subst (λ k. IsEntered class_of f (state_of b) (state_of c) theirs k) (sym last) in_to.entered)
+      (λ at trial all. made_accounted at f (state_of b) theirs z trial all in_to.made (state_of c) kept adds_entry (ap (λ (m : Merging). (state_of m).shared) same)))
 
   -- shared entries stay filed where one is added, under the class of its identifier
   pub AreFiledIn-put : (s t : State) (ss ts : List (Class × Id)) (q : Class) (i : Id) (n : Text) → IsKept s → s.shared ≡ shared_keys ss → Runs (RemembersTruly class_of) f s t → identifier_at t.own (interface_key i) ≡ Some n → class_of n ≡ q
@@ -337,9 +406,14 @@ module _ (f : Collection) where
       due = due;
       shares = λ e m. inl m;
       plain = λ p. absurd (not_plain_owner f ks from owner_name among leads p);
+      accounts = λ at trial all by. accounted_imports at (state_of a) (state_of (record a { imports = is })) may.kept refl refl refl refl (import_open at all) all;
       holds = rw (ap (λ c. option_map (λ (i : ImportContent). i.1) (import_of is c)) on ∙ ap (option_map (λ (i : ImportContent). i.1)) (puts q ∙ ap (λ t. cond t (Some (name, Instance own)) (import_of a.imports q)) ((classes_decided q q).1 refl))) refl;
     }
       where
+        import_open : (at : Attempt) → IsAccounted at (state_of a) → (n : Text) (x : ItemKind) → import_at is n ≡ Some x → (k : Key) → IsAmong k (item_keys x) → IsOpenSource at (state_of a) k
+        import_open at all = import_now (λ x. (k : Key) → IsAmong k (item_keys x) → IsOpenSource at (state_of a) k)
+            (λ k m. subst (λ j. IsOpenSource at (state_of a) j) (sym (among_single (interface_key own) m)) (root_open at (state_of a) (interface_key own) all (of_shared shared))) (λ n x was k m. root_open at (state_of a) k all (of_import {n = n} was m))
+
         due : (r : Class) (i : ImportContent) → import_of is r ≡ Some i → (import_of a.imports r ≡ Some i) ⊎ IsOwnersImport f ks (record a { imports = is }) r i.0
         due r i at = by (class_eq q r) refl (sym (puts r) ∙ at)
           where
@@ -351,7 +425,7 @@ module _ (f : Collection) where
 
   -- there was one
   pub Takes-imported_before : (a : Merging) (ks : List Key) (owner_name : Text) → IsSome (import_at a.imports owner_name) → MayTake f a → Takes f a a 0 ks (λ t. IsSome (t.imports owner_name))
-  Takes-imported_before a ks owner_name is_there may = Takes-none a 0 ks (λ t. IsSome (t.imports owner_name)) may is_there
+  Takes-imported_before a ks owner_name is_there may = Takes-none f a 0 ks (λ t. IsSome (t.imports owner_name)) may is_there
 
 -- a list with one more last has one more
 pub adds_last : (ks : List Key) (k : Key) → AddsShared ks (ks ++ k ∷ []) k

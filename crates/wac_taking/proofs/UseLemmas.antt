@@ -1,12 +1,12 @@
 -- What is said where uses may disagree.
-use Rattle.std.proofs.Common.{◌≡◌, ◌⊎◌, inl, inr, List, [], ◌∷◌, Option, Some, None, Result, Ok, Err, refl, ap, sym, subst, ◌∙◌, map}
+use Rattle.std.proofs.Common.{◌≡◌, Contains, arith, List, [], ◌∷◌, Option, Some, None, Result, Ok, Err, refl, ap, sym, subst, ◌∙◌}
 use Rattle.std.specs.Option.{option_map_or}
 use Rattle.std.specs.Result.{IfErr}
 use Rattle.wac_model.specs.Text.{Text}
 use Rattle.wac_component.specs.Collection.{Collection, UseContent}
 use Rattle.wac_component.specs.Entries.{identifier_at, entry_uses, uses_at}
 use Rattle.wac_component.specs.Key.{Key, Entry, Each, entry_at, item_keys}
-use Rattle.wac_component.specs.Reach.{IsAmong, here, Reaches, stay}
+use Rattle.wac_component.specs.Reach.{here, Reaches, stay}
 use Rattle.wac_component.specs.declared.items.ItemKind.{ItemKind}
 use Rattle.wac_component.proofs.Among.{among_each}
 use Rattle.wac_call_lists.specs.PlainList.{ArePlain}
@@ -15,8 +15,7 @@ use Rattle.wac_narrowing.specs.Identified.{used_names, use_names, use_names_at}
 use Rattle.wac_narrowing.specs.State.{State}
 use Rattle.wac_narrowing.specs.Taking.{AreTakenKeys, no_keys, one_key, IsTakenItem, IsTakenKey}
 use Rattle.wac_refusals.specs.declared.error.AggregateError.{AggregateError}
-use Rattle.wac_refusals.specs.declared.error.AggregateError.TheVariants.{Memory}
-use Rattle.wac_taking.specs.Refused.{HaveUses, IsUsesRefusal}
+use Rattle.wac_taking.specs.Refused.{SaysUsesDiffer, of_interfaces, of_names, AreRefusedLists, UsesDiffer, IsUsesRefusal}
 use Rattle.wac_taking.proofs.Identifiers.{is_interface, has_identifier}
 use Rattle.wac_taking.proofs.Plain.{plain_within}
 use Rattle.wac_taking.proofs.Within.{within_left, within_right}
@@ -26,10 +25,28 @@ pub if_err : {X E : Type 0} (r : Result X E) (Q : E → Type 0) → ((e : E) →
 if_err (Ok x) Q h = tt
 if_err (Err e) Q h = h e
 
--- of one entry
-pub uses_refusal : (c : Collection) (k : Key) (us : List (Text × UseContent)) (e : AggregateError) → uses_at c k ≡ us → (e ≡ Memory) ⊎ ¬ (us ≡ []) → IsUsesRefusal c (k ∷ []) e
-uses_refusal c k us e are (inl is) = inl is
-uses_refusal c k us e are (inr some) = inr (k, here, λ none. some (sym are ∙ none))
+-- what one of two lists of one use says, longer ones say
+pub lists_refused : (c : Collection) (us vs xs ys : List (Text × UseContent)) (e : AggregateError) → ((p : Text × UseContent) → Contains xs p → Contains us p) → ((p : Text × UseContent) → Contains ys p → Contains vs p) → AreRefusedLists c xs ys e → AreRefusedLists c us vs e
+lists_refused c us vs xs ys e first second h ne = go (h ne)
+  where
+    go : SaysUsesDiffer c xs ys e → SaysUsesDiffer c us vs e
+    go (of_interfaces n x y u v mu mv eu ev apart says) = of_interfaces n x y u v (first (n, u) mu) (second (n, v) mv) eu ev apart says
+    go (of_names n u v mu mv apart says) = of_names n u v (first (n, u) mu) (second (n, v) mv) apart says
+
+-- of two entries
+pub uses_refusal : (c : Collection) (k j : Key) (us vs : List (Text × UseContent)) (e : AggregateError) → uses_at c k ≡ us → uses_at c j ≡ vs → AreRefusedLists c us vs e → IsUsesRefusal c (k ∷ []) (j ∷ []) e
+uses_refusal c k j us vs e at_k at_j h ne = record {
+  first = k;
+  second = j;
+  among_first = here;
+  among_second = here;
+  differ = subst (λ xs. SaysUsesDiffer c xs (uses_at c j) e) (sym at_k) (subst (λ ys. SaysUsesDiffer c us ys e) (sym at_j) (h ne));
+}
+
+-- some use is among those of the second
+pub second_uses : (c : Collection) (us vs : List (Text × UseContent)) (e : AggregateError) → SaysUsesDiffer c us vs e → ¬ (vs ≡ [])
+second_uses c us vs e (of_interfaces n x y u v mu mv eu ev apart says) none = absurd (let m = subst (λ l. Contains l (n, v)) none mv in omega (arith, m.1))
+second_uses c us vs e (of_names n u v mu mv apart says) none = absurd (let m = subst (λ l. Contains l (n, v)) none mv in omega (arith, m.1))
 
 -- what uses no names uses nothing
 no_names : (us : List (Text × UseContent)) → used_names us ≡ [] → us ≡ []
@@ -59,5 +76,6 @@ module _ (f : Collection) (s : State) where
   none_uses is js p (one_key {i} {j} {is = ks} {js = ls} k rest) =
       (no_uses i j (plain_within f (i ∷ []) (i ∷ ks) (within_left f (i ∷ []) ks) p) k, none_uses ks ls (plain_within f ks (i ∷ ks) (within_right f (i ∷ []) ks) p) rest)
 
-  pub plain_no_uses : (x y : ItemKind) → ArePlain f (item_keys x) → IsTakenItem class_of f s x y → HaveUses s.own (item_keys y) → ⊥
-  plain_no_uses x y p taken h = h.2 (among_each (λ j. uses_at s.own j ≡ []) h.0 (item_keys y) h.1 (none_uses (item_keys x) (item_keys y) p taken.keys))
+  pub plain_no_uses : (x y : ItemKind) → ArePlain f (item_keys x) → IsTakenItem class_of f s x y → (ks : List Key) (e : AggregateError) → UsesDiffer s.own ks (item_keys y) e → ⊥
+  plain_no_uses x y p taken ks e h =
+      second_uses s.own (uses_at s.own h.first) (uses_at s.own h.second) e h.differ (among_each (λ j. uses_at s.own j ≡ []) h.second (item_keys y) h.among_second (none_uses (item_keys x) (item_keys y) p taken.keys))

@@ -1,18 +1,26 @@
 -- Why what is to be taken in is refused.
-use Rattle.std.specs.Prelude.{◌≡◌, ◌≢◌, ◌⊎◌, ℕ, List, [], ◌∷◌, Option, Some, None, slice_get, string_bytes}
-use Rattle.wac_model.specs.ItemTree.{ItemTree}
+use Rattle.std.specs.Prelude.{◌≡◌, ◌≢◌, ◌⊎◌, ℕ, List, [], ◌∷◌, Contains, Option, Some, None, slice_get, string_bytes}
 use Rattle.wac_model.specs.Text.{Text}
 use Rattle.wac_component.specs.Collection.{Collection, UseContent}
 use Rattle.wac_component.specs.Entries.{uses_at}
+use Rattle.wac_component.specs.Implicit.{identifier}
 use Rattle.wac_component.specs.Key.{Key, item_keys}
 use Rattle.wac_component.specs.Reach.{IsAmong}
+use Rattle.wac_component.specs.Tree.{item_tree}
 use Rattle.wac_component.specs.declared.items.ItemKind.{ItemKind}
-use Rattle.wac_call_lists.specs.Attempt.{Attempt, Sources}
+use Rattle.wac_call_lists.specs.Attempt.{Attempt, Touches}
 use Rattle.wac_call_lists.specs.PlainList.{ArePlain}
 use Rattle.wac_call_lists.specs.Reason.{Refusal, kinds, mismatch, used_interface, used_name, no_identifier, owner_without_identifier, taken, cycle, IsReason}
+use Rattle.wac_call_lists.specs.TreeSets.{HaveNoLowerBound}
+use Rattle.wac_merge.specs.Items.{Externs}
+use Rattle.wac_names.specs.Class.{class_of}
+use Rattle.wac_narrowing.specs.State.{State, IsKept}
+use Rattle.wac_reasons.specs.Trial.{IsTrial, IsAccounted, AreOpenItems}
 use Rattle.wac_refusals.specs.declared.error.AggregateError.{AggregateError}
 use Rattle.wac_refusals.specs.declared.error.AggregateError.TheVariants.{Kinds, Mismatch, UsedInterface, UsedName, NoIdentifier, OwnerWithoutIdentifier, Taken, Cycle, Memory}
-use Rattle.wac_taking.specs.Takes.{AreWithin}
+use Rattle.wac_taking.specs.Growing.{with_own, AreAllOpen}
+use Rattle.wac_taking.specs.Takes.{AreNear, state_of}
+use Rattle.wac_taking.specs.declared.state.Merging.{Merging}
 
 -- what is refused, unless there is no memory
 abbrev pub said : AggregateError → Option Refusal
@@ -26,54 +34,61 @@ said (Taken name) = Some (taken (string_bytes name))
 said (Cycle interface) = Some (cycle (string_bytes interface))
 said Memory = None
 
--- the refusals whose reason lies in the item and in the import on its track, not in what was merged before
-abbrev pub IsOfItem : Refusal → Type 0
-IsOfItem (kinds existing found) = Unit {0}
-IsOfItem mismatch = ⊥
-IsOfItem (used_interface used expected found) = ⊥
-IsOfItem (used_name used) = ⊥
-IsOfItem (no_identifier used) = Unit {0}
-IsOfItem (owner_without_identifier resource) = Unit {0}
-IsOfItem (taken name) = Unit {0}
-IsOfItem (cycle interface) = ⊥
-
--- there is reason for such a refusal
+-- there is reason for the refusal
 abbrev pub HasReason : Attempt → AggregateError → Type 0
-HasReason a e = (r : Refusal) → said e ≡ Some r → IsOfItem r → IsReason a r
+HasReason at e = (r : Refusal) → said e ≡ Some r → IsReason at r
 
--- it is no such refusal
-abbrev pub IsOfMerging : AggregateError → Type 0
-IsOfMerging (Kinds existing found) = ⊥
-IsOfMerging (Mismatch frames error) = Unit {0}
-IsOfMerging (UsedInterface used expected found) = Unit {0}
-IsOfMerging (UsedName used) = Unit {0}
-IsOfMerging (NoIdentifier used) = ⊥
-IsOfMerging (OwnerWithoutIdentifier resource) = ⊥
-IsOfMerging (Taken name) = ⊥
-IsOfMerging (Cycle interface) = Unit {0}
-IsOfMerging Memory = Unit {0}
-
--- the ids aren't plain; and whatever item of the collection openly leads to them, and whatever was merged before, there is reason
-pub record IsRefusal (f : Collection) (ks : List Key) (e : AggregateError) : Type 0 where
+-- the ids aren't plain; and whatever call is tried whose item openly reaches them, where all is accounted for, and what is near is open and comes from sources, there is reason
+pub record IsRefusal (near : List Key) (f : Collection) (a : Merging) (ks : List Key) (e : AggregateError) : Type 0 where
   pub plain : ¬ (ArePlain f ks)
-  pub reason : (name : Text) (kind : ItemKind) (import : Option ItemTree) (sources : Sources) → AreWithin f ks (item_keys kind) → HasReason (record { call = record { name = name; types = f; kind = kind }; import = import; sources = sources }) e
+  pub reason : (at : Attempt) → IsTrial at f ks → IsAccounted at (state_of a) → AreNear at a near → HasReason at e
 
 -- that is so unless there is no memory
-abbrev pub IsRefused : Collection → List Key → AggregateError → Type 0
-IsRefused f ks e = e ≢ Memory → IsRefusal f ks e
+abbrev pub IsRefusedBy : List Key → Collection → Merging → List Key → AggregateError → Type 0
+IsRefusedBy near f a ks e = e ≢ Memory → IsRefusal near f a ks e
+
+-- the same, where nothing is near
+abbrev pub IsRefused : Collection → Merging → List Key → AggregateError → Type 0
+IsRefused f a ks e = IsRefusedBy [] f a ks e
 
 -- whatever entry uses these is refused
-abbrev pub AreRefusedUses : Collection → List (Text × UseContent) → AggregateError → Type 0
-AreRefusedUses f us e = (k : Key) → uses_at f k ≡ us → IsRefused f (k ∷ []) e
+abbrev pub AreRefusedUses : Collection → Merging → List (Text × UseContent) → AggregateError → Type 0
+AreRefusedUses f a us e = (k : Key) → uses_at f k ≡ us → IsRefused f a (k ∷ []) e
 
 -- the use at an index is of an interface without identifier, it says
 abbrev pub SaysOfUse : List (Text × UseContent) → ℕ → AggregateError → Type 0
 SaysOfUse us i e = (name : Text) (u : UseContent) → slice_get us i ≡ Some (name, u) → said e ≡ Some (no_identifier name)
 
--- an entry at one of these ids uses something
-abbrev pub HaveUses : Collection → List Key → Type 0
-HaveUses c ks = (k : Key) × IsAmong k ks × ¬ (uses_at c k ≡ [])
+-- uses of one name in the two lists are of interfaces on different tracks, or of different names in these, it says
+pub data SaysUsesDiffer (c : Collection) (us vs : List (Text × UseContent)) (e : AggregateError) : Type 0 where
+  of_interfaces : (name expected found : Text) (u v : UseContent) → Contains us (name, u) → Contains vs (name, v) → identifier c u.interface ≡ Some expected → identifier c v.interface ≡ Some found → class_of expected ≢ class_of found → said e ≡ Some (used_interface name expected found) → SaysUsesDiffer c us vs e
+  of_names : (name : Text) (u v : UseContent) → Contains us (name, u) → Contains vs (name, v) → u.name ≢ v.name → said e ≡ Some (used_name name) → SaysUsesDiffer c us vs e
 
--- entries are refused for want of memory, or over what the new ones use
-abbrev pub IsUsesRefusal : Collection → List Key → AggregateError → Type 0
-IsUsesRefusal c ks e = (e ≡ Memory) ⊎ HaveUses c ks
+-- such lists are refused, unless there is no memory
+abbrev pub AreRefusedLists : Collection → List (Text × UseContent) → List (Text × UseContent) → AggregateError → Type 0
+AreRefusedLists c us vs e = e ≢ Memory → SaysUsesDiffer c us vs e
+
+-- the uses of an entry at one of the first ids, and of one at one of the others, differ so
+pub record UsesDiffer (c : Collection) (ks js : List Key) (e : AggregateError) : Type 0 where
+  pub first : Key
+  pub second : Key
+  pub among_first : IsAmong first ks
+  pub among_second : IsAmong second js
+  pub differ : SaysUsesDiffer c (uses_at c first) (uses_at c second) e
+
+-- such entries are refused, unless there is no memory
+abbrev pub IsUsesRefusal : Collection → List Key → List Key → AggregateError → Type 0
+IsUsesRefusal c ks js e = e ≢ Memory → UsesDiffer c ks js e
+
+-- two items have no common lower bound, it says
+pub record SaysMismatch (c : Collection) (a b : ItemKind) (e : AggregateError) : Type 0 where
+  pub no_bound : HaveNoLowerBound (item_tree c a) (item_tree c b)
+  pub says : said e ≡ Some mismatch
+
+-- two items are refused, unless there is no memory, over their uses or since they can't be met
+abbrev pub IsMergeRefusal : Collection → ItemKind → ItemKind → AggregateError → Type 0
+IsMergeRefusal c a b e = e ≢ Memory → UsesDiffer c (item_keys a) (item_keys b) e ⊎ SaysMismatch c a b e
+
+-- items are refused that are to be met with those under their names, unless there is no memory: whatever state has this collection, in which all is accounted for and these items are open, there is reason if the item touches
+abbrev pub AreRefusedItems : Collection → Externs → Externs → AggregateError → Type 0
+AreRefusedItems c es ts e = e ≢ Memory → (at : Attempt) (s : State) → IsKept (with_own s c) → IsAccounted at (with_own s c) → AreOpenItems at (with_own s c) es → AreAllOpen at (with_own s c) ts → Touches at → HasReason at e

@@ -9,19 +9,22 @@ use Rattle.wac_component.specs.Entries.{identifier_at, owner_at}
 use Rattle.wac_component.specs.Growth.{Extends}
 use Rattle.wac_component.specs.Height.{height}
 use Rattle.wac_component.specs.Id.{Id}
-use Rattle.wac_component.specs.Key.{Key, Stands, alias_keys, optional_keys, resource_key, interface_key}
+use Rattle.wac_component.specs.Implicit.{HasIdentifier}
+use Rattle.wac_component.specs.Key.{Key, Each, Stands, AllStand, alias_keys, optional_keys, resource_key, interface_key}
 use Rattle.wac_component.specs.Open.{open_next, OpenReaches}
 use Rattle.wac_component.specs.Reach.{IsAmong}
 use Rattle.wac_component.specs.Tree.{root_name}
 use Rattle.wac_component.specs.declared.items.ItemKind.{ItemKind}
 use Rattle.wac_names.specs.Class.{Class, class_eq, class_of}
+use Rattle.wac_call_lists.specs.Attempt.{Attempt}
 use Rattle.wac_call_lists.specs.PlainList.{ArePlain}
 use Rattle.wac_narrowing.specs.Entering.{InterfaceIsTaken}
 use Rattle.wac_narrowing.specs.Identified.{IsCovered}
 use Rattle.wac_narrowing.specs.Remembers.{RemembersTruly}
 use Rattle.wac_narrowing.specs.State.{State, IsKept, IsOneWith, Runs}
-use Rattle.wac_narrowing.specs.Taking.{AreTakenKeys, IsTakenKey}
+use Rattle.wac_narrowing.specs.Taking.{AreMapped, AreTakenKeys, IsTakenKey}
 use Rattle.wac_narrowing.specs.Values.{IfAny}
+use Rattle.wac_reasons.specs.Trial.{IsTrial, IsAccounted, IsOpenSource, StaysAccounted}
 use Rattle.wac_copies.specs.Memo.{memo_of}
 use Rattle.wac_imports.specs.Import.{ImportContent, import_of, import_at}
 use Rattle.wac_taking.specs.declared.state.Merging.{Merging}
@@ -56,6 +59,19 @@ IsOwnEntry a k = Stands a.types k × IsCovered a.types (shared_keys a.shared.ent
 -- the interface that is merged with, if there is one, is such an entry
 abbrev pub IsNear : Merging → Option Id → Type 0
 IsNear a near = (i : Id) → near ≡ Some i → IsOwnEntry a (interface_key i)
+
+-- its id
+abbrev pub near_keys : Option Id → List Key
+near_keys near = optional_keys (λ i. interface_key i ∷ []) near
+
+-- these own entries stand, are open, and come from sources
+pub record AreNear (at : Attempt) (a : Merging) (ks : List Key) : Type 0 where
+  pub stand : AllStand a.types ks
+  pub opens : Each (IsOpenSource at (state_of a)) ks
+
+-- the interface is a shared entry, or was near
+abbrev pub IsNearest : Merging → Option Id → Option Id → Type 0
+IsNearest a near nearest = (i : Id) → nearest ≡ Some i → (near ≡ Some i) ⊎ IsAmong (interface_key i) (shared_keys a.shared.entries)
 
 -- the near interface's entry names each of these ids
 abbrev pub AreLedTo : Collection → Option Id → List Key → Type 0
@@ -107,7 +123,8 @@ pub record OnlyAdds (a b : Merging) : Type 0 where
   pub imports : b.imports ≡ a.imports
 
 -- what taking in from f does: the state runs on to one of which the fact holds, and no id above the height is noted; each owner is imported still. What is imported stays; what is new is an owner to which the ids openly lead, and each new shared entry has the identifier of an interface to which they do. Where the ids are plain, entries are only added
-pub record Takes (f : Collection) (a b : Merging) (top : ℕ) (ks : List Key) (Holds : State → Type 0) : Type 0 where
+-- While a call is tried whose item openly reaches the ids, and what is near is open and comes from sources, all stays accounted for
+pub record TakesBy (near : List Key) (f : Collection) (a b : Merging) (top : ℕ) (ks : List Key) (Holds : State → Type 0) : Type 0 where
   pub low : (k : Key) → top < height f k → memo_of a.taken k ≡ None → memo_of b.taken k ≡ None
   pub run : Runs (RemembersTruly class_of) f (state_of a) (state_of b)
   pub filed : AreFiledIn b.types b.shared.entries
@@ -117,7 +134,12 @@ pub record Takes (f : Collection) (a b : Merging) (top : ℕ) (ks : List Key) (H
   pub due : (q : Class) (i : ImportContent) → import_of b.imports q ≡ Some i → (import_of a.imports q ≡ Some i) ⊎ IsOwnersImport f ks b q i.0
   pub shares : (e : Key) → IsAmong e (shared_keys b.shared.entries) → IsAmong e (shared_keys a.shared.entries) ⊎ IsSharedFrom f ks b e
   pub plain : ArePlain f ks → OnlyAdds a b
+  pub accounts : (at : Attempt) → IsTrial at f ks → IsAccounted at (state_of a) → AreNear at a near → StaysAccounted at (state_of a) (state_of b)
   pub holds : Holds (state_of b)
+
+-- the same, where nothing is near
+abbrev pub Takes : Collection → Merging → Merging → ℕ → List Key → (State → Type 0) → Type 0
+Takes f a b top ks Holds = TakesBy [] f a b top ks Holds
 
 -- what the resource is another name of, if it is
 abbrev pub alias_at : Collection → Id → Option AliasContent
@@ -146,13 +168,15 @@ owners_keys f rs = flat_map (λ r. optional_keys (λ o. interface_key o ∷ []) 
 abbrev pub AreOwnersTaken : Collection → List Id → State → Type 0
 AreOwnersTaken f rs s = (r : Id) → Contains rs r → (o : Option Id) × IsTakenOwner f (owner_at f r) o s
 
--- the own use is of what was taken in for the interface, under the same name
+-- the own use is of what was taken in for the interface, which has an identifier, under the same name
 pub record IsTakenUse (f : Collection) (s : State) (u v : UseContent) : Type 0 where
   pub name : v.name ≡ u.name
+  pub identified : HasIdentifier f u.interface
   pub interface : IsTakenKey class_of f s (interface_key u.interface) (interface_key v.interface)
 
 -- all that the foreign interface names was taken in, as what these use and export; it was not itself
 pub record MayPut (f : Collection) (a : Merging) (p : Id) (us : List (Text × UseContent)) (es : List (Text × ItemKind)) : Type 0 where
   pub content : InterfaceContent
   pub taken : InterfaceIsTaken class_of f (state_of a) p content (record { id = None; uses = us; exports = es })
+  pub used : AreMapped (IsTakenUse f (state_of a)) content.uses us
   pub absent : memo_of a.taken (interface_key p) ≡ None

@@ -27,7 +27,7 @@ pub(crate) fn put_interface(
 ) -> Result<InterfaceId, AggregateError>
     requires state { MayTake types.now state.old }
     requires taken { MayPut types.now state.old id (named use_content uses.entries) (named (λ k. k) exports.entries) }
-    ensures { MatchResult result (λ r. Takes types.now state.old state.new (height types.now (interface_key id)) (interface_key id ∷ []) (λ t. IsTakenKey class_of types.now t (interface_key id) (interface_key r))) (IsRefused types.now (interface_key id ∷ [])) }
+    ensures { MatchResult result (λ r. Takes types.now state.old state.new (height types.now (interface_key id)) (interface_key id ∷ []) (λ t. IsTakenKey class_of types.now t (interface_key id) (interface_key r))) (IsRefused types.now state.old (interface_key id ∷ [])) }
 {
     let Some(name) = types[id].id.clone()? else {
         return put_plain(state, types, id, uses, exports);
@@ -50,7 +50,7 @@ pub(crate) fn put_plain(
     requires state { MayTake types.now state.old }
     requires plain { identifier_at types.now (interface_key id) ≡ None }
     requires taken { MayPut types.now state.old id (named use_content uses.entries) (named (λ k. k) exports.entries) }
-    ensures { MatchResult result (λ r. Takes types.now state.old state.new (height types.now (interface_key id)) (interface_key id ∷ []) (λ t. IsTakenKey class_of types.now t (interface_key id) (interface_key r))) (IsRefused types.now (interface_key id ∷ [])) }
+    ensures { MatchResult result (λ r. Takes types.now state.old state.new (height types.now (interface_key id)) (interface_key id ∷ []) (λ t. IsTakenKey class_of types.now t (interface_key id) (interface_key r))) (IsRefused types.now state.old (interface_key id ∷ [])) }
 {
     let own = state.types.add_interface(Interface {
         id: None,
@@ -76,7 +76,7 @@ pub(crate) fn put_shared(
     requires of { class ≡ class_of (string_bytes name) }
     requires new { shared_in state.old.shared.entries class ≡ None }
     requires taken { MayPut types.now state.old id (named use_content uses.entries) (named (λ k. k) exports.entries) }
-    ensures { MatchResult result (λ r. Takes types.now state.old state.new (height types.now (interface_key id)) (interface_key id ∷ []) (λ t. IsTakenKey class_of types.now t (interface_key id) (interface_key r))) (IsRefused types.now (interface_key id ∷ [])) }
+    ensures { MatchResult result (λ r. Takes types.now state.old state.new (height types.now (interface_key id)) (interface_key id ∷ []) (λ t. IsTakenKey class_of types.now t (interface_key id) (interface_key r))) (IsRefused types.now state.old (interface_key id ∷ [])) }
 {
     let own = state.types.add_interface(Interface {
         id: Some(name),

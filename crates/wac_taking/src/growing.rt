@@ -1,18 +1,20 @@
 //! Shared entries that grow.
 
-ghost use Rattle.std.specs.Prelude.{◌≡◌, [], ◌∷◌, Some, IfErr, MatchResult, OnOk, length, slice_set, string_bytes};
+ghost use Rattle.std.specs.Prelude.{◌≡◌, ◌≢◌, [], ◌∷◌, Some, IfErr, MatchResult, OnOk, length, slice_set, string_bytes};
 ghost use Rattle.wac_component.specs.Collection.{InterfaceContent};
 ghost use Rattle.wac_component.specs.Content.{named, use_content, interface_content};
 ghost use Rattle.wac_component.specs.Entries.{identifier_at};
 ghost use Rattle.wac_component.specs.Height.{height};
 ghost use Rattle.wac_component.specs.Key.{Stands, AllStand, item_keys, interface_key, interface_keys};
 ghost use Rattle.wac_component.specs.Replacing.{NamesReach};
-ghost use Rattle.wac_merge.specs.Items.{extern_keys, extern_list};
+ghost use Rattle.wac_call_lists.specs.Reason.{cycle as closes};
+ghost use Rattle.wac_refusals.specs.declared.error.AggregateError.TheVariants.{Memory};
+ghost use Rattle.wac_merge.specs.Items.{AreFound, extern_keys, extern_list};
 ghost use Rattle.wac_names.specs.Class.{class_of};
 ghost use Rattle.wac_narrowing.specs.Narrows.{grown};
 ghost use Rattle.wac_narrowing.specs.Taking.{IsTakenKey};
 ghost use Rattle.wac_taking.specs.Growing.{IsMetWith, AreMetWith};
-ghost use Rattle.wac_taking.specs.Refused.{IsRefused, IsOfMerging};
+ghost use Rattle.wac_taking.specs.Refused.{said, IsRefused, IsMergeRefusal, AreRefusedItems};
 ghost use Rattle.wac_taking.specs.Takes.{MayTake, MayPut, Takes, shared_in};
 
 use super::meeting::meet_own;
@@ -21,6 +23,7 @@ use super::uses::{check_uses, check_uses_of};
 use indexmap::IndexMap;
 use std::alloc::{AllocError, Global};
 use wac_clashes::mismatch;
+use wac_component::laws::names_in_an_interface_are_distinct;
 use wac_component::{Interface, InterfaceId, ItemKind, ReplaceError, Types, UsedType};
 use wac_core_merge::add_new;
 use wac_merge::{extern_named, put_extern};
@@ -68,7 +71,7 @@ pub(crate) fn grow(
     requires identified { identifier_at types.now (interface_key id) ≡ Some (string_bytes name) }
     requires shared { shared_in state.old.shared.entries (class_of (string_bytes name)) ≡ Some own }
     requires taken { MayPut types.now state.old id (named use_content uses.entries) (named (λ k. k) exports.entries) }
-    ensures { MatchResult result (λ r. Takes types.now state.old state.new (height types.now (interface_key id)) (interface_key id ∷ []) (λ t. IsTakenKey class_of types.now t (interface_key id) (interface_key r))) (IsRefused types.now (interface_key id ∷ [])) }
+    ensures { MatchResult result (λ r. Takes types.now state.old state.new (height types.now (interface_key id)) (interface_key id ∷ []) (λ t. IsTakenKey class_of types.now t (interface_key id) (interface_key r))) (IsRefused types.now state.old (interface_key id ∷ [])) }
 {
     let alloc = state.alloc();
     let mut entry = state.types[own].clone()?;
@@ -82,6 +85,8 @@ pub(crate) fn grow(
         &mut entry.exports,
         &exports,
     )?;
+    // A name stands once in a map, so that what stands under it is what a look-up finds.
+    names_in_an_interface_are_distinct(&entry);
     replace(&mut state.types, own, entry, name)?;
     state.taken.put_interface(id, own)?;
     Ok(own)
@@ -97,7 +102,8 @@ fn meet_exports(
 ) -> Result<(), AggregateError>
     requires existing { AllStand types.old (extern_keys (extern_list existing.old)) }
     requires new { AllStand types.old (extern_keys (extern_list exports.now)) }
-    ensures { MatchResult result (λ u. AreMetWith types.old types.new (extern_list existing.old) (extern_list exports.now) (extern_list existing.new)) IsOfMerging }
+    ensures met { MatchResult result (λ u. AreMetWith types.old types.new (extern_list existing.old) (extern_list exports.now) (extern_list existing.new)) (AreRefusedItems types.old (extern_list existing.old) (extern_list exports.now)) }
+    ensures found { AreFound (extern_list exports.now) }
 {
     for (name, kind) in exports {
         meet_export(alloc, place, types, existing, name, *kind)?;
@@ -116,7 +122,7 @@ fn meet_export(
 ) -> Result<(), AggregateError>
     requires existing { AllStand types.old (extern_keys (extern_list existing.old)) }
     requires new { AllStand types.old (item_keys kind) }
-    ensures { MatchResult result (λ u. AreMetWith types.old types.new (extern_list existing.old) ((string_bytes name.now, kind) ∷ []) (extern_list existing.new)) IsOfMerging }
+    ensures { MatchResult result (λ u. AreMetWith types.old types.new (extern_list existing.old) ((string_bytes name.now, kind) ∷ []) (extern_list existing.new)) (AreRefusedItems types.old (extern_list existing.old) ((string_bytes name.now, kind) ∷ [])) }
 {
     let Some(other) = extern_named(existing, name) else {
         put_extern(existing, name, kind)?;
@@ -139,7 +145,7 @@ fn meet_items(
 ) -> Result<ItemKind, AggregateError>
     requires existing { AllStand types.old (item_keys existing) }
     requires new { AllStand types.old (item_keys kind) }
-    ensures { MatchResult result (IsMetWith types.old types.new existing kind) IsOfMerging }
+    ensures { MatchResult result (IsMetWith types.old types.new existing kind) (IsMergeRefusal types.old existing kind) }
 {
     check_uses_of(alloc, types, existing, kind)?;
     match meet_own(alloc, types, existing, kind)? {
@@ -172,7 +178,7 @@ fn replace(
     requires named { AllStand types.old (interface_keys (interface_content entry)) }
     ensures grown { OnOk result (types.new ≡ grown types.old own (interface_content entry)) }
     ensures acyclic { OnOk result (¬ (NamesReach types.old (interface_keys (interface_content entry)) (interface_key own))) }
-    ensures merging { IfErr result IsOfMerging }
+    ensures cycle { IfErr result (λ e. e ≢ Memory → NamesReach types.old (interface_keys (interface_content entry)) (interface_key own) × (said e ≡ Some (closes (string_bytes interface)))) }
 {
     match types.replace_interface(own, entry) {
         Ok(()) => Ok(()),

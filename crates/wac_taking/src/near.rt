@@ -4,7 +4,7 @@ ghost use Rattle.std.specs.Prelude.{◌≡◌, ◌<◌, [], ◌∷◌, Some, len
 ghost use Rattle.wac_component.specs.Id.{Id};
 ghost use Rattle.wac_component.specs.Key.{Stands, item_keys, interface_key};
 ghost use Rattle.wac_narrowing.specs.State.{IsKept};
-ghost use Rattle.wac_taking.specs.Takes.{IsNear, AreLedTo, state_of};
+ghost use Rattle.wac_taking.specs.Takes.{IsNear, IsNearest, AreLedTo, state_of};
 
 use super::state::Merging;
 use indexmap::IndexMap;
@@ -21,7 +21,8 @@ pub(crate) fn nearest(
 ) -> Result<Option<InterfaceId>, AllocError>
     requires state { IsKept (state_of state.now) }
     requires near { IsNear state.now near }
-    ensures { IfOk result (IsNear state.now) }
+    ensures stands { IfOk result (IsNear state.now) }
+    ensures nearest { IfOk result (IsNearest state.now near) }
 {
     let Some(name) = identifier else {
         return Ok(near);

@@ -7,13 +7,14 @@ ghost use Rattle.wac_component.specs.Entries.{owner_at};
 ghost use Rattle.wac_component.specs.Content.{alias_content, defined_content, named, use_content, types_of};
 ghost use Rattle.wac_component.specs.Height.{height, keys_height};
 ghost use Rattle.wac_component.specs.Id.{Id};
+ghost use Rattle.wac_component.specs.Implicit.{HasIdentifier};
 ghost use Rattle.wac_component.specs.Key.{Stands, Each, AllStand, item_keys, type_keys, value_keys, alias_keys, optional_keys, named_keys, use_keys, defined_keys, defined_key, resource_key, func_key, interface_key, world_key, module_key};
 ghost use Rattle.wac_component.specs.declared.items.ItemKind.TheVariants.{«Type» as OfType};
 ghost use Rattle.wac_names.specs.Class.{class_of};
 ghost use Rattle.wac_narrowing.specs.Taking.{AreMapped, IsTakenItem, IsTakenKey};
 ghost use Rattle.wac_narrowing.specs.Values.{IsTakenValue, AreListed, IfAny, AreDefined};
-ghost use Rattle.wac_taking.specs.Refused.{IsRefused, AreRefusedUses, SaysOfUse};
-ghost use Rattle.wac_taking.specs.Takes.{MayTake, IsOwnEntry, IsNear, Takes, owners_keys, AreOwnersTaken, IsTakenAlias, IsTakenOwner, IsTakenUse, alias_at};
+ghost use Rattle.wac_taking.specs.Refused.{IsRefusedBy, IsRefused, AreRefusedUses, SaysOfUse};
+ghost use Rattle.wac_taking.specs.Takes.{MayTake, IsOwnEntry, IsNear, near_keys, TakesBy, Takes, owners_keys, AreOwnersTaken, IsTakenAlias, IsTakenOwner, IsTakenUse, alias_at};
 
 use super::entering::put_interface;
 use super::near::{near_export, near_interface, nearest};
@@ -44,7 +45,7 @@ pub fn take_item(
     requires source { AllStand types.now (item_keys kind) }
     requires state { MayTake types.now state.old }
     requires near { IsNear state.old near }
-    ensures { MatchResult result (λ k. Takes types.now state.old state.new (keys_height types.now (item_keys kind)) (item_keys kind) (λ t. IsTakenItem class_of types.now t kind k)) (IsRefused types.now (item_keys kind)) }
+    ensures { MatchResult result (λ k. TakesBy (near_keys near) types.now state.old state.new (keys_height types.now (item_keys kind)) (item_keys kind) (λ t. IsTakenItem class_of types.now t kind k)) (IsRefusedBy (near_keys near) types.now state.old (item_keys kind)) }
 {
     match kind {
         ItemKind::Type(ty) => Ok(ItemKind::Type(take_type(state, types, ty, near)?)),
@@ -67,7 +68,7 @@ fn take_type(
     requires source { AllStand types.now (type_keys ty) }
     requires state { MayTake types.now state.old }
     requires near { IsNear state.old near }
-    ensures { MatchResult result (λ r. Takes types.now state.old state.new (keys_height types.now (type_keys ty)) (type_keys ty) (λ t. IsTakenItem class_of types.now t (OfType ty) (OfType r))) (IsRefused types.now (type_keys ty)) }
+    ensures { MatchResult result (λ r. TakesBy (near_keys near) types.now state.old state.new (keys_height types.now (type_keys ty)) (type_keys ty) (λ t. IsTakenItem class_of types.now t (OfType ty) (OfType r))) (IsRefusedBy (near_keys near) types.now state.old (type_keys ty)) }
 {
     match ty {
         Type::Resource(id) => Ok(Type::Resource(take_resource(state, types, id)?)),
@@ -88,7 +89,7 @@ fn take_value(
 ) -> Result<ValueType, AggregateError>
     requires source { AllStand types.now (value_keys ty) }
     requires state { MayTake types.now state.old }
-    ensures { MatchResult result (λ v. Takes types.now state.old state.new (keys_height types.now (value_keys ty)) (value_keys ty) (λ t. IsTakenValue class_of types.now t ty v)) (IsRefused types.now (value_keys ty)) }
+    ensures { MatchResult result (λ v. Takes types.now state.old state.new (keys_height types.now (value_keys ty)) (value_keys ty) (λ t. IsTakenValue class_of types.now t ty v)) (IsRefused types.now state.old (value_keys ty)) }
 {
     match ty {
         ValueType::Primitive(ty) => Ok(ValueType::Primitive(ty)),
@@ -107,7 +108,7 @@ fn take_optional(
 ) -> Result<Option<ValueType>, AggregateError>
     requires source { AllStand types.now (optional_keys value_keys ty) }
     requires state { MayTake types.now state.old }
-    ensures { MatchResult result (λ o. Takes types.now state.old state.new (keys_height types.now (optional_keys value_keys ty)) (optional_keys value_keys ty) (λ t. IfAny (IsTakenValue class_of types.now t) ty o)) (IsRefused types.now (optional_keys value_keys ty)) }
+    ensures { MatchResult result (λ o. Takes types.now state.old state.new (keys_height types.now (optional_keys value_keys ty)) (optional_keys value_keys ty) (λ t. IfAny (IsTakenValue class_of types.now t) ty o)) (IsRefused types.now state.old (optional_keys value_keys ty)) }
 {
     match ty {
         Some(ty) => Ok(Some(take_value(state, types, ty)?)),
@@ -124,7 +125,7 @@ fn take_values(
 ) -> Result<Vec<ValueType>, AggregateError>
     requires source { AllStand types.now (flat_map value_keys values.now.items) }
     requires state { MayTake types.now state.old }
-    ensures { MatchResult result (λ vs. Takes types.now state.old state.new (keys_height types.now (flat_map value_keys values.now.items)) (flat_map value_keys values.now.items) (λ t. AreListed (IsTakenValue class_of types.now t) values.now.items vs.items)) (IsRefused types.now (flat_map value_keys values.now.items)) }
+    ensures { MatchResult result (λ vs. Takes types.now state.old state.new (keys_height types.now (flat_map value_keys values.now.items)) (flat_map value_keys values.now.items) (λ t. AreListed (IsTakenValue class_of types.now t) values.now.items vs.items)) (IsRefused types.now state.old (flat_map value_keys values.now.items)) }
 {
     let mut taken = values.clone()?;
     for i in 0..values.len() {
@@ -143,7 +144,7 @@ fn take_fields(
 ) -> Result<IndexMap<String, ValueType>, AggregateError>
     requires source { AllStand types.now (flat_map value_keys (types_of fields.now.entries)) }
     requires state { MayTake types.now state.old }
-    ensures { MatchResult result (λ m. Takes types.now state.old state.new (keys_height types.now (flat_map value_keys (types_of fields.now.entries))) (flat_map value_keys (types_of fields.now.entries)) (λ t. AreMapped (IsTakenValue class_of types.now t) (named (λ v. v) fields.now.entries) (named (λ v. v) m.entries))) (IsRefused types.now (flat_map value_keys (types_of fields.now.entries))) }
+    ensures { MatchResult result (λ m. Takes types.now state.old state.new (keys_height types.now (flat_map value_keys (types_of fields.now.entries))) (flat_map value_keys (types_of fields.now.entries)) (λ t. AreMapped (IsTakenValue class_of types.now t) (named (λ v. v) fields.now.entries) (named (λ v. v) m.entries))) (IsRefused types.now state.old (flat_map value_keys (types_of fields.now.entries))) }
 {
     let mut taken = fields.clone()?;
     for i in 0..fields.len() {
@@ -162,7 +163,7 @@ fn take_cases(
 ) -> Result<IndexMap<String, Option<ValueType>>, AggregateError>
     requires source { AllStand types.now (flat_map (optional_keys value_keys) (types_of cases.now.entries)) }
     requires state { MayTake types.now state.old }
-    ensures { MatchResult result (λ m. Takes types.now state.old state.new (keys_height types.now (flat_map (optional_keys value_keys) (types_of cases.now.entries))) (flat_map (optional_keys value_keys) (types_of cases.now.entries)) (λ t. AreMapped (IfAny (IsTakenValue class_of types.now t)) (named (λ o. o) cases.now.entries) (named (λ o. o) m.entries))) (IsRefused types.now (flat_map (optional_keys value_keys) (types_of cases.now.entries))) }
+    ensures { MatchResult result (λ m. Takes types.now state.old state.new (keys_height types.now (flat_map (optional_keys value_keys) (types_of cases.now.entries))) (flat_map (optional_keys value_keys) (types_of cases.now.entries)) (λ t. AreMapped (IfAny (IsTakenValue class_of types.now t)) (named (λ o. o) cases.now.entries) (named (λ o. o) m.entries))) (IsRefused types.now state.old (flat_map (optional_keys value_keys) (types_of cases.now.entries))) }
 {
     let mut taken = cases.clone()?;
     for i in 0..cases.len() {
@@ -181,7 +182,7 @@ fn take_defined(
 ) -> Result<DefinedTypeId, AggregateError>
     requires source { Stands types.now (defined_key id) }
     requires state { MayTake types.now state.old }
-    ensures { MatchResult result (λ r. Takes types.now state.old state.new (height types.now (defined_key id)) (defined_key id ∷ []) (λ t. IsTakenKey class_of types.now t (defined_key id) (defined_key r))) (IsRefused types.now (defined_key id ∷ [])) }
+    ensures { MatchResult result (λ r. Takes types.now state.old state.new (height types.now (defined_key id)) (defined_key id ∷ []) (λ t. IsTakenKey class_of types.now t (defined_key id) (defined_key r))) (IsRefused types.now state.old (defined_key id ∷ [])) }
 {
     if let Some(own) = state.taken.defined(id) {
         return Ok(own);
@@ -202,7 +203,7 @@ fn take_content(
 ) -> Result<DefinedType, AggregateError>
     requires source { AllStand types.now (defined_keys (defined_content ty.now)) }
     requires state { MayTake types.now state.old }
-    ensures { MatchResult result (λ r. Takes types.now state.old state.new (keys_height types.now (defined_keys (defined_content ty.now))) (defined_keys (defined_content ty.now)) (λ t. AreDefined (IsTakenValue class_of types.now t) (defined_content ty.now) (defined_content r))) (IsRefused types.now (defined_keys (defined_content ty.now))) }
+    ensures { MatchResult result (λ r. Takes types.now state.old state.new (keys_height types.now (defined_keys (defined_content ty.now))) (defined_keys (defined_content ty.now)) (λ t. AreDefined (IsTakenValue class_of types.now t) (defined_content ty.now) (defined_content r))) (IsRefused types.now state.old (defined_keys (defined_content ty.now))) }
 {
     match ty {
         DefinedType::Tuple(items) => {
@@ -260,7 +261,7 @@ fn take_func(
 ) -> Result<FuncTypeId, AggregateError>
     requires source { Stands types.now (func_key id) }
     requires state { MayTake types.now state.old }
-    ensures { MatchResult result (λ r. Takes types.now state.old state.new (height types.now (func_key id)) (func_key id ∷ []) (λ t. IsTakenKey class_of types.now t (func_key id) (func_key r))) (IsRefused types.now (func_key id ∷ [])) }
+    ensures { MatchResult result (λ r. Takes types.now state.old state.new (height types.now (func_key id)) (func_key id ∷ []) (λ t. IsTakenKey class_of types.now t (func_key id) (func_key r))) (IsRefused types.now state.old (func_key id ∷ [])) }
 {
     if let Some(own) = state.taken.func(id) {
         return Ok(own);
@@ -287,7 +288,7 @@ fn take_resource(
 ) -> Result<ResourceId, AggregateError>
     requires source { Stands types.now (resource_key id) }
     requires state { MayTake types.now state.old }
-    ensures { MatchResult result (λ r. Takes types.now state.old state.new (height types.now (resource_key id)) (resource_key id ∷ []) (λ t. IsTakenKey class_of types.now t (resource_key id) (resource_key r))) (IsRefused types.now (resource_key id ∷ [])) }
+    ensures { MatchResult result (λ r. Takes types.now state.old state.new (height types.now (resource_key id)) (resource_key id ∷ []) (λ t. IsTakenKey class_of types.now t (resource_key id) (resource_key r))) (IsRefused types.now state.old (resource_key id ∷ [])) }
 {
     if let Some(own) = state.taken.resource(id) {
         return Ok(own);
@@ -310,7 +311,7 @@ fn take_source(
 ) -> Result<Option<ResourceAlias>, AggregateError>
     requires source { Stands types.now (resource_key id) }
     requires state { MayTake types.now state.old }
-    ensures { MatchResult result (λ r. Takes types.now state.old state.new (keys_height types.now (optional_keys alias_keys (alias_at types.now id))) (resource_key id ∷ []) (λ t. IfAny (IsTakenAlias types.now t) (alias_at types.now id) (option_map alias_content r))) (IsRefused types.now (resource_key id ∷ [])) }
+    ensures { MatchResult result (λ r. Takes types.now state.old state.new (keys_height types.now (optional_keys alias_keys (alias_at types.now id))) (resource_key id ∷ []) (λ t. IfAny (IsTakenAlias types.now t) (alias_at types.now id) (option_map alias_content r))) (IsRefused types.now state.old (resource_key id ∷ [])) }
 {
     match alias_of(types, id) {
         Some(alias) => Ok(Some(take_alias(state, types, id, alias)?)),
@@ -329,7 +330,7 @@ fn take_alias(
     requires source { Stands types.now (resource_key id) }
     requires state { MayTake types.now state.old }
     requires of { alias_at types.now id ≡ Some (alias_content alias) }
-    ensures { MatchResult result (λ r. Takes types.now state.old state.new (keys_height types.now (alias_keys (alias_content alias))) (resource_key id ∷ []) (λ t. IsTakenAlias types.now t (alias_content alias) (alias_content r))) (IsRefused types.now (resource_key id ∷ [])) }
+    ensures { MatchResult result (λ r. Takes types.now state.old state.new (keys_height types.now (alias_keys (alias_content alias))) (resource_key id ∷ []) (λ t. IsTakenAlias types.now t (alias_content alias) (alias_content r))) (IsRefused types.now state.old (resource_key id ∷ [])) }
 {
     types.sound();
     let owner = take_owner(state, types, id, alias.owner)?;
@@ -348,7 +349,7 @@ fn take_owner(
     requires source { AllStand types.now (resource_key id ∷ optional_keys (λ o. interface_key o ∷ []) owner) }
     requires state { MayTake types.now state.old }
     requires of { owner_at types.now id ≡ owner }
-    ensures { MatchResult result (λ r. Takes types.now state.old state.new (keys_height types.now (optional_keys (λ o. interface_key o ∷ []) owner)) (resource_key id ∷ []) (IsTakenOwner types.now owner r)) (IsRefused types.now (resource_key id ∷ [])) }
+    ensures { MatchResult result (λ r. Takes types.now state.old state.new (keys_height types.now (optional_keys (λ o. interface_key o ∷ []) owner)) (resource_key id ∷ []) (IsTakenOwner types.now owner r)) (IsRefused types.now state.old (resource_key id ∷ [])) }
 {
     let Some(owner) = owner else {
         return Ok(None);
@@ -374,7 +375,7 @@ fn take_interface(
     requires source { Stands types.now (interface_key id) }
     requires state { MayTake types.now state.old }
     requires near { IsNear state.old near }
-    ensures { MatchResult result (λ r. Takes types.now state.old state.new (height types.now (interface_key id)) (interface_key id ∷ []) (λ t. IsTakenKey class_of types.now t (interface_key id) (interface_key r))) (IsRefused types.now (interface_key id ∷ [])) }
+    ensures { MatchResult result (λ r. TakesBy (near_keys near) types.now state.old state.new (height types.now (interface_key id)) (interface_key id ∷ []) (λ t. IsTakenKey class_of types.now t (interface_key id) (interface_key r))) (IsRefusedBy (near_keys near) types.now state.old (interface_key id ∷ [])) }
 {
     if let Some(own) = state.taken.interface(id) {
         return Ok(own);
@@ -397,7 +398,7 @@ fn take_uses(
 ) -> Result<IndexMap<String, UsedType>, AggregateError>
     requires source { AllStand types.now (named_keys use_keys (named use_content uses.now.entries)) }
     requires state { MayTake types.now state.old }
-    ensures { MatchResult result (λ m. Takes types.now state.old state.new (keys_height types.now (named_keys use_keys (named use_content uses.now.entries))) (named_keys use_keys (named use_content uses.now.entries)) (λ t. AreMapped (IsTakenUse types.now t) (named use_content uses.now.entries) (named use_content m.entries))) (AreRefusedUses types.now (named use_content uses.now.entries)) }
+    ensures { MatchResult result (λ m. Takes types.now state.old state.new (keys_height types.now (named_keys use_keys (named use_content uses.now.entries))) (named_keys use_keys (named use_content uses.now.entries)) (λ t. AreMapped (IsTakenUse types.now t) (named use_content uses.now.entries) (named use_content m.entries))) (AreRefusedUses types.now state.old (named use_content uses.now.entries)) }
 {
     let mut taken = uses.clone()?;
     for i in 0..uses.len() {
@@ -431,7 +432,7 @@ fn take_used(
     requires source { AllStand types.now (named_keys use_keys (named use_content uses.now.entries)) }
     requires state { MayTake types.now state.old }
     requires at { index < length uses.now.entries }
-    ensures { MatchResult result (λ r. Takes types.now state.old state.new (keys_height types.now (named_keys use_keys (named use_content uses.now.entries))) (named_keys use_keys (named use_content uses.now.entries)) (λ t. (p : Id) → option_map (λ u. u.interface) (slice_get (types_of uses.now.entries) index) ≡ Some p → IsTakenKey class_of types.now t (interface_key p) (interface_key r))) (AreRefusedUses types.now (named use_content uses.now.entries)) }
+    ensures { MatchResult result (λ r. Takes types.now state.old state.new (keys_height types.now (named_keys use_keys (named use_content uses.now.entries))) (named_keys use_keys (named use_content uses.now.entries)) (λ t. (p : Id) → option_map (λ u. u.interface) (slice_get (types_of uses.now.entries) index) ≡ Some p → IsTakenKey class_of types.now t (interface_key p) (interface_key r) × HasIdentifier types.now p)) (AreRefusedUses types.now state.old (named use_content uses.now.entries)) }
 {
     let interface = used_at(uses, index);
     types.sound();
@@ -452,7 +453,7 @@ pub fn take_externs(
     requires source { AllStand types.now (named_keys item_keys (named (λ k. k) externs.now.entries)) }
     requires state { MayTake types.now state.old }
     requires near { IsNear state.old near.now }
-    ensures { MatchResult result (λ m. Takes types.now state.old state.new (keys_height types.now (named_keys item_keys (named (λ k. k) externs.now.entries))) (named_keys item_keys (named (λ k. k) externs.now.entries)) (λ t. AreMapped (IsTakenItem class_of types.now t) (named (λ k. k) externs.now.entries) (named (λ k. k) m.entries))) (IsRefused types.now (named_keys item_keys (named (λ k. k) externs.now.entries))) }
+    ensures { MatchResult result (λ m. TakesBy (near_keys near.now) types.now state.old state.new (keys_height types.now (named_keys item_keys (named (λ k. k) externs.now.entries))) (named_keys item_keys (named (λ k. k) externs.now.entries)) (λ t. AreMapped (IsTakenItem class_of types.now t) (named (λ k. k) externs.now.entries) (named (λ k. k) m.entries))) (IsRefusedBy (near_keys near.now) types.now state.old (named_keys item_keys (named (λ k. k) externs.now.entries))) }
 {
     let mut taken = externs.clone()?;
     for i in 0..externs.len() {
@@ -476,7 +477,7 @@ fn take_alike(
     requires source { AllStand types.now (named_keys item_keys (named (λ k. k) externs.now.entries)) }
     requires state { MayTake types.now state.old }
     requires near { IsNear state.old near.now }
-    ensures { MatchResult result (λ u. Takes types.now state.old state.new (keys_height types.now (named_keys item_keys (named (λ k. k) externs.now.entries))) (named_keys item_keys (named (λ k. k) externs.now.entries)) (λ t. Unit {0})) (IsRefused types.now (named_keys item_keys (named (λ k. k) externs.now.entries))) }
+    ensures { MatchResult result (λ u. TakesBy (near_keys near.now) types.now state.old state.new (keys_height types.now (named_keys item_keys (named (λ k. k) externs.now.entries))) (named_keys item_keys (named (λ k. k) externs.now.entries)) (λ t. Unit {0})) (IsRefusedBy (near_keys near.now) types.now state.old (named_keys item_keys (named (λ k. k) externs.now.entries))) }
 {
     for i in 0..externs.len() {
         let own = near_export(&state.types, *near, externs, i);
@@ -499,7 +500,7 @@ fn take_alike_item(
     requires source { AllStand types.now (item_keys kind) }
     requires state { MayTake types.now state.old }
     requires own { IfSome own (λ k. Each (IsOwnEntry state.old) (item_keys k)) }
-    ensures { MatchResult result (λ u. Takes types.now state.old state.new (keys_height types.now (item_keys kind)) (item_keys kind) (λ t. Unit {0})) (IsRefused types.now (item_keys kind)) }
+    ensures { MatchResult result (λ u. TakesBy (optional_keys item_keys own) types.now state.old state.new (keys_height types.now (item_keys kind)) (item_keys kind) (λ t. Unit {0})) (IsRefusedBy (optional_keys item_keys own) types.now state.old (item_keys kind)) }
 {
     match (&kind, &own) {
         (ItemKind::Type(Type::Resource(id)), Some(ItemKind::Type(Type::Resource(own)))) => {
@@ -524,7 +525,7 @@ fn take_alike_resource(
     requires source { Stands types.now (resource_key id) }
     requires state { MayTake types.now state.old }
     requires own { IsOwnEntry state.old (resource_key own) }
-    ensures { MatchResult result (λ u. Takes types.now state.old state.new (height types.now (resource_key id)) (resource_key id ∷ []) (λ t. Unit {0})) (IsRefused types.now (resource_key id ∷ [])) }
+    ensures { MatchResult result (λ u. TakesBy (resource_key own ∷ []) types.now state.old state.new (height types.now (resource_key id)) (resource_key id ∷ []) (λ t. Unit {0})) (IsRefusedBy (resource_key own ∷ []) types.now state.old (resource_key id ∷ [])) }
 {
     if state.taken.resource(id).is_some() {
         return Ok(());
@@ -549,7 +550,7 @@ fn take_alike_defined(
     requires source { Stands types.now (defined_key id) }
     requires state { MayTake types.now state.old }
     requires own { IsOwnEntry state.old (defined_key own) }
-    ensures { MatchResult result (λ u. Takes types.now state.old state.new (height types.now (defined_key id)) (defined_key id ∷ []) (λ t. Unit {0})) (IsRefused types.now (defined_key id ∷ [])) }
+    ensures { MatchResult result (λ u. TakesBy (defined_key own ∷ []) types.now state.old state.new (height types.now (defined_key id)) (defined_key id ∷ []) (λ t. Unit {0})) (IsRefusedBy (defined_key own ∷ []) types.now state.old (defined_key id ∷ [])) }
 {
     if state.taken.defined(id).is_some() {
         return Ok(());
@@ -572,7 +573,7 @@ fn take_owners(
 ) -> Result<(), AggregateError>
     requires source { AllStand types.now (map resource_key resources.now.items) }
     requires state { MayTake types.now state.old }
-    ensures { MatchResult result (λ u. Takes types.now state.old state.new (keys_height types.now (owners_keys types.now resources.now.items)) (map resource_key resources.now.items) (AreOwnersTaken types.now resources.now.items)) (IsRefused types.now (map resource_key resources.now.items)) }
+    ensures { MatchResult result (λ u. Takes types.now state.old state.new (keys_height types.now (owners_keys types.now resources.now.items)) (map resource_key resources.now.items) (AreOwnersTaken types.now resources.now.items)) (IsRefused types.now state.old (map resource_key resources.now.items)) }
 {
     for i in 0..resources.len() {
         let id = resource_at(resources, i);
@@ -586,7 +587,7 @@ fn take_owners(
 fn take_world(state: &mut Merging, types: &Types, id: WorldId) -> Result<WorldId, AggregateError>
     requires source { Stands types.now (world_key id) }
     requires state { MayTake types.now state.old }
-    ensures { MatchResult result (λ r. Takes types.now state.old state.new (height types.now (world_key id)) (world_key id ∷ []) (λ t. IsTakenKey class_of types.now t (world_key id) (world_key r))) (IsRefused types.now (world_key id ∷ [])) }
+    ensures { MatchResult result (λ r. Takes types.now state.old state.new (height types.now (world_key id)) (world_key id ∷ []) (λ t. IsTakenKey class_of types.now t (world_key id) (world_key r))) (IsRefused types.now state.old (world_key id ∷ [])) }
 {
     if let Some(own) = state.taken.world(id) {
         return Ok(own);
@@ -615,7 +616,7 @@ fn take_module(
 ) -> Result<ModuleTypeId, AggregateError>
     requires source { Stands types.now (module_key id) }
     requires state { MayTake types.now state.old }
-    ensures { MatchResult result (λ r. Takes types.now state.old state.new (height types.now (module_key id)) (module_key id ∷ []) (λ t. IsTakenKey class_of types.now t (module_key id) (module_key r))) (IsRefused types.now (module_key id ∷ [])) }
+    ensures { MatchResult result (λ r. Takes types.now state.old state.new (height types.now (module_key id)) (module_key id ∷ []) (λ t. IsTakenKey class_of types.now t (module_key id) (module_key r))) (IsRefused types.now state.old (module_key id ∷ [])) }
 {
     if let Some(own) = state.taken.module(id) {
         return Ok(own);

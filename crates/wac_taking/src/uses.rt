@@ -1,10 +1,10 @@
 //! Uses of one name.
 
-ghost use Rattle.std.specs.Prelude.{◌≡◌, ◌⊎◌, [], ◌∷◌, IfErr, IfOk};
+ghost use Rattle.std.specs.Prelude.{◌≡◌, [], ◌∷◌, Some, IfErr, IfOk, string_bytes};
 ghost use Rattle.wac_component.specs.Content.{named, use_content};
 ghost use Rattle.wac_component.specs.Key.{Stands, AllStand, item_keys, type_keys, interface_key, world_key, named_keys, use_keys};
-ghost use Rattle.wac_refusals.specs.declared.error.AggregateError.TheVariants.{Memory};
-ghost use Rattle.wac_taking.specs.Refused.{IsUsesRefusal, IsOfMerging};
+ghost use Rattle.wac_call_lists.specs.Reason.{used_interface as of_interfaces, used_name as of_name};
+ghost use Rattle.wac_taking.specs.Refused.{said, IsUsesRefusal, AreRefusedLists};
 
 use indexmap::IndexMap;
 use std::alloc::{AllocError, Global};
@@ -22,8 +22,7 @@ pub fn check_uses_of(
 ) -> Result<(), AggregateError>
     requires existing { AllStand types.now (item_keys existing) }
     requires new { AllStand types.now (item_keys new) }
-    ensures uses { IfErr result (IsUsesRefusal types.now (item_keys new)) }
-    ensures merging { IfErr result IsOfMerging }
+    ensures { IfErr result (IsUsesRefusal types.now (item_keys existing) (item_keys new)) }
 {
     match (&existing, &new) {
         (ItemKind::Instance(a), ItemKind::Instance(b)) => check_interfaces(alloc, types, *a, *b),
@@ -42,8 +41,7 @@ fn check_types(
 ) -> Result<(), AggregateError>
     requires existing { AllStand types.now (type_keys existing) }
     requires new { AllStand types.now (type_keys new) }
-    ensures uses { IfErr result (IsUsesRefusal types.now (type_keys new)) }
-    ensures merging { IfErr result IsOfMerging }
+    ensures { IfErr result (IsUsesRefusal types.now (type_keys existing) (type_keys new)) }
 {
     match (&existing, &new) {
         (Type::Interface(a), Type::Interface(b)) => check_interfaces(alloc, types, *a, *b),
@@ -61,8 +59,7 @@ fn check_interfaces(
 ) -> Result<(), AggregateError>
     requires existing { Stands types.now (interface_key existing) }
     requires new { Stands types.now (interface_key new) }
-    ensures uses { IfErr result (IsUsesRefusal types.now (interface_key new ∷ [])) }
-    ensures merging { IfErr result IsOfMerging }
+    ensures { IfErr result (IsUsesRefusal types.now (interface_key existing ∷ []) (interface_key new ∷ [])) }
 {
     check_uses(alloc, types, &types[existing].uses, &types[new].uses)
 }
@@ -76,8 +73,7 @@ fn check_worlds(
 ) -> Result<(), AggregateError>
     requires existing { Stands types.now (world_key existing) }
     requires new { Stands types.now (world_key new) }
-    ensures uses { IfErr result (IsUsesRefusal types.now (world_key new ∷ [])) }
-    ensures merging { IfErr result IsOfMerging }
+    ensures { IfErr result (IsUsesRefusal types.now (world_key existing ∷ []) (world_key new ∷ [])) }
 {
     check_uses(alloc, types, &types[existing].uses, &types[new].uses)
 }
@@ -91,8 +87,7 @@ pub(crate) fn check_uses(
 ) -> Result<(), AggregateError>
     requires existing { AllStand types.now (named_keys use_keys (named use_content existing.now.entries)) }
     requires new { AllStand types.now (named_keys use_keys (named use_content new.now.entries)) }
-    ensures uses { IfErr result (λ e. (e ≡ Memory) ⊎ ¬ (named use_content new.now.entries ≡ [])) }
-    ensures merging { IfErr result IsOfMerging }
+    ensures { IfErr result (AreRefusedLists types.now (named use_content existing.now.entries) (named use_content new.now.entries)) }
 {
     for (name, used) in new {
         if let Some(other) = existing.get(name) {
@@ -112,7 +107,7 @@ fn check_use(
 ) -> Result<(), AggregateError>
     requires existing { Stands types.now (interface_key existing.now.interface) }
     requires new { Stands types.now (interface_key new.now.interface) }
-    ensures { IfErr result IsOfMerging }
+    ensures { IfErr result (AreRefusedLists types.now ((string_bytes name.now, use_content existing.now) ∷ []) ((string_bytes name.now, use_content new.now) ∷ [])) }
 {
     if let (Some(expected), Some(found)) = (
         &types[existing.interface].id,
@@ -134,7 +129,7 @@ fn used_interface(
     expected: &String,
     found: &String,
 ) -> Result<AggregateError, AllocError>
-    ensures { IfOk result IsOfMerging }
+    ensures { IfOk result (λ e. said e ≡ Some (of_interfaces (string_bytes name.now) (string_bytes expected.now) (string_bytes found.now))) }
 {
     Ok(AggregateError::UsedInterface {
         used: name.clone()?,
@@ -145,7 +140,7 @@ fn used_interface(
 
 // The refusal of two uses of one name that are of different names in their interface.
 fn used_name(name: &String) -> Result<AggregateError, AllocError>
-    ensures { IfOk result IsOfMerging }
+    ensures { IfOk result (λ e. said e ≡ Some (of_name (string_bytes name.now))) }
 {
     let used = name.clone()?;
     Ok(AggregateError::UsedName { used })

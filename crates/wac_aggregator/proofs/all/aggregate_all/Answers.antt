@@ -1,4 +1,4 @@
-use Rattle.std.proofs.Common.{◌∙◌, ap, subst, add-one, arith, take}
+use Rattle.std.proofs.Common.{◌≡◌, ◌∙◌, Some, ap, sym, subst, add-one, arith, take}
 use Rattle.std.proofs.lemmas.List.{drop_all, length-map, take_all}
 use Rattle.std.proofs.lemmas.List.Elements.{All-contains}
 use Rattle.wac_component.specs.Collection.{Collection}
@@ -7,6 +7,7 @@ use Rattle.wac_call_lists.specs.Answer.{accepted, refused}
 use Rattle.wac_call_lists.specs.Call.{Call}
 use Rattle.wac_call_lists.specs.PlainList.{IsPlain}
 use Rattle.wac_call_lists.proofs.PlainRuns.{plain_runs_answer}
+use Rattle.wac_aggregator.specs.After.{HasReasonAfter}
 use Rattle.wac_aggregator.specs.Content.{shown, content_of}
 use Rattle.wac_aggregator.proofs.Plain.{run_starts, run_on, run_stops, run_ends, plain_step, plain_refusal}
 use Rattle.wac_imports.specs.Import.{ImportsContent, import_of}
@@ -14,7 +15,8 @@ use Rattle.wac_aggregator.specs.HandedIn.{called, handed_in}
 use Rattle.wac_aggregator.specs.Served.{AreServed}
 use Rattle.wac_aggregator.proofs.Advancing.{by_track}
 use Rattle.wac_aggregator.proofs.Front.{none_served, all_aggregated}
-use Rattle.wac_aggregator.proofs.Listing.{Contains-at, called_at, advances_in_order, advances_number, may_take, one_more}
+use Rattle.wac_aggregator.proofs.Handing.{refused_reason}
+use Rattle.wac_aggregator.proofs.Listing.{Contains-at, called_at, may_try, advances_in_order, advances_number, may_take, one_more}
 use Rattle.wac_aggregator.proofs.all.aggregate_all.Goals as goal
 
 pub loop-at-init : goal.loop-at-init
@@ -48,7 +50,7 @@ loop-at-preserved c =
     let before = c.loop-at.invariant in
     let may = may_take calls c.args.number c.requires.one c.requires.apart (take c.loop-at.at calls) call c.loop-at.state among before.number before.order before.served in
     record {
-      order = advances_in_order call c.loop-at.state c.advance.new.state may before.order.imports c.filed.ensures c.in_default.ensures;
+      order = advances_in_order call c.loop-at.state c.advance.new.state may (may_try call c.loop-at.state c.sound.ensures (c.requires.source call among) before.order) before.order.imports c.filed.ensures c.in_default.ensures;
       number = advances_number call c.loop-at.state c.advance.new.state may before.order.imports c.filed.ensures c.in_default.ensures ∙ before.number;
       runs = λ p. rw add-one (run_on calls c.loop-at.at call at (track_imports (shown (content_of c.loop-at.state))) (track_imports (shown (content_of c.advance.new.state))) (plain_step call c.loop-at.state c.advance.new.state may before.order.imports c.filed.ensures c.in_default.ensures (All-contains (λ (d : Call). IsPlain d.types d.kind) calls call p among)) (before.runs p));
       served = rw add-one (one_more calls c.args.number c.requires.one c.requires.apart c.loop-at.at call c.loop-at.state c.advance.new.state at (c.requires.source call among) c.filed.ensures before.number before.order before.served c.in_default.ensures);
@@ -57,7 +59,7 @@ loop-at-preserved c =
 pub returns-clause-aggregated : goal.returns-clause-aggregated
 returns-clause-aggregated c =
     let calls = handed_in c.args.calls.now in
-    all_aggregated calls c.loop-at.state c.loop-at.invariant.order.imports
+    all_aggregated calls calls c.loop-at.state c.loop-at.invariant.order.imports
     (subst (λ front. AreServed calls front c.loop-at.state) (take_all c.loop-at.at calls (simp length-map (omega arith))) c.loop-at.invariant.served)
 
 pub returns-clause-by_track : goal.returns-clause-by_track
@@ -76,3 +78,18 @@ returns-clause-plain c = λ p.
     let calls = handed_in c.args.calls.now in
     let is = track_imports (shown (content_of c.loop-at.state)) in
     plain_runs_answer calls (accepted is) p (run_ends calls c.loop-at.at is (drop_all c.loop-at.at calls (simp length-map (omega arith))) (c.loop-at.invariant.runs p))
+
+pub returns-in-Err-clause-reason : goal.returns-in-Err-clause-reason
+returns-in-Err-clause-reason c = λ d is.
+    let calls = handed_in c.args.calls.now in
+    let call = called c.index-calls-at.result in
+    let at = called_at c.args.calls.now c.loop-at.at c.index-calls-at.result c.loop-at-test.true c.index-calls-at.is in
+    let same : call ≡ d = let both : Some call ≡ Some d = sym at ∙ is in cc in
+    let before = c.loop-at.invariant in
+    subst (λ x. HasReasonAfter c.args.number (take c.loop-at.at calls) x c.in-Err.error) same record {
+      before = shown (content_of c.loop-at.state);
+      number_is = before.number;
+      aggregated = all_aggregated calls (take c.loop-at.at calls) c.loop-at.state before.order.imports before.served;
+      by_track = by_track c.loop-at.state before.order.imports;
+      reason = refused_reason call c.loop-at.state before.order.imports (may_try call c.loop-at.state c.sound.ensures (c.requires.source call (Contains-at calls c.loop-at.at call at)) before.order) c.in-Err.error c.in-Err.ensures;
+    }

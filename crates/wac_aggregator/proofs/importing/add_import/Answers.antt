@@ -17,4 +17,4 @@ returns-in-Ok c =
     (λ e h. not_added (record { name = c.args.name.now; types = c.args.types.now; kind = c.args.kind }) c.args.state.now c.take_item.new.state c.in-Ok.own c.requires.state c.in-Ok.ensures e (subst (λ q. import_of c.args.state.now.imports q ≡ None) c.requires.of c.requires.new) h)
 
 pub returns-in-Err : goal.returns-in-Err
-returns-in-Err c = item_refused (record { name = c.args.name.now; types = c.args.types.now; kind = c.args.kind }) c.args.state.now c.in-Err.error c.in-Err.ensures
+returns-in-Err c = item_refused (record { name = c.args.name.now; types = c.args.types.now; kind = c.args.kind }) c.args.state.now c.in-Err.error c.requires.state c.in-Err.ensures

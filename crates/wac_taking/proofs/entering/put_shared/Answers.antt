@@ -20,6 +20,7 @@ use Rattle.wac_component.specs.Open.{stay}
 use Rattle.wac_component.specs.Reach.{here}
 use Rattle.wac_taking.proofs.Plain.{not_plain_interface}
 use Rattle.wac_taking.proofs.Enters.{interface_owners}
+use Rattle.wac_taking.proofs.GrowAccounts.{shared_accounted}
 use Rattle.wac_taking.proofs.entering.put_shared.Goals as goal
 
 pub add_interface-requires : goal.add_interface-requires
@@ -51,3 +52,4 @@ returns c =
     (λ p. absurd (not_plain_interface f c.args.id (string_bytes c.args.name) c.requires.identified p))
     (interface_owners f (state_of was) taken.sound c.requires.state.kept c.args.id c.requires.taken.content _ taken)
     (subst (λ k. IsEntered class_of f (state_of was) (state_of now) theirs k) (sym last) enters)
+    (λ at trial all. shared_accounted at f (state_of was) c.args.id c.requires.taken.content z (string_bytes c.args.name) c.requires.state.kept trial all (taken_as f (state_of was) c.args.id c.requires.taken.content _ _ z.id c.requires.taken.taken) c.requires.identified (state_of now) c.requires.taken.used refl adds shares)

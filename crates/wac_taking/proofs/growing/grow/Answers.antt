@@ -7,9 +7,10 @@ use Rattle.wac_names.specs.Class.{class_of}
 use Rattle.wac_narrowing.proofs.Entering.{interface_named}
 use Rattle.wac_refusals.specs.declared.error.AggregateError.TheVariants.{Memory}
 use Rattle.wac_taking.specs.Takes.{state_of}
-use Rattle.wac_taking.proofs.GrowLemmas.{each_used}
+use Rattle.wac_taking.proofs.GrowLemmas.{each_used, found_among, uses_put}
+use Rattle.wac_taking.proofs.GrowReasons.{grown_uses_refused, grown_items_refused, grown_cycle_refused}
 use Rattle.wac_taking.proofs.Grows.{new_named, still_stands, Takes-grown}
-use Rattle.wac_taking.proofs.Plain.{refused_interface}
+use Rattle.wac_taking.proofs.Refusals.{passed_on}
 use Rattle.wac_taking.proofs.TakeLemmas.{lookup-shared, shared_stands}
 use Rattle.wac_taking.proofs.growing.grow.Goals as goal
 
@@ -48,8 +49,8 @@ replace-requires c =
     let uses : (P : Key → Type 0) → Each P (named_keys use_keys old.uses) → Each P (named_keys use_keys (named use_content c.args.uses.entries)) → Each P (named_keys use_keys new.uses)
     = λ P h g. subst (λ us. Each P (named_keys use_keys (named use_content us))) (sym c.in_ok-add_new.ensures.entries) (each_used P _ c.in_ok-entry.entry.uses.entries c.args.uses.entries h g) in
     record {
-      own = still_stands c.args.types.now a c.requires.state c.args.id c.args.own (string_bytes c.args.name) (named use_content c.args.uses.entries) (extern_list c.args.exports) c.requires.taken c.requires.identified c.requires.shared old new was stand refl uses c.meet_exports.new.types c.in_ok-meet_exports.ensures;
-      named = new_named c.args.types.now a c.requires.state c.args.id c.args.own (string_bytes c.args.name) (named use_content c.args.uses.entries) (extern_list c.args.exports) c.requires.taken c.requires.identified c.requires.shared old new was stand refl uses c.meet_exports.new.types c.in_ok-meet_exports.ensures;
+      own = still_stands c.args.types.now a c.requires.state c.args.id c.args.own (string_bytes c.args.name) (named use_content c.args.uses.entries) (extern_list c.args.exports) c.requires.taken c.requires.identified c.requires.shared old new was stand refl uses c.meet_exports.new.types c.in_ok-meet_exports.ensures.met;
+      named = new_named c.args.types.now a c.requires.state c.args.id c.args.own (string_bytes c.args.name) (named use_content c.args.uses.entries) (extern_list c.args.exports) c.requires.taken c.requires.identified c.requires.shared old new was stand refl uses c.meet_exports.new.types c.in_ok-meet_exports.ensures.met;
     }
 
 pub returns : goal.returns
@@ -61,17 +62,39 @@ returns c =
     let stand : AllStand a.types (interface_keys old) = subst (λ i. AllStand a.types (interface_keys i)) (sym c.in_ok-entry.ensures.cases) c.index.ensures.standing in
     let uses : (P : Key → Type 0) → Each P (named_keys use_keys old.uses) → Each P (named_keys use_keys (named use_content c.args.uses.entries)) → Each P (named_keys use_keys new.uses)
     = λ P h g. subst (λ us. Each P (named_keys use_keys (named use_content us))) (sym c.in_ok-add_new.ensures.entries) (each_used P _ c.in_ok-entry.entry.uses.entries c.args.uses.entries h g) in
-    Takes-grown c.args.types.now a c.requires.state c.args.id c.args.own (string_bytes c.args.name) (named use_content c.args.uses.entries) (extern_list c.args.exports) c.requires.taken c.requires.identified c.requires.shared old new was stand refl uses c.meet_exports.new.types c.in_ok-meet_exports.ensures
+    Takes-grown c.args.types.now a c.requires.state c.args.id c.args.own (string_bytes c.args.name) (named use_content c.args.uses.entries) (extern_list c.args.exports) c.requires.taken c.requires.identified c.requires.shared old new was stand refl uses c.meet_exports.new.types c.in_ok-meet_exports.ensures.met
+    (ap (named use_content) c.in_ok-add_new.ensures.entries ∙ uses_put c.in_ok-entry.entry.uses.entries c.args.uses.entries) c.meet_exports.ensures.found (found_among (extern_list c.meet_exports.new.existing) c.names_in_an_interface_are_distinct.ensures.1)
     c.replace.new.types c.put_interface.new.self c.in_ok-replace.ensures.acyclic c.in_ok-replace.ensures.grown (c.in_ok-put_interface.ensures c.requires.taken.absent)
 
 pub returns-in_err-check_uses : goal.returns-in_err-check_uses
-returns-in_err-check_uses c = refused_interface c.args.types.now c.args.id (string_bytes c.args.name) c.requires.identified c.from_residual-in_err-check_uses.result _ c.in_err-check_uses.field-0.0 c.in_err-check_uses.ensures.merging c.from_residual-in_err-check_uses.ensures
+returns-in_err-check_uses c =
+    let a = c.args.state.now in
+    let old = interface_content c.in_ok-entry.entry in
+    let was : slice_get a.types.interfaces c.args.own.index ≡ Some old = c.index.ensures.entry ∙ ap Some (sym c.in_ok-entry.ensures.cases) in
+    passed_on c.from_residual-in_err-check_uses.result _ _ c.in_err-check_uses.field-0.0 c.from_residual-in_err-check_uses.ensures
+    (grown_uses_refused c.args.types.now a c.requires.state c.args.id c.args.own (string_bytes c.args.name) (named use_content c.args.uses.entries) (extern_list c.args.exports) c.requires.taken c.requires.identified c.requires.shared old was _ c.in_err-check_uses.ensures)
 
 pub returns-in_err-meet_exports : goal.returns-in_err-meet_exports
-returns-in_err-meet_exports c = refused_interface c.args.types.now c.args.id (string_bytes c.args.name) c.requires.identified c.from_residual-in_err-meet_exports.result _ c.in_err-meet_exports.field-0.0 c.in_err-meet_exports.ensures c.from_residual-in_err-meet_exports.ensures
+returns-in_err-meet_exports c =
+    let a = c.args.state.now in
+    let old = interface_content c.in_ok-entry.entry in
+    let was : slice_get a.types.interfaces c.args.own.index ≡ Some old = c.index.ensures.entry ∙ ap Some (sym c.in_ok-entry.ensures.cases) in
+    passed_on c.from_residual-in_err-meet_exports.result _ _ c.in_err-meet_exports.field-0.0 c.from_residual-in_err-meet_exports.ensures
+    (grown_items_refused c.args.types.now a c.requires.state c.args.id c.args.own (string_bytes c.args.name) (named use_content c.args.uses.entries) (extern_list c.args.exports) c.requires.taken c.requires.identified c.requires.shared old was _ c.meet_exports.ensures.found c.in_err-meet_exports.ensures.met)
 
 pub returns-in_err-replace : goal.returns-in_err-replace
-returns-in_err-replace c = refused_interface c.args.types.now c.args.id (string_bytes c.args.name) c.requires.identified c.from_residual-in_err-replace.result _ c.in_err-replace.field-0.0 c.in_err-replace.ensures.merging c.from_residual-in_err-replace.ensures
+returns-in_err-replace c =
+    let a = c.args.state.now in
+    let old = interface_content c.in_ok-entry.entry in
+    let new = interface_content (record { id = c.in_ok-entry.entry.id; uses = c.add_new.new.first; exports = c.meet_exports.new.existing }) in
+    let was : slice_get a.types.interfaces c.args.own.index ≡ Some old = c.index.ensures.entry ∙ ap Some (sym c.in_ok-entry.ensures.cases) in
+    let stand : AllStand a.types (interface_keys old) = subst (λ i. AllStand a.types (interface_keys i)) (sym c.in_ok-entry.ensures.cases) c.index.ensures.standing in
+    let uses : (P : Key → Type 0) → Each P (named_keys use_keys old.uses) → Each P (named_keys use_keys (named use_content c.args.uses.entries)) → Each P (named_keys use_keys new.uses)
+    = λ P h g. subst (λ us. Each P (named_keys use_keys (named use_content us))) (sym c.in_ok-add_new.ensures.entries) (each_used P _ c.in_ok-entry.entry.uses.entries c.args.uses.entries h g) in
+    passed_on c.from_residual-in_err-replace.result _ _ c.in_err-replace.field-0.0 c.from_residual-in_err-replace.ensures
+    (λ ne. grown_cycle_refused c.args.types.now a c.requires.state c.args.id c.args.own (string_bytes c.args.name) (named use_content c.args.uses.entries) (extern_list c.args.exports) c.requires.taken c.requires.identified c.requires.shared old was new stand refl uses c.meet_exports.new.types c.in_ok-meet_exports.ensures.met
+    (ap (named use_content) c.in_ok-add_new.ensures.entries ∙ uses_put c.in_ok-entry.entry.uses.entries c.args.uses.entries) c.meet_exports.ensures.found (found_among (extern_list c.meet_exports.new.existing) c.names_in_an_interface_are_distinct.ensures.1)
+    (c.in_err-replace.ensures.cycle ne).0 _ (c.in_err-replace.ensures.cycle ne).1 ne)
 
 pub returns-in_err-put_interface : goal.returns-in_err-put_interface
-returns-in_err-put_interface c = refused_interface c.args.types.now c.args.id (string_bytes c.args.name) c.requires.identified c.from_residual-in_err-put_interface.result _ Memory tt c.from_residual-in_err-put_interface.ensures
+returns-in_err-put_interface c = passed_on c.from_residual-in_err-put_interface.result _ _ Memory c.from_residual-in_err-put_interface.ensures (λ ne. absurd (ne refl))

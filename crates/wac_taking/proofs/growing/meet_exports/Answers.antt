@@ -7,8 +7,9 @@ use Rattle.wac_component.proofs.Extended.{AllStand-Extends}
 use Rattle.wac_checker.proofs.ExternLemmas.{named_stands}
 use Rattle.wac_merge.specs.Items.{extern_list}
 use Rattle.wac_merge.proofs.LoopLemmas.{name_has, done_more}
-use Rattle.wac_taking.specs.Growing.{AreMetWith}
-use Rattle.wac_taking.proofs.GrowLemmas.{met_none, met_then}
+use Rattle.wac_taking.specs.Growing.{AreMetWith, with_own}
+use Rattle.wac_taking.proofs.Refusals.{passed_on}
+use Rattle.wac_taking.proofs.GrowLemmas.{met_none, met_then, done_inside, item_on, kept_on, one_open, found_by}
 use Rattle.wac_taking.proofs.growing.meet_exports.Goals as goal
 
 pub loop-name-init : goal.loop-name-init
@@ -32,7 +33,30 @@ loop-name-preserved c =
           (named_stands c.args.types.now (extern_list c.args.exports.now) (string_bytes c.in-Some.name.now) c.in-Some.kind.now there c.requires.new) c.loop-name.invariant.met c.in_ok-meet_export.ensures);
     }
 
-pub returns : goal.returns
-returns c =
+pub returns-clause-met : goal.returns-clause-met
+returns-clause-met c =
     let all = iter_end deref_pair c.args.exports.now.entries c.loop-name.yielded _ _ _ _ c.into_iter-name-iterator.ensures.into_iter_gives.0 c.loop-name.yielded_by c.in-None.is c.next.ensures.steps in
     subst (λ l. AreMetWith c.args.types.now c.loop-name.types (extern_list c.args.existing.now) (named (λ k. k) l) (extern_list c.loop-name.existing)) all.0 c.loop-name.invariant.met
+
+pub returns-clause-found : goal.returns-clause-found
+returns-clause-found c = found_by c.args.exports.now.entries c.into_iter-name-iterator.ensures.into_iter_gives.4
+
+pub returns-in_err-meet_export-clause-found : goal.returns-in_err-meet_export-clause-found
+returns-in_err-meet_export-clause-found c = found_by c.args.exports.now.entries c.into_iter-name-iterator.ensures.into_iter_gives.4
+
+pub returns-in_err-meet_export-clause-met : goal.returns-in_err-meet_export-clause-met
+returns-in_err-meet_export-clause-met c =
+    let there = name_has deref_pair c.args.exports.now.entries c.loop-name.yielded _ _ _ _ (c.in-Some.name, c.in-Some.kind) c.into_iter-name-iterator.ensures.into_iter_gives.0 c.loop-name.yielded_by c.in-Some.is c.next.ensures.steps c.into_iter-name-iterator.ensures.into_iter_gives.4 in
+    passed_on c.from_residual.result _ _ c.in_err-meet_export.field-0.0 c.from_residual.ensures
+    (λ ne at s kept all hx hy touches.
+    let c0 = c.args.types.now in
+    let d0 = c.loop-name.types in
+    let met = c.loop-name.invariant.met in
+    let n = string_bytes c.in-Some.name.now in
+    let ts = extern_list c.args.exports.now in
+    let done = named (λ k. k) (map deref_pair c.loop-name.yielded) in
+    let yields = c.loop-name.yielded_by in
+    let inside = done_inside deref_pair c.args.exports.now.entries c.loop-name.yielded _ _ _ _ (c.in-Some.name, c.in-Some.kind) c.into_iter-name-iterator.ensures.into_iter_gives.0 yields c.in-Some.is c.next.ensures.steps in
+    let first = met.accounts at s kept all hx (λ q x m. hy q x (inside.0 (q, x) m)) in
+    let one = item_on c0 d0 met.on at s kept first.0.stays n c.in-Some.kind.now (hy n c.in-Some.kind.now inside.1) in
+    c.in_err-meet_export.ensures ne at s (kept_on c0 d0 met.on s kept) first.0.stays.now first.1 (one_open at (with_own s d0) n c.in-Some.kind.now one) touches)

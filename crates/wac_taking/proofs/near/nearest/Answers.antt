@@ -1,11 +1,23 @@
-use Rattle.std.proofs.Common.{◌≡◌, ◌∙◌, subst, sym}
+use Rattle.std.proofs.Common.{◌≡◌, ◌∙◌, inl, inr, subst, sym}
 use Rattle.wac_component.specs.Key.{interface_key}
-use Rattle.wac_taking.specs.Takes.{IsOwnEntry, state_of}
+use Rattle.wac_taking.specs.Takes.{IsOwnEntry, shared_keys, state_of}
+use Rattle.wac_component.specs.Reach.{IsAmong}
 use Rattle.wac_taking.proofs.TakeLemmas.{lookup-shared, shared_stands, shared_covered}
 use Rattle.wac_taking.proofs.near.nearest.Goals as goal
 
-pub returns-in-Some-copied : goal.returns-in-Some-copied
-returns-in-Some-copied c i is =
+pub returns-in-Some-copied-clause-nearest : goal.returns-in-Some-copied-clause-nearest
+returns-in-Some-copied-clause-nearest c i is =
+    let same : c.in-Some-copied.own ≡ i = cc in
+    inr (subst (λ x. IsAmong (interface_key x) (shared_keys c.args.state.now.shared.entries)) same (lookup-shared c.in_ok-class.class c.args.state.now.shared.entries c.in-Some-copied.own (sym c.get.ensures.value ∙ sym c.copied.ensures ∙ c.in-Some-copied.is)))
+
+pub returns-clause-nearest : goal.returns-clause-nearest
+returns-clause-nearest c i is = inl is
+
+pub returns-in_default-clause-nearest : goal.returns-in_default-clause-nearest
+returns-in_default-clause-nearest c i is = inl is
+
+pub returns-in-Some-copied-clause-stands : goal.returns-in-Some-copied-clause-stands
+returns-in-Some-copied-clause-stands c i is =
     let same : c.in-Some-copied.own ≡ i = cc in
     let s = state_of c.args.state.now in
     let among = lookup-shared c.in_ok-class.class c.args.state.now.shared.entries c.in-Some-copied.own (sym c.get.ensures.value ∙ sym c.copied.ensures ∙ c.in-Some-copied.is) in

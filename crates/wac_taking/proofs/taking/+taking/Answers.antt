@@ -11,7 +11,7 @@ use Rattle.wac_component.proofs.Members.{uses_stand, exports_stand, exports_lowe
 use Rattle.wac_component.specs.Content.{alias_content, defined_content, resource_content, func_content, interface_content, world_content, named, use_content, types_of, case_types}
 use Rattle.wac_component.specs.Height.{height, keys_height}
 use Rattle.wac_component.specs.Key.{other_keys, Stands, AllStand, defined_entry, resource_entry, func_entry, world_entry, item_keys, type_keys, value_keys, alias_keys, optional_keys, named_keys, use_keys, defined_keys, func_keys, interface_keys, world_keys, defined_key, resource_key, func_key, interface_key, world_key, module_key}
-use Rattle.wac_component.specs.declared.defined.DefinedType.TheVariants.{List as ListOf, FixedSizeList, Option as OptionOf, Result, Variant, Record, Flags, Enum, Stream, Future}
+use Rattle.wac_component.specs.declared.defined.DefinedType.TheVariants.{Tuple, Alias as AliasOf, List as ListOf, FixedSizeList, Option as OptionOf, Result, Variant, Record, Flags, Enum, Stream, Future}
 use Rattle.wac_component.specs.declared.interfaces.UsedType.{UsedType}
 use Rattle.wac_component.specs.declared.items.ItemKind.TheVariants.{«Type» as OfType, Func, Instance, Component, Module, Value}
 use Rattle.wac_component.specs.declared.items.Type.TheVariants.{Resource as TypeResource, Func as TypeFunc, Interface as TypeInterface, World as TypeWorld, Module as TypeModule, Value as TypeValue}
@@ -22,13 +22,13 @@ use Rattle.wac_narrowing.proofs.Values.{taken_value_still}
 use Rattle.wac_narrowing.specs.Remembers.{RemembersTruly}
 use Rattle.wac_narrowing.specs.State.{State}
 use Rattle.wac_narrowing.specs.Taking.{no_keys, AreMapped, IsTakenKey, IsTakenItem, IsCopiedItem}
-use Rattle.wac_narrowing.specs.Values.{IsTakenValue, IfAny, neither, both, AreDefined}
+use Rattle.wac_narrowing.specs.Values.{IsTakenValue, IfAny, neither, both, AreDefined, AreListed}
 use Rattle.wac_narrowing.specs.Values as listed
 use Rattle.wac_copies.proofs.Arms.{named_stands, named_lower, used_there, used_stands, used_lower, types-named, one_lower, last_lower, first_lower, others_lower, cases_flat, params_stand, result_stands, params_lower, result_lower, uses_lower, world_uses_lower}
 use Rattle.wac_copies.proofs.Contents.{content_one, content_option, content_result, content_record, content_variant}
 use Rattle.wac_copies.proofs.Parts.{items_still as copies_still}
 use Rattle.wac_copies.proofs.Placed.{ArePlaced, set_start, set_whole, set_count, named_count, length-named, placed_start, placed_whole}
-use Rattle.wac_taking.specs.Takes.{AreWithin, state_of, Takes, LeadsToOwner, IsTakenAlias, IsTakenOwner, IsTakenUse, alias_at}
+use Rattle.wac_taking.specs.Takes.{AreWithin, state_of, near_keys, TakesBy, Takes, LeadsToOwner, IsTakenAlias, IsTakenOwner, IsTakenUse, alias_at}
 use Rattle.wac_taking.proofs.Within.{within_all, within_same, within_left, within_right, within_trans, within_first, within_others, within_option, within_params, within_at, within_named, within_used, within_parts, alias_within, alias_owner, alias_stands as alias_named, owned_within}
 use Rattle.wac_component.specs.Collection.{InterfaceContent, ResourceContent}
 use Rattle.wac_component.specs.Open.{stay}
@@ -39,16 +39,17 @@ use Rattle.wac_component.specs.Entries.{entry_uses, owner_at}
 use Rattle.wac_component.specs.Id.{Id}
 use Rattle.wac_alike.specs.Alike.{IsMadeOf, IsAlikeAnswer}
 use Rattle.wac_taking.specs.Takes.{owners_keys, AreOwnersTaken}
-use Rattle.wac_taking.proofs.Alike.{same_resource, same_defined_type, owners_lower, owned_within_type, owned_stand, alike_absent, Takes-alike, own_if_led, resource_at, within_resources, owner_stands, absent_of, Takes-also, AreFirstTaken, first_still, first_next, first_whole, IsNear-none, IsNear-led, IsNear-Takes}
+use Rattle.wac_taking.proofs.Alike.{same_resource, same_defined_type, owners_lower, owned_within_type, owned_stand, alike_absent, Takes-alike, own_if_led, resource_at, within_resources, owner_stands, absent_of, Takes-also, AreFirstTaken, first_still, first_next, first_whole, IsNear-none, IsNear-led, IsNear-Takes, near_below, near_item, near_nearest, Takes-nearest, nearest_still}
 use Rattle.wac_taking.proofs.Arms.{taken_item, taken_value, taken_content, Takes-set, Takes-place, Takes-use, used_index}
-use Rattle.wac_taking.proofs.Plain.{passed_on, refused_within, refused_part, refused_uses, refused_owner, refused_use, refused_used, used_named}
+use Rattle.wac_taking.proofs.Plain.{used_named}
+use Rattle.wac_taking.proofs.Refusals.{passed_on, refused_later, refused_near, refused_apart, refused_part, refused_then, refused_uses, refused_owner, refused_use, refused_used, uses_within}
 use Rattle.wac_taking.specs.Refused.{IsRefused}
-use Rattle.wac_component.specs.Implicit.{identifier}
+use Rattle.wac_component.specs.Implicit.{identifier, HasIdentifier}
 use Rattle.wac_call_lists.specs.Reason.{owner_without_identifier}
 use Rattle.wac_refusals.specs.declared.error.AggregateError.TheVariants.{OwnerWithoutIdentifier}
 use Rattle.wac_taking.proofs.Enters.{defined_stands, func_stands, alias_stands, world_stands, interface_is_taken, world_is_taken, defined_enters, func_enters, resource_enters, world_enters}
 use Rattle.wac_taking.proofs.Parts.{item_of_value, type_of_value, borrow_of_taken, own_of_taken, defined_of_taken, alias_of_taken, owner_still, owner_taken, uses_still, values_still, option_still}
-use Rattle.wac_taking.proofs.TakeLemmas.{content_identifier, no_name, some_name, MayTake-Takes, MayTake-copies, Takes-copied, Takes-after, Takes-none, Takes-more, Takes-then, Takes-hit, Takes-enter}
+use Rattle.wac_taking.proofs.TakeLemmas.{content_identifier, no_name, some_name, MayTake-Takes, MayTake-copies, Takes-copied, Takes-near, Takes-apart, Takes-after, Takes-none, Takes-more, Takes-then, Takes-hit, Takes-enter}
 use Rattle.wac_taking.proofs.taking.+taking.Goals as goal
 
 pub take_defined-returns-in-Some : goal.take_defined-returns-in-Some
@@ -69,7 +70,7 @@ take_interface-returns-in-Some t c =
 
 pub take_item-returns-in_ok-take_func-in-Func : goal.take_item-returns-in_ok-take_func-in-Func
 take_item-returns-in_ok-take_func-in-Func t c =
-    taken_item c.args.types.now c.args.state.now c.take_func.new.state c.requires.state item (func_key c.in-Func.id) (func_key c.in_ok-take_func-in-Func.field-0) c.args.kind (Func c.in-Func.id) (Func c.in_ok-take_func-in-Func.field-0) c.in-Func.is refl refl refl refl c.in_ok-take_func-in-Func.ensures
+    taken_item c.args.types.now c.args.state.now c.take_func.new.state c.requires.state item (func_key c.in-Func.id) (func_key c.in_ok-take_func-in-Func.field-0) c.args.kind (Func c.in-Func.id) (Func c.in_ok-take_func-in-Func.field-0) c.in-Func.is refl refl refl refl (Takes-apart c.args.types.now c.args.state.now c.take_func.new.state _ _ _ c.in_ok-take_func-in-Func.ensures)
 
 pub take_item-returns-in_ok-take_interface-in-Instance : goal.take_item-returns-in_ok-take_interface-in-Instance
 take_item-returns-in_ok-take_interface-in-Instance t c =
@@ -77,19 +78,23 @@ take_item-returns-in_ok-take_interface-in-Instance t c =
 
 pub take_item-returns-in_ok-take_world-in-Component : goal.take_item-returns-in_ok-take_world-in-Component
 take_item-returns-in_ok-take_world-in-Component t c =
-    taken_item c.args.types.now c.args.state.now c.take_world.new.state c.requires.state item (world_key c.in-Component.id) (world_key c.in_ok-take_world-in-Component.field-0) c.args.kind (Component c.in-Component.id) (Component c.in_ok-take_world-in-Component.field-0) c.in-Component.is refl refl refl refl c.in_ok-take_world-in-Component.ensures
+    taken_item c.args.types.now c.args.state.now c.take_world.new.state c.requires.state item (world_key c.in-Component.id) (world_key c.in_ok-take_world-in-Component.field-0) c.args.kind (Component c.in-Component.id) (Component c.in_ok-take_world-in-Component.field-0) c.in-Component.is refl refl refl refl (Takes-apart c.args.types.now c.args.state.now c.take_world.new.state _ _ _ c.in_ok-take_world-in-Component.ensures)
 
 pub take_item-returns-in_ok-take_module-in-Module : goal.take_item-returns-in_ok-take_module-in-Module
 take_item-returns-in_ok-take_module-in-Module t c =
-    taken_item c.args.types.now c.args.state.now c.take_module.new.state c.requires.state item (module_key c.in-Module.id) (module_key c.in_ok-take_module-in-Module.field-0) c.args.kind (Module c.in-Module.id) (Module c.in_ok-take_module-in-Module.field-0) c.in-Module.is refl refl refl refl c.in_ok-take_module-in-Module.ensures
+    taken_item c.args.types.now c.args.state.now c.take_module.new.state c.requires.state item (module_key c.in-Module.id) (module_key c.in_ok-take_module-in-Module.field-0) c.args.kind (Module c.in-Module.id) (Module c.in_ok-take_module-in-Module.field-0) c.in-Module.is refl refl refl refl (Takes-apart c.args.types.now c.args.state.now c.take_module.new.state _ _ _ c.in_ok-take_module-in-Module.ensures)
+
+pub take_item-returns-in_ok-take_type-in-Type : goal.take_item-returns-in_ok-take_type-in-Type
+take_item-returns-in_ok-take_type-in-Type t c =
+    subst (λ k. TakesBy (near_keys c.args.near) c.args.types.now c.args.state.now c.take_type.new.state (keys_height c.args.types.now (item_keys k)) (item_keys k) (λ s. IsTakenItem class_of c.args.types.now s k (OfType c.in_ok-take_type-in-Type.field-0))) (sym c.in-Type.is) c.in_ok-take_type-in-Type.ensures
 
 pub take_type-returns-in_ok-take_resource-in-Resource : goal.take_type-returns-in_ok-take_resource-in-Resource
 take_type-returns-in_ok-take_resource-in-Resource t c =
-    taken_item c.args.types.now c.args.state.now c.take_resource.new.state c.requires.state type_item (resource_key c.in-Resource.id) (resource_key c.in_ok-take_resource-in-Resource.field-0) (OfType c.args.ty) (OfType (TypeResource c.in-Resource.id)) (OfType (TypeResource c.in_ok-take_resource-in-Resource.field-0)) (ap OfType c.in-Resource.is) refl refl refl refl c.in_ok-take_resource-in-Resource.ensures
+    taken_item c.args.types.now c.args.state.now c.take_resource.new.state c.requires.state type_item (resource_key c.in-Resource.id) (resource_key c.in_ok-take_resource-in-Resource.field-0) (OfType c.args.ty) (OfType (TypeResource c.in-Resource.id)) (OfType (TypeResource c.in_ok-take_resource-in-Resource.field-0)) (ap OfType c.in-Resource.is) refl refl refl refl (Takes-apart c.args.types.now c.args.state.now c.take_resource.new.state _ _ _ c.in_ok-take_resource-in-Resource.ensures)
 
 pub take_type-returns-in_ok-take_func-in-Func : goal.take_type-returns-in_ok-take_func-in-Func
 take_type-returns-in_ok-take_func-in-Func t c =
-    taken_item c.args.types.now c.args.state.now c.take_func.new.state c.requires.state type_item (func_key c.in-Func.id) (func_key c.in_ok-take_func-in-Func.field-0) (OfType c.args.ty) (OfType (TypeFunc c.in-Func.id)) (OfType (TypeFunc c.in_ok-take_func-in-Func.field-0)) (ap OfType c.in-Func.is) refl refl refl refl c.in_ok-take_func-in-Func.ensures
+    taken_item c.args.types.now c.args.state.now c.take_func.new.state c.requires.state type_item (func_key c.in-Func.id) (func_key c.in_ok-take_func-in-Func.field-0) (OfType c.args.ty) (OfType (TypeFunc c.in-Func.id)) (OfType (TypeFunc c.in_ok-take_func-in-Func.field-0)) (ap OfType c.in-Func.is) refl refl refl refl (Takes-apart c.args.types.now c.args.state.now c.take_func.new.state _ _ _ c.in_ok-take_func-in-Func.ensures)
 
 pub take_type-returns-in_ok-take_interface-in-Interface : goal.take_type-returns-in_ok-take_interface-in-Interface
 take_type-returns-in_ok-take_interface-in-Interface t c =
@@ -97,11 +102,11 @@ take_type-returns-in_ok-take_interface-in-Interface t c =
 
 pub take_type-returns-in_ok-take_world-in-World : goal.take_type-returns-in_ok-take_world-in-World
 take_type-returns-in_ok-take_world-in-World t c =
-    taken_item c.args.types.now c.args.state.now c.take_world.new.state c.requires.state type_item (world_key c.in-World.id) (world_key c.in_ok-take_world-in-World.field-0) (OfType c.args.ty) (OfType (TypeWorld c.in-World.id)) (OfType (TypeWorld c.in_ok-take_world-in-World.field-0)) (ap OfType c.in-World.is) refl refl refl refl c.in_ok-take_world-in-World.ensures
+    taken_item c.args.types.now c.args.state.now c.take_world.new.state c.requires.state type_item (world_key c.in-World.id) (world_key c.in_ok-take_world-in-World.field-0) (OfType c.args.ty) (OfType (TypeWorld c.in-World.id)) (OfType (TypeWorld c.in_ok-take_world-in-World.field-0)) (ap OfType c.in-World.is) refl refl refl refl (Takes-apart c.args.types.now c.args.state.now c.take_world.new.state _ _ _ c.in_ok-take_world-in-World.ensures)
 
 pub take_type-returns-in_ok-take_module-in-Module : goal.take_type-returns-in_ok-take_module-in-Module
 take_type-returns-in_ok-take_module-in-Module t c =
-    taken_item c.args.types.now c.args.state.now c.take_module.new.state c.requires.state type_item (module_key c.in-Module.id) (module_key c.in_ok-take_module-in-Module.field-0) (OfType c.args.ty) (OfType (TypeModule c.in-Module.id)) (OfType (TypeModule c.in_ok-take_module-in-Module.field-0)) (ap OfType c.in-Module.is) refl refl refl refl c.in_ok-take_module-in-Module.ensures
+    taken_item c.args.types.now c.args.state.now c.take_module.new.state c.requires.state type_item (module_key c.in-Module.id) (module_key c.in_ok-take_module-in-Module.field-0) (OfType c.args.ty) (OfType (TypeModule c.in-Module.id)) (OfType (TypeModule c.in_ok-take_module-in-Module.field-0)) (ap OfType c.in-Module.is) refl refl refl refl (Takes-apart c.args.types.now c.args.state.now c.take_module.new.state _ _ _ c.in_ok-take_module-in-Module.ensures)
 
 pub take_value-returns-in-Primitive : goal.take_value-returns-in-Primitive
 take_value-returns-in-Primitive t c =
@@ -188,7 +193,7 @@ pub take_externs-loop-i-preserved : goal.take_externs-loop-i-preserved
 take_externs-loop-i-preserved t c =
     record {
       count = set_count c.loop-i.taken.entries c.set_extern.new.map.entries c.loop-i.i c.in-Ok.own c.set_extern.ensures ∙ c.loop-i.invariant.count;
-      takes = Takes-set (λ s. IsTakenItem class_of c.args.types.now s) c.args.types.now (λ s u kept run x y h. taken_item_still class_of c.args.types.now s u kept (RemembersTruly class_of) c.args.types.now run x y h) c.args.state.now c.loop-i.state c.take_item.new.state c.requires.state (keys_height c.args.types.now (named_keys item_keys (named (λ k. k) c.args.externs.now.entries))) (keys_height c.args.types.now (item_keys c.extern_at.result)) _ _ (named_lower item_keys (λ k. k) c.args.types.now c.args.externs.now.entries c.loop-i.i c.extern_at.result c.extern_at.ensures) (within_named c.args.types.now item_keys (λ k. k) c.args.externs.now.entries c.loop-i.i c.extern_at.result c.extern_at.ensures) c.loop-i.i c.extern_at.result (λ k. k) c.in-Ok.own (named (λ k. k) c.args.externs.now.entries) c.loop-i.taken.entries c.set_extern.new.map.entries (types-named (λ k. k) c.args.externs.now.entries c.loop-i.i c.extern_at.result c.extern_at.ensures) c.set_extern.ensures c.loop-i.invariant.takes c.in-Ok.ensures;
+      takes = Takes-set (λ s. IsTakenItem class_of c.args.types.now s) c.args.types.now (λ s u kept run x y h. taken_item_still class_of c.args.types.now s u kept (RemembersTruly class_of) c.args.types.now run x y h) c.args.state.now c.loop-i.state c.take_item.new.state c.requires.state (keys_height c.args.types.now (named_keys item_keys (named (λ k. k) c.args.externs.now.entries))) (keys_height c.args.types.now (item_keys c.extern_at.result)) _ _ (named_lower item_keys (λ k. k) c.args.types.now c.args.externs.now.entries c.loop-i.i c.extern_at.result c.extern_at.ensures) (within_named c.args.types.now item_keys (λ k. k) c.args.externs.now.entries c.loop-i.i c.extern_at.result c.extern_at.ensures) c.loop-i.i c.extern_at.result (λ k. k) c.in-Ok.own (named (λ k. k) c.args.externs.now.entries) c.loop-i.taken.entries c.set_extern.new.map.entries (types-named (λ k. k) c.args.externs.now.entries c.loop-i.i c.extern_at.result c.extern_at.ensures) c.set_extern.ensures c.loop-i.invariant.takes (Takes-near c.args.types.now _ (near_keys c.args.near.now) c.loop-i.state c.take_item.new.state _ _ _ (λ at all by. near_below at c.loop-i.state c.args.near.now c.near_interface-below.result (MayTake-Takes c.args.types.now c.args.state.now c.loop-i.state _ _ _ c.requires.state c.loop-i.invariant.takes).kept c.near_interface-below.ensures by) c.in-Ok.ensures);
     }
 
 pub take_externs-returns : goal.take_externs-returns
@@ -215,6 +220,14 @@ take_values-loop-i-preserved t c =
 pub take_values-returns : goal.take_values-returns
 take_values-returns t c =
     Takes-more c.args.types.now c.args.state.now c.loop-i.state (keys_height c.args.types.now (flat_map value_keys c.args.values.now.items)) (keys_height c.args.types.now (flat_map value_keys c.args.values.now.items)) _ _ _ _ (omega arith) (within_all c.args.types.now _) c.requires.state (λ s kept q. placed_whole (IsTakenValue class_of c.args.types.now s) c.loop-i.i c.args.values.now.items c.loop-i.taken.items q (omega (arith, c.loop-i-test.false, c.len-i-end.ensures))) c.loop-i.invariant.takes
+
+pub take_content-returns-in_ok-items-in-Tuple : goal.take_content-returns-in_ok-items-in-Tuple
+take_content-returns-in_ok-items-in-Tuple t c =
+    taken_content c.args.types.now c.args.state.now c.take_values.new.state c.requires.state (keys_height c.args.types.now (flat_map value_keys c.in-Tuple.items.items)) _ (λ s. AreListed (IsTakenValue class_of c.args.types.now s) c.in-Tuple.items.items c.in_ok-items-in-Tuple.items.items) c.args.ty.now (Tuple c.in-Tuple.items) (Tuple c.in_ok-items-in-Tuple.items) c.in-Tuple.is (omega arith) (within_all c.args.types.now _) (λ s q. (refl, q)) c.in_ok-items-in-Tuple.ensures
+
+pub take_content-returns-in_ok-of-in-Alias : goal.take_content-returns-in_ok-of-in-Alias
+take_content-returns-in_ok-of-in-Alias t c =
+    subst (λ x. Takes c.args.types.now c.args.state.now c.take_value-in-Alias.new.state (keys_height c.args.types.now (defined_keys (defined_content x))) (defined_keys (defined_content x)) (λ s. AreDefined (IsTakenValue class_of c.args.types.now s) (defined_content x) (defined_content (AliasOf c.in_ok-of-in-Alias.of)))) (sym c.in-Alias.is) c.in_ok-of-in-Alias.ensures
 
 pub take_content-returns-in_ok-item-in-List : goal.take_content-returns-in_ok-item-in-List
 take_content-returns-in_ok-item-in-List t c =
@@ -334,11 +347,11 @@ take_func-add_func_type-requires t c =
 
 pub take_item-returns-in_ok-take_value-in-Value : goal.take_item-returns-in_ok-take_value-in-Value
 take_item-returns-in_ok-take_value-in-Value t c =
-    subst (λ k. Takes c.args.types.now c.args.state.now c.take_value.new.state (keys_height c.args.types.now (item_keys k)) (item_keys k) (λ s. IsTakenItem class_of c.args.types.now s k (Value c.in_ok-take_value-in-Value.field-0))) (sym c.in-Value.is) (Takes-more c.args.types.now c.args.state.now c.take_value.new.state _ _ _ _ _ _ (omega arith) (within_all c.args.types.now _) c.requires.state (λ s kept h. item_of_value c.args.types.now s c.in-Value.ty c.in_ok-take_value-in-Value.field-0 h) c.in_ok-take_value-in-Value.ensures)
+    subst (λ k. TakesBy (near_keys c.args.near) c.args.types.now c.args.state.now c.take_value.new.state (keys_height c.args.types.now (item_keys k)) (item_keys k) (λ s. IsTakenItem class_of c.args.types.now s k (Value c.in_ok-take_value-in-Value.field-0))) (sym c.in-Value.is) (Takes-more c.args.types.now c.args.state.now c.take_value.new.state _ _ _ _ _ _ (omega arith) (within_all c.args.types.now _) c.requires.state (λ s kept h. item_of_value c.args.types.now s c.in-Value.ty c.in_ok-take_value-in-Value.field-0 h) (Takes-apart c.args.types.now c.args.state.now c.take_value.new.state _ _ _ c.in_ok-take_value-in-Value.ensures))
 
 pub take_type-returns-in_ok-take_value-in-Value : goal.take_type-returns-in_ok-take_value-in-Value
 take_type-returns-in_ok-take_value-in-Value t c =
-    subst (λ k. Takes c.args.types.now c.args.state.now c.take_value.new.state (keys_height c.args.types.now (type_keys k)) (type_keys k) (λ s. IsTakenItem class_of c.args.types.now s (OfType k) (OfType (TypeValue c.in_ok-take_value-in-Value.field-0)))) (sym c.in-Value.is) (Takes-more c.args.types.now c.args.state.now c.take_value.new.state _ _ _ _ _ _ (omega arith) (within_all c.args.types.now _) c.requires.state (λ s kept h. type_of_value c.args.types.now s c.in-Value.ty c.in_ok-take_value-in-Value.field-0 h) c.in_ok-take_value-in-Value.ensures)
+    subst (λ k. TakesBy (near_keys c.args.near) c.args.types.now c.args.state.now c.take_value.new.state (keys_height c.args.types.now (type_keys k)) (type_keys k) (λ s. IsTakenItem class_of c.args.types.now s (OfType k) (OfType (TypeValue c.in_ok-take_value-in-Value.field-0)))) (sym c.in-Value.is) (Takes-more c.args.types.now c.args.state.now c.take_value.new.state _ _ _ _ _ _ (omega arith) (within_all c.args.types.now _) c.requires.state (λ s kept h. type_of_value c.args.types.now s c.in-Value.ty c.in_ok-take_value-in-Value.field-0 h) (Takes-apart c.args.types.now c.args.state.now c.take_value.new.state _ _ _ c.in_ok-take_value-in-Value.ensures))
 
 pub take_interface-take_uses-requires : goal.take_interface-take_uses-requires
 take_interface-take_uses-requires t c =
@@ -352,7 +365,7 @@ take_interface-nearest-requires-clause-near t c = IsNear-Takes c.args.types.now 
 
 pub take_interface-take_alike-requires : goal.take_interface-take_alike-requires
 take_interface-take_alike-requires t c =
-    (omega (arith, exports_lower c.args.types.now (interface_content c.index-interface.result.now), c.index-interface.ensures.lower), (exports_stand c.args.types.now (interface_content c.index-interface.result.now) c.index-interface.ensures.standing, (MayTake-Takes c.args.types.now c.args.state.now c.take_uses.new.state _ _ _ c.requires.state c.in_ok-uses.ensures, c.in_ok-near.ensures)))
+    (omega (arith, exports_lower c.args.types.now (interface_content c.index-interface.result.now), c.index-interface.ensures.lower), (exports_stand c.args.types.now (interface_content c.index-interface.result.now) c.index-interface.ensures.standing, (MayTake-Takes c.args.types.now c.args.state.now c.take_uses.new.state _ _ _ c.requires.state c.in_ok-uses.ensures, c.in_ok-near.ensures.stands)))
 
 pub take_interface-take_externs-requires : goal.take_interface-take_externs-requires
 take_interface-take_externs-requires t c =
@@ -360,7 +373,7 @@ take_interface-take_externs-requires t c =
     let u = c.take_uses.new.state in
     let v = c.take_alike.new.state in
     let may = MayTake-Takes f c.args.state.now u _ _ _ c.requires.state c.in_ok-uses.ensures in
-    (omega (arith, exports_lower f (interface_content c.index-interface.result.now), c.index-interface.ensures.lower), (exports_stand f (interface_content c.index-interface.result.now) c.index-interface.ensures.standing, (MayTake-Takes f u v _ _ _ may c.in_ok-take_alike.ensures, IsNear-Takes f u v _ _ _ c.in_ok-near.near may c.in_ok-take_alike.ensures c.in_ok-near.ensures)))
+    (omega (arith, exports_lower f (interface_content c.index-interface.result.now), c.index-interface.ensures.lower), (exports_stand f (interface_content c.index-interface.result.now) c.index-interface.ensures.standing, (MayTake-Takes f u v _ _ _ may c.in_ok-take_alike.ensures, IsNear-Takes f u v _ _ _ c.in_ok-near.near may c.in_ok-take_alike.ensures c.in_ok-near.ensures.stands)))
 
 pub take_interface-put_interface-requires-clause-taken : goal.take_interface-put_interface-requires-clause-taken
 take_interface-put_interface-requires-clause-taken t c =
@@ -370,11 +383,12 @@ take_interface-put_interface-requires-clause-taken t c =
     let es = named (λ k. k) c.in_ok-exports.exports.entries in
     let used : State → Type 0 = λ s. AreMapped (IsTakenUse f s) x.uses us in
     let exported : State → Type 0 = λ s. AreMapped (IsTakenItem class_of f s) x.exports es in
-    let first = Takes-then f c.args.state.now c.take_uses.new.state c.take_alike.new.state _ _ (keys_height f (interface_keys x)) _ _ (interface_keys x) used (λ s. Unit {0}) (uses_lower f x) (exports_lower f x) (within_left f (named_keys use_keys x.uses) (named_keys item_keys x.exports)) (within_right f (named_keys use_keys x.uses) (named_keys item_keys x.exports)) c.requires.state (λ s u kept run h. uses_still f s u kept (RemembersTruly class_of) f run x.uses us h) c.in_ok-uses.ensures c.in_ok-take_alike.ensures in
-    let parts = Takes-then f c.args.state.now c.take_alike.new.state c.take_externs.new.state _ _ (keys_height f (interface_keys x)) _ _ (interface_keys x) (λ s. used s × Unit {0}) exported (omega arith) (exports_lower f x) (within_all f (interface_keys x)) (within_right f (named_keys use_keys x.uses) (named_keys item_keys x.exports)) c.requires.state (λ s u kept run h. (uses_still f s u kept (RemembersTruly class_of) f run x.uses us h.0, tt)) first c.in_ok-exports.ensures in
+    let first = Takes-then f c.args.state.now c.take_uses.new.state c.take_alike.new.state _ _ (keys_height f (interface_keys x)) _ _ (interface_keys x) used (λ s. Unit {0}) (uses_lower f x) (exports_lower f x) (within_left f (named_keys use_keys x.uses) (named_keys item_keys x.exports)) (within_right f (named_keys use_keys x.uses) (named_keys item_keys x.exports)) c.requires.state (λ s u kept run h. uses_still f s u kept (RemembersTruly class_of) f run x.uses us h) (Takes-apart f c.args.state.now c.take_uses.new.state _ _ _ c.in_ok-uses.ensures) (Takes-nearest f c.args.near c.in_ok-near.near c.take_uses.new.state c.take_alike.new.state _ _ _ (MayTake-Takes f c.args.state.now c.take_uses.new.state _ _ _ c.requires.state c.in_ok-uses.ensures) c.in_ok-near.ensures.nearest c.in_ok-take_alike.ensures) in
+    let parts = Takes-then f c.args.state.now c.take_alike.new.state c.take_externs.new.state _ _ (keys_height f (interface_keys x)) _ _ (interface_keys x) (λ s. used s × Unit {0}) exported (omega arith) (exports_lower f x) (within_all f (interface_keys x)) (within_right f (named_keys use_keys x.uses) (named_keys item_keys x.exports)) c.requires.state (λ s u kept run h. (uses_still f s u kept (RemembersTruly class_of) f run x.uses us h.0, tt)) first (Takes-nearest f c.args.near c.in_ok-near.near c.take_alike.new.state c.take_externs.new.state _ _ _ (MayTake-Takes f c.take_uses.new.state c.take_alike.new.state _ _ _ (MayTake-Takes f c.args.state.now c.take_uses.new.state _ _ _ c.requires.state c.in_ok-uses.ensures) c.in_ok-take_alike.ensures) (nearest_still f c.take_uses.new.state c.take_alike.new.state _ _ _ c.args.near c.in_ok-near.near (MayTake-Takes f c.args.state.now c.take_uses.new.state _ _ _ c.requires.state c.in_ok-uses.ensures) c.in_ok-take_alike.ensures c.in_ok-near.ensures.nearest) c.in_ok-exports.ensures) in
     record {
       content = x;
       taken = interface_is_taken f (state_of c.take_externs.new.state) c.sound.ensures c.args.id x us es c.requires.source c.index-interface.ensures.entry parts.holds.0.0 parts.holds.1;
+      used = parts.holds.0.0;
       absent = parts.low (interface_key c.args.id) c.index-interface.ensures.lower (sym c.in_default.ensures);
     }
 
@@ -385,9 +399,9 @@ take_interface-returns t c =
     let us = named use_content c.in_ok-uses.uses.entries in
     let used : State → Type 0 = λ s. AreMapped (IsTakenUse f s) x.uses us in
     let exported : State → Type 0 = λ s. AreMapped (IsTakenItem class_of f s) x.exports (named (λ k. k) c.in_ok-exports.exports.entries) in
-    let first = Takes-then f c.args.state.now c.take_uses.new.state c.take_alike.new.state _ _ (keys_height f (interface_keys x)) _ _ (interface_keys x) used (λ s. Unit {0}) (uses_lower f x) (exports_lower f x) (within_left f (named_keys use_keys x.uses) (named_keys item_keys x.exports)) (within_right f (named_keys use_keys x.uses) (named_keys item_keys x.exports)) c.requires.state (λ s u kept run h. uses_still f s u kept (RemembersTruly class_of) f run x.uses us h) c.in_ok-uses.ensures c.in_ok-take_alike.ensures in
-    let parts = Takes-then f c.args.state.now c.take_alike.new.state c.take_externs.new.state _ _ (keys_height f (interface_keys x)) _ _ (interface_keys x) (λ s. used s × Unit {0}) exported (omega arith) (exports_lower f x) (within_all f (interface_keys x)) (within_right f (named_keys use_keys x.uses) (named_keys item_keys x.exports)) c.requires.state (λ s u kept run h. (uses_still f s u kept (RemembersTruly class_of) f run x.uses us h.0, tt)) first c.in_ok-exports.ensures in
-    MatchResult-weaker c.put_interface.result c.put_interface.ensures (λ r h. Takes-after f c.args.state.now c.take_externs.new.state c.put_interface.new.state (keys_height f (interface_keys x)) (height f (interface_key c.args.id)) (interface_keys x) (interface_key c.args.id ∷ []) (λ s. (used s × Unit {0}) × exported s) (λ s. IsTakenKey class_of f s (interface_key c.args.id) (interface_key r)) (omega (arith, c.index-interface.ensures.lower)) (within_parts f (interface_key c.args.id) (interface_keys x) (ap (optional_keys other_keys) (interface_at f c.args.id x c.index-interface.ensures.entry))) c.requires.state parts h) (λ e h. h)
+    let first = Takes-then f c.args.state.now c.take_uses.new.state c.take_alike.new.state _ _ (keys_height f (interface_keys x)) _ _ (interface_keys x) used (λ s. Unit {0}) (uses_lower f x) (exports_lower f x) (within_left f (named_keys use_keys x.uses) (named_keys item_keys x.exports)) (within_right f (named_keys use_keys x.uses) (named_keys item_keys x.exports)) c.requires.state (λ s u kept run h. uses_still f s u kept (RemembersTruly class_of) f run x.uses us h) (Takes-apart f c.args.state.now c.take_uses.new.state _ _ _ c.in_ok-uses.ensures) (Takes-nearest f c.args.near c.in_ok-near.near c.take_uses.new.state c.take_alike.new.state _ _ _ (MayTake-Takes f c.args.state.now c.take_uses.new.state _ _ _ c.requires.state c.in_ok-uses.ensures) c.in_ok-near.ensures.nearest c.in_ok-take_alike.ensures) in
+    let parts = Takes-then f c.args.state.now c.take_alike.new.state c.take_externs.new.state _ _ (keys_height f (interface_keys x)) _ _ (interface_keys x) (λ s. used s × Unit {0}) exported (omega arith) (exports_lower f x) (within_all f (interface_keys x)) (within_right f (named_keys use_keys x.uses) (named_keys item_keys x.exports)) c.requires.state (λ s u kept run h. (uses_still f s u kept (RemembersTruly class_of) f run x.uses us h.0, tt)) first (Takes-nearest f c.args.near c.in_ok-near.near c.take_alike.new.state c.take_externs.new.state _ _ _ (MayTake-Takes f c.take_uses.new.state c.take_alike.new.state _ _ _ (MayTake-Takes f c.args.state.now c.take_uses.new.state _ _ _ c.requires.state c.in_ok-uses.ensures) c.in_ok-take_alike.ensures) (nearest_still f c.take_uses.new.state c.take_alike.new.state _ _ _ c.args.near c.in_ok-near.near (MayTake-Takes f c.args.state.now c.take_uses.new.state _ _ _ c.requires.state c.in_ok-uses.ensures) c.in_ok-take_alike.ensures c.in_ok-near.ensures.nearest) c.in_ok-exports.ensures) in
+    MatchResult-weaker c.put_interface.result c.put_interface.ensures (λ r h. Takes-after f c.args.state.now c.take_externs.new.state c.put_interface.new.state (keys_height f (interface_keys x)) (height f (interface_key c.args.id)) (interface_keys x) (interface_key c.args.id ∷ []) (λ s. (used s × Unit {0}) × exported s) (λ s. IsTakenKey class_of f s (interface_key c.args.id) (interface_key r)) (omega (arith, c.index-interface.ensures.lower)) (within_parts f (interface_key c.args.id) (interface_keys x) (ap (optional_keys other_keys) (interface_at f c.args.id x c.index-interface.ensures.entry))) c.requires.state parts (Takes-apart f c.take_externs.new.state c.put_interface.new.state _ _ _ h)) (λ e h. refused_later f c.args.state.now c.take_externs.new.state _ (interface_keys x) (interface_key c.args.id ∷ []) (interface_key c.args.id ∷ []) _ e (within_parts f (interface_key c.args.id) (interface_keys x) (ap (optional_keys other_keys) (interface_at f c.args.id x c.index-interface.ensures.entry))) (within_all f (interface_key c.args.id ∷ [])) c.requires.state parts (refused_apart f c.take_externs.new.state _ e h))
 
 pub take_uses-loop-i-init : goal.take_uses-loop-i-init
 take_uses-loop-i-init t c =
@@ -403,7 +417,7 @@ take_uses-loop-i-preserved t c =
     let put = c.set_used.ensures there.0 there.1 in
     let top = keys_height f (named_keys use_keys (named use_content es)) in
     let may = MayTake-Takes f c.args.state.now c.loop-i.state _ _ _ c.requires.state c.loop-i.invariant.takes in
-    let one : Takes f c.loop-i.state c.take_used.new.state top _ (λ s. IsTakenKey class_of f s (interface_key u.0.interface) (interface_key c.in_ok-own.own)) =
+    let one : Takes f c.loop-i.state c.take_used.new.state top _ (λ s. IsTakenKey class_of f s (interface_key u.0.interface) (interface_key c.in_ok-own.own) × HasIdentifier f u.0.interface) =
     Takes-more f c.loop-i.state c.take_used.new.state top top _ _ _ _ (omega arith) (within_all f _) may (λ s kept h. h u.0.interface (ap (option_map (λ (v : UsedType). v.interface)) u.1)) c.in_ok-own.ensures in
     record {
       count = set_count c.loop-i.taken.entries c.set_used.new.uses.entries c.loop-i.i (record there.0 { interface = c.in_ok-own.own }) put ∙ c.loop-i.invariant.count;
@@ -425,11 +439,13 @@ pub take_used-returns : goal.take_used-returns
 take_used-returns t c =
     let f = c.args.types.now in
     let p = c.used_at-interface.result in
+    let name = some_name c.index.result.now.id c.if-is_none.ensures in
+    let identified : HasIdentifier f p = rw (ap (option_and_then (λ (x : InterfaceContent). x.id)) c.index.ensures.entry ∙ name.1) refl in
     MatchResult-weaker c.take_interface.result c.take_interface.ensures (λ r h.
-    Takes-more f c.args.state.now c.take_interface.new.state (height f (interface_key p)) _ _ _ _ _ (omega (arith, used_lower f c.args.uses.now.entries c.args.index p c.used_at-interface.ensures)) (within_used f c.args.uses.now.entries c.args.index p c.used_at-interface.ensures) c.requires.state (λ s kept taken q at. let both : Some p ≡ Some q = sym c.used_at-interface.ensures ∙ at in let same : p ≡ q = cc in subst (λ j. IsTakenKey class_of f s (interface_key j) (interface_key r)) same taken) h)
+    Takes-more f c.args.state.now c.take_interface.new.state (height f (interface_key p)) _ _ _ _ _ (omega (arith, used_lower f c.args.uses.now.entries c.args.index p c.used_at-interface.ensures)) (within_used f c.args.uses.now.entries c.args.index p c.used_at-interface.ensures) c.requires.state (λ s kept taken q at. let both : Some p ≡ Some q = sym c.used_at-interface.ensures ∙ at in let same : p ≡ q = cc in (subst (λ j. IsTakenKey class_of f s (interface_key j) (interface_key r)) same taken, subst (λ j. HasIdentifier f j) same identified)) h)
     (λ e h.
     let w = used_named c.args.uses.now.entries c.args.index p c.used_at-interface.ensures in
-    refused_used f (named use_content c.args.uses.now.entries) c.args.index w.0 w.1 e w.2 (subst (λ q. IsRefused f (interface_key q ∷ []) e) (sym w.3) h))
+    refused_used f c.args.state.now (named use_content c.args.uses.now.entries) c.args.index w.0 w.1 e w.2 (subst (λ q. IsRefused f c.args.state.now (interface_key q ∷ []) e) (sym w.3) h))
 
 pub take_world-returns-in-Some : goal.take_world-returns-in-Some
 take_world-returns-in-Some t c =
@@ -488,7 +504,7 @@ take_world-returns t c =
     let parts = Takes-then f a now e _ _ (keys_height f (world_keys x)) _ _ (named_keys use_keys x.uses ++ named_keys item_keys x.exports) (λ s. used s × imported s) exported (omega arith) (world_exports_lower f x) (within_left f (named_keys use_keys x.uses) (named_keys item_keys x.exports)) (within_right f (named_keys use_keys x.uses) (named_keys item_keys x.exports)) c.requires.state (λ s u kept run h. (uses_still f s u kept (RemembersTruly class_of) f run x.uses z.uses h.0, copies_still f s u kept (RemembersTruly class_of) f run x.imports z.imports h.1)) first c.in_ok-exports.ensures in
     Takes-enter f a e (record e { types = c.add_world.new.self; taken = c.put_world.new.self }) (world_key c.args.id) (world_key c.in_ok-own.own) (world_entry z) (keys_height f (world_keys x)) _ (λ s. (used s × imported s) × exported s) c.requires.state c.sound.ensures c.requires.source (omega (arith, c.index-world.ensures.lower)) (within_parts f (world_key c.args.id) (named_keys use_keys x.uses ++ named_keys item_keys x.exports) (ap (optional_keys other_keys) (world_at f c.args.id x c.index-world.ensures.entry)))
     parts refl c.in_ok-own.ensures.added (ap world_key c.in_ok-own.ensures.id) (c.in_ok-put_world.ensures (parts.low (world_key c.args.id) c.index-world.ensures.lower (sym c.in_default.ensures)))
-    (λ u kept q adds same. world_enters f (state_of e) c.sound.ensures kept u c.args.id x z (world_is_taken f (state_of e) c.sound.ensures c.args.id x z c.requires.source c.index-world.ensures.entry q.0.0 q.0.1 q.1) adds same)
+    (λ u kept q adds same. world_enters f (state_of e) c.sound.ensures kept u c.args.id x z (world_is_taken f (state_of e) c.sound.ensures c.args.id x z c.requires.source c.index-world.ensures.entry q.0.0 q.0.1 q.1) q.0.0 adds same)
 
 pub take_source-returns-in-None : goal.take_source-returns-in-None
 take_source-returns-in-None t c =
@@ -605,7 +621,7 @@ pub take_alike-loop-i-preserved : goal.take_alike-loop-i-preserved
 take_alike-loop-i-preserved t c =
     let f = c.args.types.now in
     record {
-      takes = Takes-also f c.args.state.now c.loop-i.state c.take_alike_item.new.state (keys_height f (named_keys item_keys (named (λ k. k) c.args.externs.now.entries))) (keys_height f (item_keys c.extern_at.result)) (named_keys item_keys (named (λ k. k) c.args.externs.now.entries)) (item_keys c.extern_at.result) (named_lower item_keys (λ k. k) f c.args.externs.now.entries c.loop-i.i c.extern_at.result c.extern_at.ensures) (within_named f item_keys (λ k. k) c.args.externs.now.entries c.loop-i.i c.extern_at.result c.extern_at.ensures) c.requires.state c.loop-i.invariant.takes c.in-Ok.ensures;
+      takes = Takes-also f c.args.state.now c.loop-i.state c.take_alike_item.new.state (keys_height f (named_keys item_keys (named (λ k. k) c.args.externs.now.entries))) (keys_height f (item_keys c.extern_at.result)) (named_keys item_keys (named (λ k. k) c.args.externs.now.entries)) (item_keys c.extern_at.result) (named_lower item_keys (λ k. k) f c.args.externs.now.entries c.loop-i.i c.extern_at.result c.extern_at.ensures) (within_named f item_keys (λ k. k) c.args.externs.now.entries c.loop-i.i c.extern_at.result c.extern_at.ensures) c.requires.state c.loop-i.invariant.takes (Takes-near f _ (near_keys c.args.near.now) c.loop-i.state c.take_alike_item.new.state _ _ _ (λ at all by. near_item at c.loop-i.state c.args.near.now c.near_export-own.result (MayTake-Takes f c.args.state.now c.loop-i.state _ _ _ c.requires.state c.loop-i.invariant.takes).kept c.near_export-own.ensures by) c.in-Ok.ensures);
     }
 
 pub take_alike_item-returns-in_default : goal.take_alike_item-returns-in_default
@@ -719,17 +735,17 @@ pub take_alias-returns-in_err-source : goal.take_alias-returns-in_err-source
 take_alias-returns-in_err-source t c =
     let f = c.args.types.now in
     let x = alias_content c.args.alias in
-    refused_part f (resource_key x.source ∷ []) (resource_key c.args.id ∷ []) c.from_residual-in_err-source.result _ c.in_err-source.field-0.0 (within_trans f (resource_key x.source ∷ []) (alias_keys x) (resource_key c.args.id ∷ []) (within_right f (optional_keys (λ p. interface_key p ∷ []) x.owner) (resource_key x.source ∷ [])) (alias_within f c.args.id x c.requires.of)) c.in_err-source.ensures c.from_residual-in_err-source.ensures
+    refused_then f c.args.state.now c.take_owner.new.state _ (resource_key c.args.id ∷ []) (resource_key x.source ∷ []) (resource_key c.args.id ∷ []) _ c.from_residual-in_err-source.result _ c.in_err-source.field-0.0 (within_all f (resource_key c.args.id ∷ [])) (within_trans f (resource_key x.source ∷ []) (alias_keys x) (resource_key c.args.id ∷ []) (within_right f (optional_keys (λ p. interface_key p ∷ []) x.owner) (resource_key x.source ∷ [])) (alias_within f c.args.id x c.requires.of)) c.requires.state c.in_ok-owner.ensures c.in_err-source.ensures c.from_residual-in_err-source.ensures
 
 pub take_alike-returns-in-Err : goal.take_alike-returns-in-Err
 take_alike-returns-in-Err t c =
     let f = c.args.types.now in
-    refused_within f (item_keys c.extern_at.result) (named_keys item_keys (named (λ k. k) c.args.externs.now.entries)) c.in-Err.refusal (within_named f item_keys (λ k. k) c.args.externs.now.entries c.loop-i.i c.extern_at.result c.extern_at.ensures) c.in-Err.ensures
+    refused_later f c.args.state.now c.loop-i.state _ (named_keys item_keys (named (λ k. k) c.args.externs.now.entries)) (item_keys c.extern_at.result) (named_keys item_keys (named (λ k. k) c.args.externs.now.entries)) _ c.in-Err.refusal (within_all f _) (within_named f item_keys (λ k. k) c.args.externs.now.entries c.loop-i.i c.extern_at.result c.extern_at.ensures) c.requires.state c.loop-i.invariant.takes (refused_near f _ (near_keys c.args.near.now) c.loop-i.state _ _ (λ at all by. near_item at c.loop-i.state c.args.near.now c.near_export-own.result (MayTake-Takes f c.args.state.now c.loop-i.state _ _ _ c.requires.state c.loop-i.invariant.takes).kept c.near_export-own.ensures by) c.in-Err.ensures)
 
 pub take_externs-returns-in-Err : goal.take_externs-returns-in-Err
 take_externs-returns-in-Err t c =
     let f = c.args.types.now in
-    refused_within f (item_keys c.extern_at.result) (named_keys item_keys (named (λ k. k) c.args.externs.now.entries)) c.in-Err.refusal (within_named f item_keys (λ k. k) c.args.externs.now.entries c.loop-i.i c.extern_at.result c.extern_at.ensures) c.in-Err.ensures
+    refused_later f c.args.state.now c.loop-i.state _ (named_keys item_keys (named (λ k. k) c.args.externs.now.entries)) (item_keys c.extern_at.result) (named_keys item_keys (named (λ k. k) c.args.externs.now.entries)) _ c.in-Err.refusal (within_all f _) (within_named f item_keys (λ k. k) c.args.externs.now.entries c.loop-i.i c.extern_at.result c.extern_at.ensures) c.requires.state c.loop-i.invariant.takes (refused_near f _ (near_keys c.args.near.now) c.loop-i.state _ _ (λ at all by. near_below at c.loop-i.state c.args.near.now c.near_interface-below.result (MayTake-Takes f c.args.state.now c.loop-i.state _ _ _ c.requires.state c.loop-i.invariant.takes).kept c.near_interface-below.ensures by) c.in-Err.ensures)
 
 pub take_alike_resource-returns-in_err-take_owners : goal.take_alike_resource-returns-in_err-take_owners
 take_alike_resource-returns-in_err-take_owners t c =
@@ -737,7 +753,7 @@ take_alike_resource-returns-in_err-take_owners t c =
     let rs = c.in-Some.owned.items in
     let answer : IsAlikeAnswer c.args.state.now.types f (resource_key c.args.own) (resource_key c.args.id) (Some c.in-Some.owned) = subst (IsAlikeAnswer c.args.state.now.types f (resource_key c.args.own) (resource_key c.args.id)) c.in-Some.is c.in_ok-owned.ensures in
     let made : (r : Id) → Contains rs r → IsMadeOf f (resource_key c.args.id) (resource_key r) = λ r m. (answer.1.each r m).0 in
-    refused_part f (map resource_key rs) (resource_key c.args.id ∷ []) c.from_residual-in_err-take_owners.result _ c.in_err-take_owners.field-0.0 (owned_within_type f c.sound.ensures (resource_key c.args.id) rs made) c.in_err-take_owners.ensures c.from_residual-in_err-take_owners.ensures
+    refused_part f c.args.state.now (map resource_key rs) (resource_key c.args.id ∷ []) c.from_residual-in_err-take_owners.result _ c.in_err-take_owners.field-0.0 (owned_within_type f c.sound.ensures (resource_key c.args.id) rs made) (refused_apart f c.args.state.now _ _ c.in_err-take_owners.ensures) c.from_residual-in_err-take_owners.ensures
 
 pub take_alike_defined-returns-in_err-take_owners : goal.take_alike_defined-returns-in_err-take_owners
 take_alike_defined-returns-in_err-take_owners t c =
@@ -745,112 +761,117 @@ take_alike_defined-returns-in_err-take_owners t c =
     let rs = c.in-Some.owned.items in
     let answer : IsAlikeAnswer c.args.state.now.types f (defined_key c.args.own) (defined_key c.args.id) (Some c.in-Some.owned) = subst (IsAlikeAnswer c.args.state.now.types f (defined_key c.args.own) (defined_key c.args.id)) c.in-Some.is c.in_ok-owned.ensures in
     let made : (r : Id) → Contains rs r → IsMadeOf f (defined_key c.args.id) (resource_key r) = λ r m. (answer.1.each r m).0 in
-    refused_part f (map resource_key rs) (defined_key c.args.id ∷ []) c.from_residual-in_err-take_owners.result _ c.in_err-take_owners.field-0.0 (owned_within_type f c.sound.ensures (defined_key c.args.id) rs made) c.in_err-take_owners.ensures c.from_residual-in_err-take_owners.ensures
+    refused_part f c.args.state.now (map resource_key rs) (defined_key c.args.id ∷ []) c.from_residual-in_err-take_owners.result _ c.in_err-take_owners.field-0.0 (owned_within_type f c.sound.ensures (defined_key c.args.id) rs made) (refused_apart f c.args.state.now _ _ c.in_err-take_owners.ensures) c.from_residual-in_err-take_owners.ensures
 
 pub take_cases-returns-in_err-own : goal.take_cases-returns-in_err-own
 take_cases-returns-in_err-own t c =
     let f = c.args.types.now in
     let es = types_of c.args.cases.now.entries in
-    refused_part f (optional_keys value_keys c.case_at.result) (flat_map (optional_keys value_keys) es) c.from_residual-in_err-own.result _ c.in_err-own.field-0.0 (within_at f (optional_keys value_keys) es c.loop-i.i c.case_at.result c.case_at.ensures) c.in_err-own.ensures c.from_residual-in_err-own.ensures
+    refused_then f c.args.state.now c.loop-i.state _ (flat_map (optional_keys value_keys) es) (optional_keys value_keys c.case_at.result) (flat_map (optional_keys value_keys) es) _ c.from_residual-in_err-own.result _ c.in_err-own.field-0.0 (within_all f (flat_map (optional_keys value_keys) es)) (within_at f (optional_keys value_keys) es c.loop-i.i c.case_at.result c.case_at.ensures) c.requires.state c.loop-i.invariant.takes c.in_err-own.ensures c.from_residual-in_err-own.ensures
 
 pub take_fields-returns-in_err-own : goal.take_fields-returns-in_err-own
 take_fields-returns-in_err-own t c =
     let f = c.args.types.now in
     let es = types_of c.args.fields.now.entries in
-    refused_part f (value_keys c.field_at.result) (flat_map value_keys es) c.from_residual-in_err-own.result _ c.in_err-own.field-0.0 (within_at f value_keys es c.loop-i.i c.field_at.result c.field_at.ensures) c.in_err-own.ensures c.from_residual-in_err-own.ensures
+    refused_then f c.args.state.now c.loop-i.state _ (flat_map value_keys es) (value_keys c.field_at.result) (flat_map value_keys es) _ c.from_residual-in_err-own.result _ c.in_err-own.field-0.0 (within_all f (flat_map value_keys es)) (within_at f value_keys es c.loop-i.i c.field_at.result c.field_at.ensures) c.requires.state c.loop-i.invariant.takes c.in_err-own.ensures c.from_residual-in_err-own.ensures
 
 pub take_values-returns-in_err-own : goal.take_values-returns-in_err-own
 take_values-returns-in_err-own t c =
     let f = c.args.types.now in
     let vs = c.args.values.now.items in
-    refused_part f (value_keys c.value_at.result) (flat_map value_keys vs) c.from_residual-in_err-own.result _ c.in_err-own.field-0.0 (within_at f value_keys vs c.loop-i.i c.value_at.result c.value_at.ensures) c.in_err-own.ensures c.from_residual-in_err-own.ensures
+    refused_then f c.args.state.now c.loop-i.state _ (flat_map value_keys vs) (value_keys c.value_at.result) (flat_map value_keys vs) _ c.from_residual-in_err-own.result _ c.in_err-own.field-0.0 (within_all f (flat_map value_keys vs)) (within_at f value_keys vs c.loop-i.i c.value_at.result c.value_at.ensures) c.requires.state c.loop-i.invariant.takes c.in_err-own.ensures c.from_residual-in_err-own.ensures
 
 pub take_content-returns-in_err-ok-in-Result : goal.take_content-returns-in_err-ok-in-Result
 take_content-returns-in_err-ok-in-Result t c =
     let f = c.args.types.now in
-    refused_part f (optional_keys value_keys c.in-Result.ok) (defined_keys (defined_content c.args.ty.now)) c.from_residual-in_err-ok-in-Result.result _ c.in_err-ok-in-Result.field-0.0 (subst (λ ty. AreWithin f (optional_keys value_keys c.in-Result.ok) (defined_keys (defined_content ty))) (sym c.in-Result.is) (within_first f c.in-Result.ok (option_to_list c.in-Result.err))) c.in_err-ok-in-Result.ensures c.from_residual-in_err-ok-in-Result.ensures
+    refused_part f c.args.state.now (optional_keys value_keys c.in-Result.ok) (defined_keys (defined_content c.args.ty.now)) c.from_residual-in_err-ok-in-Result.result _ c.in_err-ok-in-Result.field-0.0 (subst (λ ty. AreWithin f (optional_keys value_keys c.in-Result.ok) (defined_keys (defined_content ty))) (sym c.in-Result.is) (within_first f c.in-Result.ok (option_to_list c.in-Result.err))) c.in_err-ok-in-Result.ensures c.from_residual-in_err-ok-in-Result.ensures
 
 pub take_content-returns-in_err-err-in-Result : goal.take_content-returns-in_err-err-in-Result
 take_content-returns-in_err-err-in-Result t c =
     let f = c.args.types.now in
-    refused_part f (optional_keys value_keys c.in-Result.err) (defined_keys (defined_content c.args.ty.now)) c.from_residual-in_err-err-in-Result.result _ c.in_err-err-in-Result.field-0.0 (subst (λ ty. AreWithin f (optional_keys value_keys c.in-Result.err) (defined_keys (defined_content ty))) (sym c.in-Result.is) (within_trans f (optional_keys value_keys c.in-Result.err) (flat_map value_keys (option_to_list c.in-Result.err)) _ (within_option f c.in-Result.err) (within_others f c.in-Result.ok (option_to_list c.in-Result.err)))) c.in_err-err-in-Result.ensures c.from_residual-in_err-err-in-Result.ensures
+    refused_then f c.args.state.now c.take_optional.new.state _ (optional_keys value_keys c.in-Result.ok) (optional_keys value_keys c.in-Result.err) (defined_keys (defined_content c.args.ty.now)) _ c.from_residual-in_err-err-in-Result.result _ c.in_err-err-in-Result.field-0.0 (subst (λ ty. AreWithin f (optional_keys value_keys c.in-Result.ok) (defined_keys (defined_content ty))) (sym c.in-Result.is) (within_first f c.in-Result.ok (option_to_list c.in-Result.err))) (subst (λ ty. AreWithin f (optional_keys value_keys c.in-Result.err) (defined_keys (defined_content ty))) (sym c.in-Result.is) (within_trans f (optional_keys value_keys c.in-Result.err) (flat_map value_keys (option_to_list c.in-Result.err)) _ (within_option f c.in-Result.err) (within_others f c.in-Result.ok (option_to_list c.in-Result.err)))) c.requires.state c.in_ok-ok-in-Result.ensures c.in_err-err-in-Result.ensures c.from_residual-in_err-err-in-Result.ensures
 
 pub take_content-returns-in_err-cases-in-Variant : goal.take_content-returns-in_err-cases-in-Variant
 take_content-returns-in_err-cases-in-Variant t c =
     let f = c.args.types.now in
-    refused_part f (flat_map (optional_keys value_keys) (types_of c.in-Variant.variant.cases.entries)) (defined_keys (defined_content c.args.ty.now)) c.from_residual-in_err-cases-in-Variant.result _ c.in_err-cases-in-Variant.field-0.0 (subst (λ ty. AreWithin f (flat_map (optional_keys value_keys) (types_of c.in-Variant.variant.cases.entries)) (defined_keys (defined_content ty))) (sym c.in-Variant.is) (within_same f (flat_map (optional_keys value_keys) (types_of c.in-Variant.variant.cases.entries)) (flat_map value_keys (case_types c.in-Variant.variant.cases.entries)) (cases_flat f c.in-Variant.variant.cases.entries))) c.in_err-cases-in-Variant.ensures c.from_residual-in_err-cases-in-Variant.ensures
+    refused_part f c.args.state.now (flat_map (optional_keys value_keys) (types_of c.in-Variant.variant.cases.entries)) (defined_keys (defined_content c.args.ty.now)) c.from_residual-in_err-cases-in-Variant.result _ c.in_err-cases-in-Variant.field-0.0 (subst (λ ty. AreWithin f (flat_map (optional_keys value_keys) (types_of c.in-Variant.variant.cases.entries)) (defined_keys (defined_content ty))) (sym c.in-Variant.is) (within_same f (flat_map (optional_keys value_keys) (types_of c.in-Variant.variant.cases.entries)) (flat_map value_keys (case_types c.in-Variant.variant.cases.entries)) (cases_flat f c.in-Variant.variant.cases.entries))) c.in_err-cases-in-Variant.ensures c.from_residual-in_err-cases-in-Variant.ensures
 
 pub take_defined-returns-in_err-content : goal.take_defined-returns-in_err-content
 take_defined-returns-in_err-content t c =
     let f = c.args.types.now in
     let x = defined_content c.index.result.now in
-    refused_part f (defined_keys x) (defined_key c.args.id ∷ []) c.from_residual.result _ c.in_err-content.field-0.0 (within_parts f (defined_key c.args.id) (defined_keys x) (ap (optional_keys other_keys) (defined_at f c.args.id x c.index.ensures.entry))) c.in_err-content.ensures c.from_residual.ensures
+    refused_part f c.args.state.now (defined_keys x) (defined_key c.args.id ∷ []) c.from_residual.result _ c.in_err-content.field-0.0 (within_parts f (defined_key c.args.id) (defined_keys x) (ap (optional_keys other_keys) (defined_at f c.args.id x c.index.ensures.entry))) c.in_err-content.ensures c.from_residual.ensures
 
 pub take_func-returns-in_err-params : goal.take_func-returns-in_err-params
 take_func-returns-in_err-params t c =
     let f = c.args.types.now in
     let x = func_content c.index-func.result.now in
-    refused_part f (flat_map value_keys (types_of c.index-func.result.now.params.entries)) (func_key c.args.id ∷ []) c.from_residual.result _ c.in_err-params.field-0.0 (within_trans f (flat_map value_keys (types_of c.index-func.result.now.params.entries)) (func_keys x) (func_key c.args.id ∷ []) (within_params f c.index-func.result.now.params.entries x.«result») (within_parts f (func_key c.args.id) (func_keys x) (ap (optional_keys other_keys) (func_at f c.args.id x c.index-func.ensures.entry)))) c.in_err-params.ensures c.from_residual.ensures
+    refused_part f c.args.state.now (flat_map value_keys (types_of c.index-func.result.now.params.entries)) (func_key c.args.id ∷ []) c.from_residual.result _ c.in_err-params.field-0.0 (within_trans f (flat_map value_keys (types_of c.index-func.result.now.params.entries)) (func_keys x) (func_key c.args.id ∷ []) (within_params f c.index-func.result.now.params.entries x.«result») (within_parts f (func_key c.args.id) (func_keys x) (ap (optional_keys other_keys) (func_at f c.args.id x c.index-func.ensures.entry)))) c.in_err-params.ensures c.from_residual.ensures
 
 pub take_func-returns-in_err-result : goal.take_func-returns-in_err-result
 take_func-returns-in_err-result t c =
     let f = c.args.types.now in
     let x = func_content c.index-func.result.now in
-    refused_part f (optional_keys value_keys x.«result») (func_key c.args.id ∷ []) c.from_residual-in_err-result.result _ c.in_err-result.field-0.0 (within_trans f (optional_keys value_keys x.«result») (func_keys x) (func_key c.args.id ∷ []) (within_right f (named_keys value_keys x.params) (optional_keys value_keys x.«result»)) (within_parts f (func_key c.args.id) (func_keys x) (ap (optional_keys other_keys) (func_at f c.args.id x c.index-func.ensures.entry)))) c.in_err-result.ensures c.from_residual-in_err-result.ensures
+    refused_then f c.args.state.now c.take_fields.new.state _ (flat_map value_keys (types_of c.index-func.result.now.params.entries)) (optional_keys value_keys x.«result») (func_key c.args.id ∷ []) _ c.from_residual-in_err-result.result _ c.in_err-result.field-0.0 (within_trans f (flat_map value_keys (types_of c.index-func.result.now.params.entries)) (func_keys x) (func_key c.args.id ∷ []) (within_params f c.index-func.result.now.params.entries x.«result») (within_parts f (func_key c.args.id) (func_keys x) (ap (optional_keys other_keys) (func_at f c.args.id x c.index-func.ensures.entry)))) (within_trans f (optional_keys value_keys x.«result») (func_keys x) (func_key c.args.id ∷ []) (within_right f (named_keys value_keys x.params) (optional_keys value_keys x.«result»)) (within_parts f (func_key c.args.id) (func_keys x) (ap (optional_keys other_keys) (func_at f c.args.id x c.index-func.ensures.entry)))) c.requires.state c.in_ok-params.ensures c.in_err-result.ensures c.from_residual-in_err-result.ensures
 
 pub take_interface-returns-in_err-take_alike : goal.take_interface-returns-in_err-take_alike
 take_interface-returns-in_err-take_alike t c =
     let f = c.args.types.now in
     let x = interface_content c.index-interface.result.now in
-    refused_part f (named_keys item_keys x.exports) (interface_key c.args.id ∷ []) c.from_residual-in_err-take_alike.result _ c.in_err-take_alike.field-0.0 (within_trans f (named_keys item_keys x.exports) (interface_keys x) (interface_key c.args.id ∷ []) (within_right f (named_keys use_keys x.uses) (named_keys item_keys x.exports)) (within_parts f (interface_key c.args.id) (interface_keys x) (ap (optional_keys other_keys) (interface_at f c.args.id x c.index-interface.ensures.entry)))) c.in_err-take_alike.ensures c.from_residual-in_err-take_alike.ensures
+    refused_then f c.args.state.now c.take_uses.new.state _ (named_keys use_keys x.uses) (named_keys item_keys x.exports) (interface_key c.args.id ∷ []) _ c.from_residual-in_err-take_alike.result _ c.in_err-take_alike.field-0.0 (within_trans f (named_keys use_keys x.uses) (interface_keys x) (interface_key c.args.id ∷ []) (within_left f (named_keys use_keys x.uses) (named_keys item_keys x.exports)) (within_parts f (interface_key c.args.id) (interface_keys x) (ap (optional_keys other_keys) (interface_at f c.args.id x c.index-interface.ensures.entry)))) (within_trans f (named_keys item_keys x.exports) (interface_keys x) (interface_key c.args.id ∷ []) (within_right f (named_keys use_keys x.uses) (named_keys item_keys x.exports)) (within_parts f (interface_key c.args.id) (interface_keys x) (ap (optional_keys other_keys) (interface_at f c.args.id x c.index-interface.ensures.entry)))) c.requires.state (Takes-apart f c.args.state.now c.take_uses.new.state _ _ _ c.in_ok-uses.ensures) (refused_near f (near_keys c.in_ok-near.near) (near_keys c.args.near) c.take_uses.new.state _ _ (λ at all by. near_nearest at c.take_uses.new.state c.args.near c.in_ok-near.near (MayTake-Takes f c.args.state.now c.take_uses.new.state _ _ _ c.requires.state c.in_ok-uses.ensures).kept c.in_ok-near.ensures.nearest all by) c.in_err-take_alike.ensures) c.from_residual-in_err-take_alike.ensures
 
 pub take_interface-returns-in_err-exports : goal.take_interface-returns-in_err-exports
 take_interface-returns-in_err-exports t c =
     let f = c.args.types.now in
     let x = interface_content c.index-interface.result.now in
-    refused_part f (named_keys item_keys x.exports) (interface_key c.args.id ∷ []) c.from_residual-in_err-exports.result _ c.in_err-exports.field-0.0 (within_trans f (named_keys item_keys x.exports) (interface_keys x) (interface_key c.args.id ∷ []) (within_right f (named_keys use_keys x.uses) (named_keys item_keys x.exports)) (within_parts f (interface_key c.args.id) (interface_keys x) (ap (optional_keys other_keys) (interface_at f c.args.id x c.index-interface.ensures.entry)))) c.in_err-exports.ensures c.from_residual-in_err-exports.ensures
+    refused_then f c.args.state.now c.take_alike.new.state _ (interface_keys x) (named_keys item_keys x.exports) (interface_key c.args.id ∷ []) _ c.from_residual-in_err-exports.result _ c.in_err-exports.field-0.0 (within_parts f (interface_key c.args.id) (interface_keys x) (ap (optional_keys other_keys) (interface_at f c.args.id x c.index-interface.ensures.entry))) (within_trans f (named_keys item_keys x.exports) (interface_keys x) (interface_key c.args.id ∷ []) (within_right f (named_keys use_keys x.uses) (named_keys item_keys x.exports)) (within_parts f (interface_key c.args.id) (interface_keys x) (ap (optional_keys other_keys) (interface_at f c.args.id x c.index-interface.ensures.entry)))) c.requires.state (Takes-then f c.args.state.now c.take_uses.new.state c.take_alike.new.state _ _ (keys_height f (interface_keys x)) _ _ (interface_keys x) _ (λ s. Unit {0}) (uses_lower f x) (exports_lower f x) (within_left f (named_keys use_keys x.uses) (named_keys item_keys x.exports)) (within_right f (named_keys use_keys x.uses) (named_keys item_keys x.exports)) c.requires.state (λ s u kept run h. uses_still f s u kept (RemembersTruly class_of) f run x.uses (named use_content c.in_ok-uses.uses.entries) h) (Takes-apart f c.args.state.now c.take_uses.new.state _ _ _ c.in_ok-uses.ensures) (Takes-nearest f c.args.near c.in_ok-near.near c.take_uses.new.state c.take_alike.new.state _ _ _ (MayTake-Takes f c.args.state.now c.take_uses.new.state _ _ _ c.requires.state c.in_ok-uses.ensures) c.in_ok-near.ensures.nearest c.in_ok-take_alike.ensures)) (refused_near f (near_keys c.in_ok-near.near) (near_keys c.args.near) c.take_alike.new.state _ _ (λ at all by. near_nearest at c.take_alike.new.state c.args.near c.in_ok-near.near (MayTake-Takes f c.take_uses.new.state c.take_alike.new.state _ _ _ (MayTake-Takes f c.args.state.now c.take_uses.new.state _ _ _ c.requires.state c.in_ok-uses.ensures) c.in_ok-take_alike.ensures).kept (nearest_still f c.take_uses.new.state c.take_alike.new.state _ _ _ c.args.near c.in_ok-near.near (MayTake-Takes f c.args.state.now c.take_uses.new.state _ _ _ c.requires.state c.in_ok-uses.ensures) c.in_ok-take_alike.ensures c.in_ok-near.ensures.nearest) all by) c.in_err-exports.ensures) c.from_residual-in_err-exports.ensures
 
 pub take_interface-returns-in_err-uses : goal.take_interface-returns-in_err-uses
 take_interface-returns-in_err-uses t c =
     let f = c.args.types.now in
     let x = interface_content c.index-interface.result.now in
-    refused_uses f (interface_key c.args.id) x.uses c.from_residual.result _ c.in_err-uses.field-0.0 (ap (λ o. option_map_or entry_uses o []) (interface_at f c.args.id x c.index-interface.ensures.entry)) c.in_err-uses.ensures c.from_residual.ensures
+    refused_uses (near_keys c.args.near) f c.args.state.now (interface_key c.args.id) x.uses c.from_residual.result _ c.in_err-uses.field-0.0 (ap (λ o. option_map_or entry_uses o []) (interface_at f c.args.id x c.index-interface.ensures.entry)) c.in_err-uses.ensures c.from_residual.ensures
 
 pub take_world-returns-in_err-exports : goal.take_world-returns-in_err-exports
 take_world-returns-in_err-exports t c =
     let f = c.args.types.now in
     let x = world_content c.index-world.result.now in
-    refused_part f (named_keys item_keys x.exports) (world_key c.args.id ∷ []) c.from_residual-in_err-exports.result _ c.in_err-exports.field-0.0 (within_trans f (named_keys item_keys x.exports) (named_keys use_keys x.uses ++ named_keys item_keys x.exports) (world_key c.args.id ∷ []) (within_right f (named_keys use_keys x.uses) (named_keys item_keys x.exports)) (within_parts f (world_key c.args.id) (named_keys use_keys x.uses ++ named_keys item_keys x.exports) (ap (optional_keys other_keys) (world_at f c.args.id x c.index-world.ensures.entry)))) c.in_err-exports.ensures c.from_residual-in_err-exports.ensures
+    let b = c.take_uses.new.state in
+    let now = record b { types = c.copy_externs.new.own; copies = c.copy_externs.new.copies } in
+    let may = MayTake-Takes f c.args.state.now b _ _ _ c.requires.state c.in_ok-uses.ensures in
+    let first = Takes-then f c.args.state.now b now _ _ (keys_height f (world_keys x)) _ _ (named_keys use_keys x.uses) _ _ (world_uses_lower f x) (world_imports_lower f x) (within_all f _) (within_all f _) c.requires.state (λ s u kept run h. uses_still f s u kept (RemembersTruly class_of) f run x.uses (named use_content c.in_ok-uses.uses.entries) h) c.in_ok-uses.ensures (Takes-copied f b c.copy_externs.new.own c.copy_externs.new.copies _ (named_keys use_keys x.uses) _ may c.in_ok-imports.ensures) in
+    refused_then f c.args.state.now now _ (named_keys use_keys x.uses) (named_keys item_keys x.exports) (world_key c.args.id ∷ []) _ c.from_residual-in_err-exports.result _ c.in_err-exports.field-0.0 (within_trans f (named_keys use_keys x.uses) (named_keys use_keys x.uses ++ named_keys item_keys x.exports) (world_key c.args.id ∷ []) (within_left f (named_keys use_keys x.uses) (named_keys item_keys x.exports)) (within_parts f (world_key c.args.id) (named_keys use_keys x.uses ++ named_keys item_keys x.exports) (ap (optional_keys other_keys) (world_at f c.args.id x c.index-world.ensures.entry)))) (within_trans f (named_keys item_keys x.exports) (named_keys use_keys x.uses ++ named_keys item_keys x.exports) (world_key c.args.id ∷ []) (within_right f (named_keys use_keys x.uses) (named_keys item_keys x.exports)) (within_parts f (world_key c.args.id) (named_keys use_keys x.uses ++ named_keys item_keys x.exports) (ap (optional_keys other_keys) (world_at f c.args.id x c.index-world.ensures.entry)))) c.requires.state first c.in_err-exports.ensures c.from_residual-in_err-exports.ensures
 
 pub take_world-returns-in_err-uses : goal.take_world-returns-in_err-uses
 take_world-returns-in_err-uses t c =
     let f = c.args.types.now in
     let x = world_content c.index-world.result.now in
-    refused_uses f (world_key c.args.id) x.uses c.from_residual-in_err-uses.result _ c.in_err-uses.field-0.0 (ap (λ o. option_map_or entry_uses o []) (world_at f c.args.id x c.index-world.ensures.entry)) c.in_err-uses.ensures c.from_residual-in_err-uses.ensures
+    refused_uses [] f c.args.state.now (world_key c.args.id) x.uses c.from_residual-in_err-uses.result _ c.in_err-uses.field-0.0 (ap (λ o. option_map_or entry_uses o []) (world_at f c.args.id x c.index-world.ensures.entry)) c.in_err-uses.ensures c.from_residual-in_err-uses.ensures
 
 pub take_owner-returns-then-is_none : goal.take_owner-returns-then-is_none
 take_owner-returns-then-is_none t c =
     let f = c.args.types.now in
     let unidentified = ap (option_and_then (λ (x : InterfaceContent). x.id)) c.index.ensures.entry ∙ no_name c.index.result.now.id c.if-is_none.ensures in
-    refused_owner f c.args.id c.in-Some.owner (resource_content c.index-then-is_none.result.now) (OwnerWithoutIdentifier c.in_ok-resource.resource) c.index-then-is_none.ensures.entry (c.requires.of ∙ c.in-Some.is) unidentified
+    refused_owner f c.args.state.now c.args.id c.in-Some.owner (resource_content c.index-then-is_none.result.now) (OwnerWithoutIdentifier c.in_ok-resource.resource) c.index-then-is_none.ensures.entry (c.requires.of ∙ c.in-Some.is) unidentified
     (ap (λ n. Some (owner_without_identifier n)) c.in_ok-resource.ensures.cases)
 
 pub take_owner-returns-in_err-own : goal.take_owner-returns-in_err-own
 take_owner-returns-in_err-own t c =
     let f = c.args.types.now in
     let o = c.in-Some.owner in
-    refused_part f (interface_key o ∷ []) (resource_key c.args.id ∷ []) c.from_residual-in_err-own.result _ c.in_err-own.field-0.0 (owned_within f c.args.id o (c.requires.of ∙ c.in-Some.is)) c.in_err-own.ensures c.from_residual-in_err-own.ensures
+    refused_part f c.args.state.now (interface_key o ∷ []) (resource_key c.args.id ∷ []) c.from_residual-in_err-own.result _ c.in_err-own.field-0.0 (owned_within f c.args.id o (c.requires.of ∙ c.in-Some.is)) c.in_err-own.ensures c.from_residual-in_err-own.ensures
 
 pub take_owners-returns-in_err-take_owner : goal.take_owners-returns-in_err-take_owner
 take_owners-returns-in_err-take_owner t c =
     let f = c.args.types.now in
     let rs = c.args.resources.now.items in
     let r = c.resource_at-id.result in
-    refused_part f (resource_key r ∷ []) (map resource_key rs) c.from_residual.result _ c.in_err-take_owner.field-0.0 (within_resources f rs c.loop-i.i r c.resource_at-id.ensures) c.in_err-take_owner.ensures c.from_residual.ensures
+    refused_then f c.args.state.now c.loop-i.state _ (map resource_key rs) (resource_key r ∷ []) (map resource_key rs) _ c.from_residual.result _ c.in_err-take_owner.field-0.0 (within_all f (map resource_key rs)) (within_resources f rs c.loop-i.i r c.resource_at-id.ensures) c.requires.state c.loop-i.invariant.takes c.in_err-take_owner.ensures c.from_residual.ensures
 
 pub take_uses-returns-in_err-own : goal.take_uses-returns-in_err-own
 take_uses-returns-in_err-own t c =
-    passed_on c.from_residual-in_err-own.result _ _ c.in_err-own.field-0.0 c.from_residual-in_err-own.ensures c.in_err-own.ensures
+    passed_on c.from_residual-in_err-own.result _ _ c.in_err-own.field-0.0 c.from_residual-in_err-own.ensures
+    (λ k are. refused_later c.args.types.now c.args.state.now c.loop-i.state _ (named_keys use_keys (named use_content c.args.uses.now.entries)) (k ∷ []) (k ∷ []) _ c.in_err-own.field-0.0 (uses_within c.args.types.now k _ are) (within_all c.args.types.now (k ∷ [])) c.requires.state c.loop-i.invariant.takes (c.in_err-own.ensures k are))
 
 pub take_used-returns-then-is_none : goal.take_used-returns-then-is_none
 take_used-returns-then-is_none t c =
@@ -858,4 +879,4 @@ take_used-returns-then-is_none t c =
     let p = c.used_at-interface.result in
     let w = used_named c.args.uses.now.entries c.args.index p c.used_at-interface.ensures in
     let unidentified = ap (option_and_then (λ (x : InterfaceContent). x.id)) c.index.ensures.entry ∙ no_name c.index.result.now.id c.if-is_none.ensures in
-    refused_use f (named use_content c.args.uses.now.entries) c.args.index w.0 w.1 c.in_ok-no_identifier.field-0 w.2 (subst (λ q. identifier f q ≡ None) (sym w.3) unidentified) (c.in_ok-no_identifier.ensures w.0 w.1 w.2)
+    refused_use f c.args.state.now (named use_content c.args.uses.now.entries) c.args.index w.0 w.1 c.in_ok-no_identifier.field-0 w.2 (subst (λ q. identifier f q ≡ None) (sym w.3) unidentified) (c.in_ok-no_identifier.ensures w.0 w.1 w.2)

@@ -7,7 +7,7 @@ use Rattle.wac_names.specs.Class.{class_of}
 use Rattle.wac_narrowing.specs.Taking.{IsTakenItem}
 use Rattle.wac_narrowing.specs.Values.{IsTakenValue, IfAny}
 use Rattle.wac_copies.proofs.Placed.{ArePlaced, AreSet}
-use Rattle.wac_taking.specs.Takes.{owners_keys, alias_at, Takes, IsTakenUse}
+use Rattle.wac_taking.specs.Takes.{owners_keys, alias_at, near_keys, TakesBy, Takes, IsTakenUse}
 use Rattle.wac_taking.proofs.Alike.{AreFirstTaken}
 use Rattle.wac_taking.proofs.taking.+taking.Given as goal
 
@@ -110,12 +110,12 @@ invariant-take_uses-loop-i l = record {
 abbrev pub invariant-take_externs-loop-i : goal.invariant-take_externs-loop-i
 invariant-take_externs-loop-i l = record {
   count : length l.taken.entries ≡ length l.externs.entries;
-  takes : Takes l.types l.initial.state l.state (keys_height l.types (named_keys item_keys (named (λ k. k) l.externs.entries))) (named_keys item_keys (named (λ k. k) l.externs.entries)) (λ t. AreSet (IsTakenItem class_of l.types t) l.i (named (λ k. k) l.externs.entries) (named (λ k. k) l.taken.entries));
+  takes : TakesBy (near_keys l.near) l.types l.initial.state l.state (keys_height l.types (named_keys item_keys (named (λ k. k) l.externs.entries))) (named_keys item_keys (named (λ k. k) l.externs.entries)) (λ t. AreSet (IsTakenItem class_of l.types t) l.i (named (λ k. k) l.externs.entries) (named (λ k. k) l.taken.entries));
 }
 
 abbrev pub invariant-take_alike-loop-i : goal.invariant-take_alike-loop-i
 invariant-take_alike-loop-i l = record {
-  takes : Takes l.types l.initial.state l.state (keys_height l.types (named_keys item_keys (named (λ k. k) l.externs.entries))) (named_keys item_keys (named (λ k. k) l.externs.entries)) (λ t. Unit {0});
+  takes : TakesBy (near_keys l.near) l.types l.initial.state l.state (keys_height l.types (named_keys item_keys (named (λ k. k) l.externs.entries))) (named_keys item_keys (named (λ k. k) l.externs.entries)) (λ t. Unit {0});
 }
 
 abbrev pub invariant-take_owners-loop-i : goal.invariant-take_owners-loop-i

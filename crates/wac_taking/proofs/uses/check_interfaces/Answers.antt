@@ -15,6 +15,7 @@ check_uses-requires c = record {
   new = uses_stand c.args.types.now (interface_content c.index-2.result.now) c.index-2.ensures.standing;
 }
 
-pub returns-clause-uses : goal.returns-clause-uses
-returns-clause-uses c =
-    IfErr-weaker c.check_uses.result _ _ (λ e h. uses_refusal c.args.types.now (interface_key c.args.new) (interface_content c.index-2.result.now).uses e (ap (λ o. option_map_or entry_uses o []) (interface_at c.args.types.now c.args.new (interface_content c.index-2.result.now) c.index-2.ensures.entry)) h) c.check_uses.ensures.uses
+pub returns : goal.returns
+returns c =
+    IfErr-weaker c.check_uses.result _ _ (λ e h. uses_refusal c.args.types.now (interface_key c.args.existing) (interface_key c.args.new) (interface_content c.index.result.now).uses (interface_content c.index-2.result.now).uses e
+    (ap (λ o. option_map_or entry_uses o []) (interface_at c.args.types.now c.args.existing (interface_content c.index.result.now) c.index.ensures.entry)) (ap (λ o. option_map_or entry_uses o []) (interface_at c.args.types.now c.args.new (interface_content c.index-2.result.now) c.index-2.ensures.entry)) h) c.check_uses.ensures

@@ -1,8 +1,10 @@
-use Rattle.std.proofs.Common.{inr, sym, subst}
+use Rattle.std.proofs.Common.{[], ◌∷◌, string_bytes, sym}
 use Rattle.std.specs.Map.Iter.{deref_pair}
-use Rattle.wac_component.specs.Key.{Each, Stands, named_keys, use_keys}
-use Rattle.wac_taking.proofs.GrowLemmas.{each_looked, each_yielded}
-use Rattle.wac_taking.proofs.UseLemmas.{if_err}
+use Rattle.wac_component.specs.Content.{named, use_content}
+use Rattle.wac_component.specs.Key.{Stands}
+use Rattle.wac_taking.proofs.GrowLemmas.{each_looked, each_yielded, looked_use, yielded_use, one_in}
+use Rattle.wac_taking.proofs.Refusals.{error_passed_on}
+use Rattle.wac_taking.proofs.UseLemmas.{lists_refused}
 use Rattle.wac_taking.proofs.uses.check_uses.Goals as goal
 
 pub check_use-requires-clause-existing : goal.check_use-requires-clause-existing
@@ -12,7 +14,12 @@ pub check_use-requires-clause-new : goal.check_use-requires-clause-new
 check_use-requires-clause-new c =
     each_yielded (Stands c.args.types.now) deref_pair c.args.new.now.entries c.loop-name.yielded _ _ _ _ (c.in-Some.name, c.in-Some.used) c.into_iter-name-iterator.ensures.into_iter_gives.0 c.loop-name.yielded_by c.in-Some.is c.next.ensures.steps c.requires.new
 
-pub returns-in_err-check_use-clause-uses : goal.returns-in_err-check_use-clause-uses
-returns-in_err-check_use-clause-uses c =
-    if_err c.from_residual.result _ (λ e. inr (λ none. each_yielded (λ _. ⊥) deref_pair c.args.new.now.entries c.loop-name.yielded _ _ _ _ (c.in-Some.name, c.in-Some.used) c.into_iter-name-iterator.ensures.into_iter_gives.0 c.loop-name.yielded_by c.in-Some.is c.next.ensures.steps
-    (subst (λ us. Each (λ _. ⊥) (named_keys use_keys us)) (sym none) tt)))
+pub returns-in_err-check_use : goal.returns-in_err-check_use
+returns-in_err-check_use c =
+    let us = named use_content c.args.existing.now.entries in
+    let vs = named use_content c.args.new.now.entries in
+    let name = string_bytes c.in-Some.name.now in
+    error_passed_on c.from_residual.result _ c.in_err-check_use.field-0.0 c.from_residual.ensures
+    (lists_refused c.args.types.now us vs ((name, use_content c.in-Some-get.other.now) ∷ []) ((name, use_content c.in-Some.used.now) ∷ []) c.in_err-check_use.field-0.0
+    (one_in _ us (looked_use name c.args.existing.now.entries c.in-Some-get.other.now (sym (rw c.in-Some-get.is at c.get.ensures.value))))
+    (one_in _ vs (yielded_use deref_pair c.args.new.now.entries c.loop-name.yielded _ _ _ _ (c.in-Some.name, c.in-Some.used) c.into_iter-name-iterator.ensures.into_iter_gives.0 c.loop-name.yielded_by c.in-Some.is c.next.ensures.steps)) c.in_err-check_use.ensures)

@@ -2,7 +2,7 @@ use Rattle.std.proofs.Common.{ap, ◌∙◌}
 use Rattle.wac_checker.specs.Cache.{without_number}
 use Rattle.wac_checker.specs.Checker.{remembered}
 use Rattle.wac_call_lists.specs.Call.{Call}
-use Rattle.wac_taking.proofs.Plain.{error_passed_on, passed_on}
+use Rattle.wac_taking.proofs.Refusals.{error_passed_on, passed_on}
 use Rattle.wac_aggregator.specs.Content.{AggregatorContent}
 use Rattle.wac_aggregator.proofs.Advancing.{by_track}
 use Rattle.wac_aggregator.proofs.Handing.{call_may, call_in_order, call_number, call_step, call_truly, call_plain, call_reason, call_refused}
@@ -19,7 +19,7 @@ returns-in_err-advance-clause-forgotten c = c.forget.ensures.remembered ∙ ap (
 pub invariant_of-result : goal.invariant_of-result
 invariant_of-result c =
     let call : Call = record { name = c.args.name.now; types = c.args.types.now; kind = c.args.kind } in
-    call_in_order call c.self.inside.state c.direction-state.result c.args.self c.self.view_is c.self.invariant c.requires.apart c.requires.remembered c.advance.new.state c.filed.ensures c.in_ok-advance.ensures
+    call_in_order call c.self.inside.state c.direction-state.result c.args.self c.self.view_is c.self.invariant c.requires.apart c.requires.remembered c.advance.new.state c.filed.ensures c.in_ok-advance.ensures c.sound.ensures c.requires.source
 
 pub returns-clause-step : goal.returns-clause-step
 returns-clause-step c =
@@ -52,4 +52,4 @@ returns-in_err-advance-clause-plain c =
 pub returns-in_err-advance-clause-reason : goal.returns-in_err-advance-clause-reason
 returns-in_err-advance-clause-reason c =
     let call : Call = record { name = c.args.name.now; types = c.args.types.now; kind = c.args.kind } in
-    error_passed_on c.from_residual.result _ c.in_err-advance.field-0.0 c.from_residual.ensures (call_reason call c.self.inside.state c.direction-state.result c.args.self c.self.view_is c.self.invariant c.requires.apart c.requires.remembered c.in_err-advance.field-0.0 c.in_err-advance.ensures)
+    error_passed_on c.from_residual.result _ c.in_err-advance.field-0.0 c.from_residual.ensures (call_reason call c.self.inside.state c.direction-state.result c.args.self c.self.view_is c.self.invariant c.requires.apart c.requires.remembered c.in_err-advance.field-0.0 c.sound.ensures c.requires.source c.in_err-advance.ensures)

@@ -1,0 +1,15 @@
+-- Why a call is refused that comes after others.
+use Rattle.std.specs.Prelude.{◌≡◌, ℕ, List}
+use Rattle.wac_call_lists.specs.Aggregated.{Aggregated, IsAggregated, IsByTrack, track_imports}
+use Rattle.wac_call_lists.specs.Attempt.{single_attempt}
+use Rattle.wac_call_lists.specs.Call.{Call, call_track}
+use Rattle.wac_refusals.specs.declared.error.AggregateError.{AggregateError}
+use Rattle.wac_taking.specs.Refused.{HasReason}
+
+-- an aggregator whose collection has this number, and that aggregated the calls before, refuses this one with reason
+pub record HasReasonAfter (number : ℕ) (front : List Call) (call : Call) (e : AggregateError) : Type 0 where
+  pub before : Aggregated
+  pub number_is : before.types.number ≡ number
+  pub aggregated : IsAggregated front before
+  pub by_track : IsByTrack before
+  pub reason : HasReason (single_attempt before.types (track_imports before (call_track call)) call) e
