@@ -93,7 +93,7 @@ fn check_file<H: Files + AllocGlobal, W: Write, E: Write>(
 /// Checks the scripts in files, each as [`check_script`] does, and answers the status: 2 where one is
 /// refused, and then no other is looked at, else 1 where one answers 1, else 0. A file that can't be
 /// read as text is refused.
-pub fn check_files<H: Files + AllocGlobal, W: Write, E: Write>(
+pub(crate) fn check_files<H: Files + AllocGlobal, W: Write, E: Write>(
     rt: &H,
     names: &[&str],
     out: &mut W,

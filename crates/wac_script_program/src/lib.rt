@@ -29,7 +29,7 @@ mod replaying;
 mod status;
 
 pub use benchmarks::{BenchError, Benchmark, bench};
-pub use check::{check_files, check_script};
+pub use check::check_script;
 pub use command_line::run;
 pub use replaying::replay;
 pub use status::{DONE, FAILED, MALFORMED, usage};
