@@ -7,6 +7,7 @@ use Rattle.std.specs.Option.{option_map}
 use Rattle.wac_model.specs.Text.{lookup}
 use Rattle.wac_model.specs.ItemTree.{ItemTree}
 use Rattle.wac_model.specs.Order.{Fits}
+use Rattle.wac_component.specs.Height.{keys_height}
 use Rattle.wac_component.specs.Key.{Key, AllStand, item_keys}
 use Rattle.wac_component.specs.Tree.{item_tree}
 use Rattle.wac_component.specs.declared.items.ItemKind.{ItemKind}
@@ -18,12 +19,14 @@ use Rattle.wac_call_lists.specs.Call.{Call, call_track, call_tree}
 use Rattle.wac_call_lists.specs.PlainList.{IsPlain}
 use Rattle.wac_call_lists.specs.Answer.{Imports, Answer, accepted, refused}
 use Rattle.wac_call_lists.specs.PlainRun.{IsMetWith, IsPlainStep, IsPlainRefusal, IsPlainRun, goes_on, stops, ends, no_imports}
+use Rattle.wac_narrowing.specs.Taking.{IsTakenItem}
 use Rattle.wac_imports.specs.Import.{ImportContent, ImportsContent, import_of, AreFiled}
 use Rattle.wac_imports.specs.Left.{listed}
 use Rattle.wac_imports.proofs.Listed.{classes_listed}
-use Rattle.wac_taking.specs.Takes.{MayTake, OnlyAdds}
+use Rattle.wac_taking.specs.Takes.{MayTake, OnlyGrows}
 use Rattle.wac_taking.specs.declared.state.Merging.{Merging}
 use Rattle.wac_taking.proofs.Plain.{plain_quiet}
+use Rattle.wac_taking.proofs.TakeLemmas.{only_grows}
 use Rattle.wac_aggregator.specs.Advances.{Advances, HasNoMeet}
 use Rattle.wac_aggregator.specs.Content.{shown, content_of}
 use Rattle.wac_aggregator.proofs.Advancing.{placing, at_of}
@@ -51,8 +54,8 @@ track_import a t filed = on_class (item_tree a.types) a.imports.list t (classes_
 
 -- an accepted call
 module _ (call : Call) (a b : Merging) (may : MayTake call.types a) (filed_a : AreFiled a.imports) (filed_b : AreFiled b.imports) (h : Advances call a b) (plain : IsPlain call.types call.kind) where
-  only : OnlyAdds a h.taken
-  only = h.takes.plain plain
+  only : OnlyGrows call.types a h.taken
+  only = only_grows call.types a h.taken (keys_height call.types (item_keys call.kind)) (item_keys call.kind) (λ t. IsTakenItem class_of call.types t call.kind h.own) h.takes plain
 
   own_same : item_tree h.taken.types h.own ≡ call_tree call
   own_same = h.takes.holds.quiet (plain_quiet call.types (item_keys call.kind) plain)
@@ -94,7 +97,7 @@ module _ (call : Call) (a b : Merging) (may : MayTake call.types a) (filed_a : A
       by true e = absurd (ne (sym ((classes_decided (call_track call) t).0 e)))
       by false e =
           let same : import_of b.imports t ≡ import_of a.imports t
-          = placed_other a.imports h.taken.imports b.imports call.name h.import (placing call a b may filed_a filed_b h) h.takes.stays t e ∙ ap (λ is. import_of is t) only.imports in
+          = placed_other a.imports h.taken.imports b.imports call.name h.import (placing call a b may filed_a filed_b h) h.takes.stays t e ∙ ap (λ is. import_of is t) (h.takes.plain plain) in
           ap (option_map (λ (i : ImportContent). item_tree b.types i.1)) same ∙ same_trees (import_of a.imports t) refl
 
   pub plain_step : IsPlainStep (track_imports (shown (content_of a))) (track_imports (shown (content_of b))) call

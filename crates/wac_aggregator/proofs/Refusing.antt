@@ -26,7 +26,7 @@ use Rattle.wac_taking.specs.declared.state.Merging.{Merging}
 use Rattle.wac_taking.proofs.Identifiers.{has_identifier}
 use Rattle.wac_taking.proofs.MergeReasons.{one_reason, entries_refused}
 use Rattle.wac_taking.proofs.Plain.{plain_quiet}
-use Rattle.wac_taking.proofs.TakeLemmas.{near_none}
+use Rattle.wac_taking.proofs.TakeLemmas.{near_none, only_grows}
 use Rattle.wac_taking.proofs.UseLemmas.{plain_no_uses}
 use Rattle.wac_aggregator.specs.Advances.{attempt_at, HasNoMeet, IsRefusedCall, MayTry}
 use Rattle.wac_aggregator.proofs.Calls.{import_with, at_still, existing_stands}
@@ -70,7 +70,7 @@ module _ (call : Call) (a mid : Merging) (own : ItemKind) (may : MayTake call.ty
   pub not_added : (e : AggregateError) → import_of a.imports (call_track call) ≡ None → (e ≡ Memory) ⊎ (IsSome (import_of mid.imports (call_track call)) × (said e ≡ Some (taken call.name))) → IsRefusedCall call a e
   not_added e none (inl is) ne = absurd (ne is)
   not_added e none (inr h) ne = record {
-    plain = λ p. absurd (no_some (import_of mid.imports (call_track call)) (ap (λ (is : ImportsContent). import_of is (call_track call)) (takes.plain p).imports ∙ none) h.0);
+    plain = λ p. absurd (no_some (import_of mid.imports (call_track call)) (ap (λ (is : ImportsContent). import_of is (call_track call)) (takes.plain p) ∙ none) h.0);
     reason = λ try. one_reason (attempt_at call a) e (taken call.name) h.1 (came (import_of mid.imports (call_track call)) refl h.0);
   }
     where
@@ -97,7 +97,7 @@ module _ (call : Call) (a mid : Merging) (own : ItemKind) (may : MayTake call.ty
     plain_apart : IsPlain call.types call.kind → UsesDiffer mid.types (item_keys existing) (item_keys own) e ⊎ SaysMismatch mid.types existing own e → HasNoMeet call a
     plain_apart p (inl uses) = absurd (plain_no_uses call.types (state_of mid) call.kind own p takes.holds (item_keys existing) e uses)
     plain_apart p (inr clash) =
-        let only = takes.plain p in
+        let only = only_grows call.types a mid (keys_height call.types (item_keys call.kind)) (item_keys call.kind) (λ t. IsTakenItem class_of call.types t call.kind own) takes p in
         let same_import = only.grows.trees existing (may.kept.imports call.name existing found) in
         let same_item = takes.holds.quiet (plain_quiet call.types (item_keys call.kind) p) in
         no_meet call a existing found (λ t x y. clash.no_bound t (subst (Fits t) (sym same_import) x) (subst (Fits t) (sym same_item) y))

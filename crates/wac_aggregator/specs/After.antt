@@ -6,7 +6,7 @@ use Rattle.wac_call_lists.specs.Call.{Call, call_track}
 use Rattle.wac_refusals.specs.declared.error.AggregateError.{AggregateError}
 use Rattle.wac_taking.specs.Refused.{HasReason}
 
--- an aggregator whose collection has this number, and that aggregated the calls before, refuses this one with reason
+-- there is reason to refuse the call, with some collection of this number, and imports that serve the calls before it
 pub record HasReasonAfter (number : ℕ) (front : List Call) (call : Call) (e : AggregateError) : Type 0 where
   pub before : Aggregated
   pub number_is : before.types.number ≡ number

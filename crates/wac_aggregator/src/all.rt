@@ -40,8 +40,8 @@ pub struct Call<'a> {
 /// memory, exactly where the items of each track of names have a common lower bound, whatever the order of calls; each
 /// import is then the greatest of these.
 ///
-/// The first refusal is answered with the number of its call, from 0 on. But for want of memory it comes only where an
-/// aggregator that has the calls before it has reason to refuse this one, as `TypeAggregator::aggregate` says.
+/// The first refusal is answered with the number of its call, from 0 on. But for want of memory it comes only where there
+/// is reason, with a collection whose imports serve the calls before it; of what else that holds nothing is said.
 ///
 /// No pair with an id of the number stays in the checker's cache; nothing else of the checker changes.
 pub fn aggregate_all(

@@ -1,4 +1,4 @@
--- A walk from a member of a WIT list to an interface leads to one that is reached by uses.
+-- A walk from an interface as WIT packages give them to another leads to one that is reached by uses.
 use Rattle.std.proofs.Common.{arith, ◌≡◌, ◌⊎◌, inl, inr, refl, subst, sym, ap, ◌∙◌, List, [], ◌∷◌, Option, Some, None, option_map, option_and_then, Contains, slice_get}
 use Rattle.std.specs.Option.{option_map_or}
 use Rattle.std.proofs.lemmas.List.Elements.{All-contains}
@@ -18,7 +18,7 @@ use Rattle.wac_component.proofs.Returns.{Reaches-trans}
 use Rattle.wac_component.proofs.Among.{among_either, among_one, among_single}
 use Rattle.wac_call_lists.specs.Call.{Call}
 use Rattle.wac_call_lists.specs.Entries.{Uses, ReachesByUses}
-use Rattle.wac_call_lists.specs.WitList.{IsLeafItem, IsMember, used, IsWitList}
+use Rattle.wac_call_lists.specs.WitList.{IsLeafItem, AreWit, IsMember, used, IsWitList}
 
 -- functions, value types and resources
 abbrev pub IsLeafSort : Sort → Type 0
@@ -131,7 +131,7 @@ interface_next c i j m = at_entry (slice_get c.interfaces i.index) (slice_get-ma
     at_entry None is n = elim n [ ]
     at_entry (Some e) is n = parts e is (among_either (named_keys use_keys e.uses) (named_keys item_keys e.exports) n)
 
-leaf_item : (x : ItemKind) (j : Key) → IsLeafItem x → IsAmong j (item_keys x) → IsLeafSort j.sort
+pub leaf_item : (x : ItemKind) (j : Key) → IsLeafItem x → IsAmong j (item_keys x) → IsLeafSort j.sort
 leaf_item (Func f) _ l here = tt
 leaf_item (Func f) j l (there m) = elim m [ ]
 leaf_item (OfType (TypeValue v)) j l m = leaf_value v j m
@@ -155,12 +155,20 @@ pub ByUses-trans : {c : Collection} {i j k : Id} → ReachesByUses c i j → Rea
 ByUses-trans ReachesByUses.stay w = w
 ByUses-trans (ReachesByUses.step u v) w = ReachesByUses.step u (ByUses-trans v w)
 
+pub wit_by_uses : (c : Collection) (P : Id → Type 0) → AreWit c P → {i j : Id} → P i → ReachesByUses c i j → P j
+wit_by_uses c P wit m ReachesByUses.stay = m
+wit_by_uses c P wit m (ReachesByUses.step {i = i} {j = j} u w) = wit_by_uses c P wit (wit.uses i j m u) w
+
+-- the members of a WIT list are such interfaces
+pub wit_members : (calls : List Call) (c : Collection) → IsWitList calls → AreWit c (IsMember calls c)
+wit_members calls c wit = record { uses = λ i j m u. used m u; identified = λ i m. wit.identified c i m; exports = λ i m. wit.exports c i m; owners = λ i r o m w owned. wit.owners c i r o m w owned }
+
 pub member_by_uses : {calls : List Call} {c : Collection} {i j : Id} → IsMember calls c i → ReachesByUses c i j → IsMember calls c j
 member_by_uses m ReachesByUses.stay = m
 member_by_uses m (ReachesByUses.step u w) = member_by_uses (used m u) w
 
 -- functions, value types and resources use nothing
-leaf_uses : (c : Collection) (s : Sort) (p : Id) → IsLeafSort s → uses_at c (record { sort = s; id = p }) ≡ []
+pub leaf_uses : (c : Collection) (s : Sort) (p : Id) → IsLeafSort s → uses_at c (record { sort = s; id = p }) ≡ []
 leaf_uses c defined_sort p l = ap (λ o. option_map_or entry_uses o []) (slice_get-map defined_entry c.defined p.index) ∙ at_entry (slice_get c.defined p.index)
   where
     at_entry : (o : Option DefinedContent) → option_map_or entry_uses (option_map defined_entry o) [] ≡ []
@@ -180,9 +188,9 @@ leaf_uses c interface_sort p l = absurd l
 leaf_uses c world_sort p l = absurd l
 leaf_uses c module_sort p l = absurd l
 
-module _ (calls : List Call) (c : Collection) (wit : IsWitList calls) where
+module _ (c : Collection) (P : Id → Type 0) (wit : AreWit c P) where
   -- one step further it is below an interface that is reached by uses
-  onward : (i : Id) (k j : Key) → IsMember calls c i → IsBelow c i k → IsAmong j (next c k) → (o : Id) × ReachesByUses c i o × IsBelow c o j
+  onward : (i : Id) (k j : Key) → P i → IsBelow c i k → IsAmong j (next c k) → (o : Id) × ReachesByUses c i o × IsBelow c o j
   onward i k j m (itself e) n = by_cases (interface_next c i j n')
     where
       n' : IsAmong j (next c (interface_key i))
@@ -191,7 +199,7 @@ module _ (calls : List Call) (c : Collection) (wit : IsWitList calls) where
       by_cases : ((o : Id) × Uses c i o × (j ≡ interface_key o)) ⊎ IsExported c i j → (o : Id) × ReachesByUses c i o × IsBelow c o j
       by_cases (inl u) = (u.0, ReachesByUses.step u.1 ReachesByUses.stay, itself u.2)
       by_cases (inr x) =
-          let l = All-contains (λ (e : Text × ItemKind). IsLeafItem e.1) (exports_at c (interface_key i)) x.export (wit.exports c i m) x.among in
+          let l = All-contains (λ (e : Text × ItemKind). IsLeafItem e.1) (exports_at c (interface_key i)) x.export (wit.exports i m) x.among in
           (i, ReachesByUses.stay, leaf_below (leaf_item x.export.1 j l x.named) (step n' stay))
   onward i k j m (leaf_below l r) n = by_cases (leaf_next c k.sort k.id j l n)
     where
@@ -199,7 +207,7 @@ module _ (calls : List Call) (c : Collection) (wit : IsWitList calls) where
       by_cases (inl q) = (i, ReachesByUses.stay, leaf_below q (Reaches-trans c (interface_key i) k j r (step n stay)))
       by_cases (inr q) =
           let at : k ≡ resource_key k.id = λ z. record { sort = q.is_resource z; id = k.id } in
-          (q.owner, wit.owners c i k.id q.owner m (subst (λ (x : Key). Reaches c (interface_key i) x) at r) q.owned, itself q.is_owner)
+          (q.owner, wit.owners i k.id q.owner m (subst (λ (x : Key). Reaches c (interface_key i) x) at r) q.owned, itself q.is_owner)
 
   at_end : (i q : Id) (k : Key) → IsBelow c i k → k ≡ interface_key q → ReachesByUses c i q
   at_end i q k (itself e) f =
@@ -207,21 +215,21 @@ module _ (calls : List Call) (c : Collection) (wit : IsWitList calls) where
       subst (λ (x : Id). ReachesByUses c i x) same ReachesByUses.stay
   at_end i q k (leaf_below l r) f = absurd (subst (λ (x : Key). IsLeafSort x.sort) f l)
 
-  walk_by_uses : (i q : Id) (k t : Key) → IsMember calls c i → IsBelow c i k → Reaches c k t → t ≡ interface_key q → ReachesByUses c i q
+  walk_by_uses : (i q : Id) (k t : Key) → P i → IsBelow c i k → Reaches c k t → t ≡ interface_key q → ReachesByUses c i q
   walk_by_uses i q k t m b stay e = at_end i q t b e
   walk_by_uses i q k t m b (step {j = j} n w) e =
       let o = onward i k j m b n in
-      ByUses-trans o.1 (walk_by_uses o.0 q j t (member_by_uses m o.1) o.2 w e)
+      ByUses-trans o.1 (walk_by_uses o.0 q j t (wit_by_uses c P wit m o.1) o.2 w e)
 
-  pub by_uses : (i q : Id) → IsMember calls c i → Reaches c (interface_key i) (interface_key q) → ReachesByUses c i q
+  pub by_uses : (i q : Id) → P i → Reaches c (interface_key i) (interface_key q) → ReachesByUses c i q
   by_uses i q m w = walk_by_uses i q (interface_key i) (interface_key q) m (itself refl) w refl
 
   -- such a walk passes through interfaces and leaves alone
-  pub reached_with_uses : (i : Id) (k t : Key) → IsMember calls c i → IsBelow c i k → Reaches c k t → (o : Id) × ReachesByUses c i o × IsBelow c o t
+  pub reached_with_uses : (i : Id) (k t : Key) → P i → IsBelow c i k → Reaches c k t → (o : Id) × ReachesByUses c i o × IsBelow c o t
   reached_with_uses i k t m b stay = (i, ReachesByUses.stay, b)
   reached_with_uses i k t m b (step {j = j} n w) =
       let o = onward i k j m b n in
-      let r = reached_with_uses o.0 j t (member_by_uses m o.1) o.2 w in
+      let r = reached_with_uses o.0 j t (wit_by_uses c P wit m o.1) o.2 w in
       (r.0, ByUses-trans o.1 r.1, r.2)
 
   pub start_below : (i : Id) → IsBelow c i (interface_key i)

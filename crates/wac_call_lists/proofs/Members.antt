@@ -27,7 +27,7 @@ use Rattle.wac_call_lists.specs.OpenReach.{ItemReaches, ItemOpenReaches}
 use Rattle.wac_call_lists.specs.PlainList.{IsPlain}
 use Rattle.wac_call_lists.specs.Reason.{TrackLeads}
 use Rattle.wac_call_lists.specs.WitList.{IsNamedInstance, IsMember, handed_in, used, IsMemberOn, IsMemberTree, IsPlainTree, IsTreeOn, IsPlainApart, IsWitList}
-use Rattle.wac_call_lists.proofs.ByUses.{by_uses, member_by_uses}
+use Rattle.wac_call_lists.proofs.ByUses.{by_uses, member_by_uses, wit_members}
 use Rattle.wac_call_lists.proofs.Read.{use_next, owner_next}
 use Rattle.wac_call_lists.proofs.Opened.{item_reaches}
 
@@ -113,7 +113,7 @@ module _ (calls : List Call) (wit : IsWitList calls) where
       by_cases : IsWitItem c → IsMember calls c.types q
       by_cases (inl n) =
           let k = named_member c n.0 m n.1 in
-          member_by_uses k (by_uses calls c.types wit n.0 q k (named_key c n.0 (interface_key q) n.1 w))
+          member_by_uses k (by_uses c.types (IsMember calls c.types) (wit_members calls c.types wit) n.0 q k (named_key c n.0 (interface_key q) n.1 w))
       by_cases (inr p) = absurd (not_without c.types q h (p.plain.no_identifier q w))
 
   -- a track has members or plain items, not both
@@ -185,7 +185,7 @@ module _ (calls : List Call) (wit : IsWitList calls) where
 
   -- a member that openly reaches another one leads to it by uses
   pub walk_leads : (c : Collection) (i j : Id) (s t : Class) → IsMember calls c i → IsIdentifiedOn c i s → IsIdentifiedOn c j t → j ≢ i → OpenReaches c (interface_key i) (interface_key j) → Leads (TrackUses calls) s t
-  walk_leads c i j s t m a b another w = by_cases (leads_by_uses calls wit c i j s t m (by_uses calls c wit i j m (opens_reach c (interface_key i) (interface_key j) w)) a b)
+  walk_leads c i j s t m a b another w = by_cases (leads_by_uses calls wit c i j s t m (by_uses c (IsMember calls c) (wit_members calls c wit) i j m (opens_reach c (interface_key i) (interface_key j) w)) a b)
     where
       by_cases : (i ≡ j) ⊎ Leads (TrackUses calls) s t → Leads (TrackUses calls) s t
       by_cases (inl e) = absurd (another (sym e))

@@ -32,7 +32,7 @@ use Rattle.wac_call_lists.specs.TreeSets.{IsBelowEach, HaveLowerBound}
 use Rattle.wac_call_lists.specs.WitList.{IsNamedInstance, IsMember, used, IsMemberOn, IsMemberTree, IsTreeOn, IsWitList}
 use Rattle.wac_call_lists.specs.WitReason.{IsSourceOn, IsWitReason}
 use Rattle.wac_call_lists.proofs.Among.{among_front, tree_on}
-use Rattle.wac_call_lists.proofs.ByUses.{member_by_uses, reached_with_uses, start_below, user_below}
+use Rattle.wac_call_lists.proofs.ByUses.{member_by_uses, wit_members, reached_with_uses, start_below, user_below}
 use Rattle.wac_call_lists.proofs.Members.{one_track, not_without, not_owned, has_identifier, members_stand, owner_another, named_key, named_on, wit_item, IsWitItem, named_member, apart, item_tree_on, leads_by_uses, source_member, all_lead}
 use Rattle.wac_call_lists.proofs.Opened.{item_reaches}
 use Rattle.wac_call_lists.proofs.Read.{item_at-items, interface_tree}
@@ -155,8 +155,8 @@ module _ (front : List Call) (call : Call) (imports : Imports) (wit : IsWitList 
       by_cases : IsWitItem calls wit call → ⊥
       by_cases (inl i) =
           let k = named_member calls wit call i.0 last i.1 in
-          let o = reached_with_uses calls call.types wit i.0 (interface_key i.0) r.key k (start_below calls call.types wit i.0) (named_key call i.0 r.key i.1 w) in
-          let at = user_below calls call.types wit o.0 r.key n r.content o.2 r.has in
+          let o = reached_with_uses call.types (IsMember calls call.types) (wit_members calls call.types wit) i.0 (interface_key i.0) r.key k (start_below call.types (IsMember calls call.types) (wit_members calls call.types wit) i.0) (named_key call i.0 r.key i.1 w) in
+          let at = user_below call.types (IsMember calls call.types) (wit_members calls call.types wit) o.0 r.key n r.content o.2 r.has in
           let u : Uses call.types o.0 r.content.interface = record { name = n; content = r.content; has = subst (λ (x : Key). HasUse call.types x n r.content) at r.has; is_of = refl } in
           not_without call.types r.content.interface (wit.identified call.types r.content.interface (used (member_by_uses k o.1) u)) r.unidentified
       by_cases (inr p) = omega (arith, (subst (λ (us : List (Text × UseContent)). Contains us (n, r.content)) (p.plain.no_uses r.key w) r.has).1)

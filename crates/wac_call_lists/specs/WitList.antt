@@ -62,6 +62,14 @@ IsLeafItem (OfType (TypeValue v)) = Unit {0}
 IsLeafItem (OfType (TypeResource r)) = Unit {0}
 IsLeafItem i = ⊥
 
+-- interfaces of a collection, with each that one of them uses: identified, with leaves as exports; and what owns a resource
+-- that one reaches is reached from it by uses
+pub record AreWit (c : Collection) (P : Id → Type 0) : Type 0 where
+  pub uses : (i j : Id) → P i → Uses c i j → P j
+  pub identified : (i : Id) → P i → HasIdentifier c i
+  pub exports : (i : Id) → P i → All (λ e. IsLeafItem e.1) (exports_at c (interface_key i))
+  pub owners : (i r o : Id) → P i → Reaches c (interface_key i) (resource_key r) → owner_at c r ≡ Some o → ReachesByUses c i o
+
 pub record IsWitList (calls : List Call) : Type 0 where
   pub items : All (λ c. ((i : Id) × IsNamedInstance c i) ⊎ IsPlainApart calls c) calls
   pub identified : (c : Collection) (i : Id) → IsMember calls c i → HasIdentifier c i

@@ -1,11 +1,11 @@
 -- Each step of merging keeps what is accounted for while a call is tried.
-use Rattle.std.proofs.Common.{◌≡◌, ◌⊎◌, inl, inr, List, Option, Some, Result, refl, sym, ap, subst, ◌∙◌}
+use Rattle.std.proofs.Common.{◌≡◌, ◌⊎◌, inl, inr, List, Option, Some, Result, refl, sym, subst, ◌∙◌}
 use Rattle.std.specs.declared.alloc.AllocError.{AllocError}
 use Rattle.wac_model.specs.Text.{Text}
 use Rattle.wac_component.specs.Id.{Id}
 use Rattle.wac_component.specs.Collection.{Collection, InterfaceContent}
 use Rattle.wac_component.specs.Entries.{identifier_at}
-use Rattle.wac_component.specs.Growth.{Extends, with_entry}
+use Rattle.wac_component.specs.Growth.{Extends}
 use Rattle.wac_component.specs.Key.{Key, Entry, interface_entry, entry_keys, other_keys, import_keys, interface_key, interface_keys, item_keys, Each, Stands, AllStand}
 use Rattle.wac_component.specs.Open.{open_next, OpenReaches, step}
 use Rattle.wac_component.specs.Reach.{IsAmong, Reaches}
@@ -18,7 +18,7 @@ use Rattle.wac_merge.proofs.ItemKeys.{each_entry_item}
 use Rattle.wac_merge.specs.Built.{Builds}
 use Rattle.wac_merge.specs.Items.{entry_item}
 use Rattle.wac_names.specs.Class.{class_of}
-use Rattle.wac_call_lists.specs.Attempt.{Attempt, Sources, IsSource, IsBelowImport, OpenlyReached, Touches}
+use Rattle.wac_call_lists.specs.Attempt.{Attempt, IsSource, IsBelowImport, Touches}
 use Rattle.wac_narrowing.specs.Entering.{AddsEntry}
 use Rattle.wac_narrowing.specs.Imports.{Imports}
 use Rattle.wac_narrowing.specs.Last.{last_key}
@@ -26,13 +26,12 @@ use Rattle.wac_narrowing.specs.Laws.{IsArrowed, LeadsAlongArrows}
 use Rattle.wac_narrowing.specs.Narrows.{AddsShared, CanGrow, grown}
 use Rattle.wac_narrowing.specs.State.{State, Memo, AddsPair, IsKept}
 use Rattle.wac_narrowing.specs.Taking.{SameTree}
-use Rattle.wac_narrowing.specs.Traced.{Root, Arrows}
+use Rattle.wac_narrowing.specs.Traced.{Arrows}
 use Rattle.wac_narrowing.proofs.Adding.{last_at}
 use Rattle.wac_narrowing.proofs.Tracing.{traced_added, traced_shared, traced_grown}
 use Rattle.wac_reasons.specs.Entering.{IsFromSources}
 use Rattle.wac_reasons.specs.Keeping.{StaySourced}
-use Rattle.wac_reasons.specs.Sharing.{IsOpenRoot, of_shared, of_import, of_taken, AreSourced}
-use Rattle.wac_reasons.specs.Sourced.{IsSourced}
+use Rattle.wac_reasons.specs.Sharing.{IsOpenRoot, of_shared, of_import, of_taken}
 use Rattle.wac_reasons.specs.Split.{IsLow, of_copy, of_import as of_below, IsOpenKey, AreSplit, StaySplit}
 use Rattle.wac_reasons.specs.Trial.{IsUntold, IsAccounted, IsOpenSource, StaysAccounted}
 use Rattle.wac_reasons.proofs.Keeping.{grows_keep, entries_keep, shared_keep, grown_keeps, takes_keep, imports_keep}

@@ -1,10 +1,10 @@
 -- An entry all parts of which were taken in comes from sources, and is open; it has its source's tree unless the item touches.
-use Rattle.std.proofs.Common.{◌≡◌, ◌⊎◌, inl, inr, List, [], ◌∷◌, Some, refl, sym, ap, subst, ◌∙◌}
+use Rattle.std.proofs.Common.{◌≡◌, inr, List, [], ◌∷◌, Some, refl, sym, subst, ◌∙◌}
 use Rattle.wac_model.specs.Text.{Text}
-use Rattle.wac_component.specs.Collection.{Collection, UseContent}
-use Rattle.wac_component.specs.Entries.{exports_at, uses_at, entry_exports, entry_uses, HasUse}
+use Rattle.wac_component.specs.Collection.{Collection}
+use Rattle.wac_component.specs.Entries.{exports_at, uses_at, entry_exports, entry_uses}
 use Rattle.wac_component.specs.Growth.{Extends, with_entry}
-use Rattle.wac_component.specs.Key.{Key, Entry, entry_keys, other_keys, import_keys, item_keys, named_keys, Each, Stands, AllStand}
+use Rattle.wac_component.specs.Key.{Key, Entry, entry_keys, other_keys, import_keys, item_keys, named_keys, Each, AllStand}
 use Rattle.wac_component.specs.Open.{open_next, OpenReaches, stay, step}
 use Rattle.wac_component.specs.Reach.{IsAmong, here}
 use Rattle.wac_component.specs.Tree.{item_tree}
@@ -13,13 +13,13 @@ use Rattle.wac_component.proofs.Adding.{Extends-with_entry}
 use Rattle.wac_component.proofs.Among.{each_among, among_each}
 use Rattle.wac_component.proofs.Keys.{Each-left, Each-right}
 use Rattle.wac_component.proofs.OpenWalks.{OpenReaches-trans}
-use Rattle.wac_call_lists.specs.Attempt.{Attempt, IsSource, reached, OpenlyReached, Touches}
+use Rattle.wac_call_lists.specs.Attempt.{Attempt, IsSource, reached}
 use Rattle.wac_names.specs.Class.{class_of}
 use Rattle.wac_narrowing.specs.Entering.{AddsEntry}
 use Rattle.wac_narrowing.specs.Last.{last_key}
 use Rattle.wac_narrowing.specs.State.{State, IsKept}
-use Rattle.wac_narrowing.specs.Taking.{SameTree, IsTakenKey, AreTakenKeys, IsTakenItem, AreMapped, none, one}
-use Rattle.wac_narrowing.proofs.Mapped.{taken_each, mapped_more}
+use Rattle.wac_narrowing.specs.Taking.{SameTree, AreTakenKeys, IsTakenItem, AreMapped, none, one}
+use Rattle.wac_narrowing.proofs.Mapped.{taken_each}
 use Rattle.wac_reasons.specs.Entering.{IsFromSources, IsTakenIdentifiedUse}
 use Rattle.wac_reasons.specs.Sharing.{of_taken}
 use Rattle.wac_reasons.specs.Sourced.{IsSourced}

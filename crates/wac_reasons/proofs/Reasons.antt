@@ -1,10 +1,9 @@
 -- What stands at a refusal gives its reason.
 use Rattle.std.specs.declared.alloc.AllocError.{AllocError}
-use Rattle.std.specs.Str.{bytes_eq}
-use Rattle.std.proofs.Common.{◌≡◌, ◌≢◌, ◌⊎◌, inl, inr, List, [], ◌∷◌, Option, Some, None, Result, refl, sym, ap, subst, ◌∙◌, Contains}
-use Rattle.wac_model.specs.Text.{Text, lookup}
-use Rattle.wac_model.specs.ItemTree.{ItemTree, Kind, item, type_item, Leaf, Shape, interface, world, Items, leaf, core_module, composite}
-use Rattle.wac_model.specs.Order.{Fits, leaves, modules, composites}
+use Rattle.std.proofs.Common.{◌≡◌, ◌≢◌, inl, inr, List, [], ◌∷◌, Option, Some, None, Result, refl, sym, ap, subst, ◌∙◌}
+use Rattle.wac_model.specs.Text.{Text}
+use Rattle.wac_model.specs.ItemTree.{ItemTree, Kind, item, type_item, Leaf, Shape, interface, world, Items, leaf, composite}
+use Rattle.wac_model.specs.Order.{Fits, leaves, composites}
 use Rattle.wac_component.specs.Id.{Id}
 use Rattle.wac_component.specs.Collection.{Collection, UseContent}
 use Rattle.wac_component.specs.Growth.{Extends}
@@ -21,9 +20,7 @@ use Rattle.wac_component.specs.declared.items.ItemKind.TheVariants.{«Type» as 
 use Rattle.wac_component.specs.declared.items.Type.TheVariants.{Resource as TypeResource, Func as TypeFunc, Value as TypeValue, Interface as TypeInterface, World as TypeWorld, Module as TypeModule}
 use Rattle.wac_component.proofs.Among.{among_each, each_among}
 use Rattle.wac_names.specs.Class.{Class, class_of}
-use Rattle.wac_call_lists.specs.Attempt.{Attempt, IsSource, OpenlyReached, Touches}
-use Rattle.wac_call_lists.specs.Call.{call_tree}
-use Rattle.wac_call_lists.specs.Entries.{IsIdentifiedOn}
+use Rattle.wac_call_lists.specs.Attempt.{Attempt, IsSource, Touches}
 use Rattle.wac_call_lists.specs.Reason.{IsReason, mismatch, used_interface, used_name, cycle, Meets}
 use Rattle.wac_call_lists.specs.TreeSets.{HaveNoLowerBound}
 use Rattle.wac_call_lists.proofs.Read.{use_opens}
@@ -36,7 +33,6 @@ use Rattle.wac_narrowing.specs.Taking.{SameTree, IsTakenKey, AreTakenKeys, one_k
 use Rattle.wac_narrowing.specs.Traced.{IsRoot, Arrows}
 use Rattle.wac_narrowing.proofs.Adding.{Narrows-all_stand}
 use Rattle.wac_narrowing.proofs.Tracing.{cycle_reason, taken_along}
-use Rattle.wac_reasons.specs.Items.{IsSourcedItem, IsSourcedUse}
 use Rattle.wac_reasons.specs.Sourced.{IsSourced}
 use Rattle.wac_reasons.specs.Split.{IsOpenKey}
 use Rattle.wac_reasons.specs.Standing.{IsUntouched}

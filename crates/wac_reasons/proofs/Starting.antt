@@ -1,12 +1,10 @@
 -- At the start of a call all is accounted for.
-use Rattle.std.proofs.Common.{◌≡◌, ◌≢◌, ◌⊎◌, inl, inr, List, [], ◌∷◌, ℕ, suc, zero, ◌<◌, Bool, true, false, Option, Some, None, refl, sym, ap, subst, ◌∙◌, arith, Contains, IsTrue}
+use Rattle.std.proofs.Common.{◌≡◌, ◌≢◌, ◌⊎◌, inl, inr, List, [], ◌∷◌, ℕ, suc, zero, ◌<◌, Bool, true, false, Option, Some, None, refl, sym, ap, subst, ◌∙◌, arith}
 use Rattle.wac_model.specs.Text.{Text}
 use Rattle.wac_model.specs.ItemTree.{ItemTree}
-use Rattle.wac_component.specs.Id.{Id}
 use Rattle.wac_component.specs.Collection.{Collection}
 use Rattle.wac_component.specs.Height.{height}
-use Rattle.wac_component.specs.Implicit.{identifier}
-use Rattle.wac_component.specs.Key.{Key, interface_key, item_keys, Stands}
+use Rattle.wac_component.specs.Key.{Key, item_keys, Stands}
 use Rattle.wac_component.specs.Reach.{IsAmong, here, there}
 use Rattle.wac_component.specs.Sound.{IsSound}
 use Rattle.wac_component.specs.Entries.{identifier_at}

@@ -13,7 +13,6 @@ use Rattle.wac_component.specs.declared.items.Type.TheVariants.{Resource as Type
 use Rattle.wac_component.specs.declared.items.ValueType.{ValueType}
 use Rattle.wac_component.specs.declared.items.ValueType.TheVariants.{Primitive, Borrow, Own, Defined}
 use Rattle.wac_merge.specs.Items.{entry_item, item_of}
-use Rattle.wac_merge.proofs.ItemKeys.{entry_item-keys}
 use Rattle.wac_names.specs.Class.{class_of}
 use Rattle.wac_narrowing.specs.State.{State}
 use Rattle.wac_narrowing.specs.Taking.{SameTree, AreTakenKeys, one_key, no_keys, IsTakenItem}

@@ -45,7 +45,7 @@ use Rattle.wac_alike.specs.Alike.{made_keys, made_next, IsMadeOf, itself, part, 
 use Rattle.wac_alike.proofs.MadeOf.{IsTypeKey, is_type_sort, made_opens, made_types, made_stands, made_unidentified, made_or_owned, no_identifier}
 use Rattle.wac_taking.specs.Takes.{state_of, MayTake, IsOwnEntry, IsNear, IsNearest, near_keys, AreNear, AreLedTo, AreWithin, TakesBy, Takes, owners_keys, LeadsToOwner, OwnersImported, IsOwnerImported, IsTakenOwner, AreOwnersTaken}
 use Rattle.wac_taking.specs.declared.state.Merging.{Merging}
-use Rattle.wac_taking.proofs.TakeLemmas.{Takes-near, Takes-more, Takes-then, still_none, trial_within, near_still, near_none, owners_import_still, owners_import_within, shared_from_still, shared_from_within, shared_stands}
+use Rattle.wac_taking.proofs.TakeLemmas.{Takes-near, Takes-more, Takes-then, still_none, known_within, known_still, noted_known, trial_within, near_still, near_none, owners_import_still, owners_import_within, shared_from_still, shared_from_within, shared_stands}
 use Rattle.wac_taking.proofs.Plain.{plain_within}
 use Rattle.wac_taking.proofs.Parts.{owner_still}
 use Rattle.wac_taking.proofs.Within.{within_all, owned_within}
@@ -312,7 +312,14 @@ module _ (f : Collection) (sound : IsSound f) (a b : Merging) (now : Memo) (thei
           | inl was ↦ inl was
           | inr new ↦ inr (shared_from_within f c (map resource_key rs) (theirs ∷ []) within e (shared_from_still f b c kept runs (map resource_key rs) e among new))
         ];
-        plain = λ p. let only = g.plain (plain_within f (map resource_key rs) (theirs ∷ []) within p) in record { grows = only.grows; shared = only.shared; imports = only.imports };
+        plain = λ p. g.plain (plain_within f (map resource_key rs) (theirs ∷ []) within p);
+        known = λ all.
+            let only = g.known (known_within f a (map resource_key rs) (theirs ∷ []) within all) in
+            record {
+              grows = only.grows;
+              shared = only.shared;
+              noted = λ k o is. elim (noted_known f b c theirs ours stands.0 adds (known_still f a b (theirs ∷ []) g.run all) k o is) [ inl was ↦ only.noted k o was | inr new ↦ inr new ];
+            };
         accounts = λ at trial all by.
             let standing = (g.run.narrows may.kept).standing in
             let one = g.accounts at (trial_within at f (map resource_key rs) (theirs ∷ []) within trial) all (near_none at a) in

@@ -1,5 +1,5 @@
 -- Exports that are met one by one, and the shared entry that grows by them.
-use Rattle.std.proofs.Common.{◌≡◌, ◌++◌, arith, inl, inr, Contains, Ok, Bool, true, false, cond, filter, List, [], ◌∷◌, map, Option, Some, None, IfSome, String, Global, string_bytes, refl, ap, sym, subst, ◌∙◌}
+use Rattle.std.proofs.Common.{◌≡◌, ◌++◌, arith, inl, inr, All, Contains, Ok, Bool, true, false, cond, filter, List, [], ◌∷◌, map, Option, Some, None, IfSome, String, Global, string_bytes, refl, ap, sym, subst, ◌∙◌}
 use Rattle.std.proofs.lemmas.Slice.Eq.{bytes_eq-Decides}
 use Rattle.std.proofs.lemmas.List.{map-append}
 use Rattle.std.proofs.lemmas.Map.Iter.{rest_so_far, rest_more}
@@ -17,7 +17,9 @@ use Rattle.wac_model.specs.ItemTree.{ItemTree}
 use Rattle.wac_model.specs.Order.{Fits}
 use Rattle.wac_bounds.specs.Bounds.{IsLowerBound, IsMeetIfAny}
 use Rattle.wac_component.specs.Growth.{Extends}
-use Rattle.wac_model.proofs.ItemOrder.{Fits-refl}
+use Rattle.wac_model.proofs.ItemOrder.{Fits-refl, Fits-trans}
+use Rattle.wac_model.proofs.Serves.{Serves-trans}
+use Rattle.wac_bounds.specs.MeetIn.{IsMeetIn}
 use Rattle.wac_model.proofs.Lookups.{IsDistinct-shown}
 use Rattle.wac_component.specs.Collection.{Collection, UseContent}
 use Rattle.wac_component.specs.Content.{named, use_content}
@@ -44,6 +46,7 @@ use Rattle.wac_narrowing.proofs.Mapped.{AreServed-trans}
 use Rattle.wac_narrowing.proofs.Steps.{IsStep-refl, IsStep-trans, building_steps}
 use Rattle.wac_names.specs.Class.{Class, class_of}
 use Rattle.wac_call_lists.specs.Attempt.{Attempt}
+use Rattle.wac_call_lists.specs.WitList.{IsLeafItem}
 use Rattle.wac_narrowing.specs.Laws.{LeadsAlongArrows}
 use Rattle.wac_narrowing.specs.Remembers.{RemembersTruly}
 use Rattle.wac_narrowing.specs.State.{State, IsKept}
@@ -117,7 +120,7 @@ module _ (P : Key → Type 0) where
       at false g = Each-append P (item_keys e.1) (extern_keys (insert_entry bytes_eq es n m)) (Each-left P (item_keys e.1) (extern_keys es) h) g
 
   -- after some of other uses are put last
-  pub each_used : (p : String Global × UsedType → Bool) (us vs : List (String Global × UsedType)) → Each P (named_keys use_keys (named use_content us)) → Each P (named_keys use_keys (named use_content vs)) → Each P (named_keys use_keys (named use_content (us ++ filter p vs)))
+  each_used : (p : String Global × UsedType → Bool) (us vs : List (String Global × UsedType)) → Each P (named_keys use_keys (named use_content us)) → Each P (named_keys use_keys (named use_content vs)) → Each P (named_keys use_keys (named use_content (us ++ filter p vs)))
   each_used p [] [] h g = tt
   each_used p [] (v ∷ vs) h g = at (p v) (each_used p [] vs tt g.1)
     where
@@ -180,6 +183,14 @@ done_inside {A} shows all ys s t u r x start y is step =
 pub one_in : {X : Type 0} (x : X) (xs : List X) → Contains xs x → (p : X) → Contains (x ∷ []) p → Contains xs p
 one_in x xs m p one = elim (Contains-cases p x [] one) [ inl same ↦ subst (Contains xs) same m | inr none ↦ absurd (omega (arith, none.1)) ]
 
+-- what is in a list of one is that one
+pub one_alone : {X : Type 0} (x y : X) → Contains (x ∷ []) y → y ≡ x
+one_alone x y m = elim (Contains-cases y x [] m) [ inl same ↦ sym same | inr none ↦ absurd (omega (arith, none.1)) ]
+
+-- what holds of one item holds of each of a list of it alone
+pub one_all : (n : Text) (a : ItemKind) → IsLeafItem a → All (λ (t : Text × ItemKind). IsLeafItem t.1) ((n, a) ∷ [])
+one_all n a h = All-cons (λ (t : Text × ItemKind). IsLeafItem t.1) (n, a) [] h (All-nil (λ (t : Text × ItemKind). IsLeafItem t.1))
+
 -- ---- what is accounted for
 
 -- what stood stands
@@ -241,6 +252,39 @@ built_if_any c d o a b (Some m) sound sound_too only grows sa sb built st meet =
     (All-head fits (item_tree c b) [] (All-tail fits (item_tree c a) (item_tree c b ∷ []) meet.is_below))
     (λ t x y. meet.is_greatest t (below_both t (item_tree c a) (item_tree c b) x y))
 
+-- ---- greatest lower bounds, where nothing is asked under a name or something is
+
+-- what is asked of a name is served by the same
+serves_same : (o : Option ItemTree) → Serves Fits o o
+serves_same None = tt
+serves_same (Some t) = Fits-refl t
+
+serves_trans : (a b c : Option ItemTree) → Serves Fits a b → Serves Fits b c → Serves Fits a c
+serves_trans a b c h k = Serves-trans Fits a b c (λ v is x z g i. Fits-trans x v z g i) h k
+
+-- of what stands, and nothing else
+meet_alone : (o : Option ItemTree) → IsMeetIn (Serves Fits) o None (Some o)
+meet_alone o = (serves_same o, tt, λ t x y. x)
+
+-- of what stands and of one item
+meet_one : (c : Collection) (o : Option ItemKind) (a m : ItemTree) → Fits m a → ((b : ItemKind) → o ≡ Some b → Fits m (item_tree c b)) → ((t : ItemTree) → ((b : ItemKind) → o ≡ Some b → Fits t (item_tree c b)) → Fits t a → Fits t m)
+    → IsMeetIn (Serves Fits) (option_map (item_tree c) o) (Some a) (Some (Some m))
+meet_one c None a m fits before greatest = (tt, fits, λ t x y. by t y)
+  where
+    by : (t : Option ItemTree) → Serves Fits t (Some a) → Serves Fits t (Some m)
+    by None y = absurd y
+    by (Some t) y = greatest t (λ b is. absurd (cc)) y
+meet_one c (Some b) a m fits before greatest = (before b refl, fits, by)
+  where
+    by : (t : Option ItemTree) → Serves Fits t (Some (item_tree c b)) → Serves Fits t (Some a) → Serves Fits t (Some m)
+    by None x y = absurd x
+    by (Some t) x y = greatest t (λ other is. let same : b ≡ other = cc in subst (λ k. Fits t (item_tree c k)) same x) y
+
+-- of what was met with one, and then with another where there was none
+meet_then : (a x z m n : Option ItemTree) → IsMeetIn (Serves Fits) a x (Some m) → IsMeetIn (Serves Fits) m z (Some n) → ((t : ItemTree) → x ≡ Some t → z ≡ None) → IsMeetIn (Serves Fits) a (option_or x z) (Some n)
+meet_then a None z m n g h new = (serves_trans n m a h.0 g.0, h.1, λ t p q. h.2 t (g.2 t p tt) q)
+meet_then a (Some x) z m n g h new = (serves_trans n m a h.0 g.0, serves_trans n m (Some x) h.0 g.1, λ t p q. h.2 t (g.2 t p q) (subst (Serves Fits t) (sym (new x refl)) tt))
+
 -- of exports with no others, with one, and with one more
 pub met_none : (c : Collection) (es : Externs) → AllStand c (extern_keys es) → AreMetWith c c es [] es
 met_none c es st = record {
@@ -248,6 +292,8 @@ met_none c es st = record {
   stand = st;
   serve_first = served_same c c es (λ n y is. Fits-refl (item_tree c y));
   serve_second = λ n. tt;
+  meets = λ n. meet_alone (option_map (item_tree c) (lookup bytes_eq es n));
+  others = λ n none. refl;
   covered = λ ss g h k. h;
   accounts = λ at s kept all hx hy. (record { stays = accounted_none at (with_own s c) all; roots = none_roots at (with_own s c) all }, hx);
   along = λ ss rs from g h k. h;
@@ -255,15 +301,18 @@ met_none c es st = record {
 
 pub met_put : (c d : Collection) (es ms : Externs) (n : Text) (a m : ItemKind) → StepsOn c d → AllStand c (extern_keys es) → AllStand d (item_keys m) → Fits (item_tree d m) (item_tree c a)
     → ((b : ItemKind) → lookup bytes_eq es n ≡ Some b → Fits (item_tree d m) (item_tree c b))
+    → ((t : ItemTree) → ((b : ItemKind) → lookup bytes_eq es n ≡ Some b → Fits t (item_tree c b)) → Fits t (item_tree c a) → Fits t (item_tree d m))
     → ((ss : List Key) → IsGood c ss → Each (IsCovered c ss) (extern_keys es) → Each (IsCovered c ss) (item_keys a) → Each (IsCovered d ss) (item_keys m))
     → ((at : Attempt) (s : State) → IsKept (with_own s c) → (all : IsAccounted at (with_own s c)) → AreOpenItems at (with_own s c) es → IsOpenItem at (with_own s c) n a → StaysAlong at (with_own s c) (with_own s d) all × IsOpenItem at (with_own s d) n m)
     → ((ss : List Key) (rs : List Root) (from : Class) → IsGood c ss → Each (LeadsAlongArrows c ss rs from) (extern_keys es) → Each (LeadsAlongArrows c ss rs from) (item_keys a) → Each (LeadsAlongArrows d ss rs from) (item_keys m))
     → ms ≡ insert_entry bytes_eq es n m → AreMetWith c d es ((n, a) ∷ []) ms
-met_put c d es ms n a m on st sm fits before covers opens leads put = record {
+met_put c d es ms n a m on st sm fits before greatest covers opens leads put = record {
   on = on;
   stand = rw put (each_put (Stands d) es n m (AllStand-Extends c d on.grows (extern_keys es) st) sm);
   serve_first = λ q. rw (found q) (first q (bytes_eq q n) refl (lookup bytes_eq es q) refl);
   serve_second = λ q. rw (found q) (second (bytes_eq q n) (lookup bytes_eq es q));
+  meets = λ q. rw (found q) (met q (bytes_eq q n) refl);
+  others = λ q none. found q ∙ other (bytes_eq q n) (lookup bytes_eq es q) none;
   covered = λ ss g h k. rw put (each_put (IsCovered d ss) es n m (covered_on c d on ss g (extern_keys es) st h) (covers ss g h (Each-left (IsCovered c ss) (item_keys a) [] k)));
   accounts = λ at s kept all hx hy.
       let r = opens at s kept all hx (hy n a (Contains-first (n, a) [])) in
@@ -289,16 +338,37 @@ met_put c d es ms n a m on st sm fits before covers opens leads put = record {
     first q false e None is = tt
     first q false e (Some y) is = subst (λ t. Fits t (item_tree c y)) (sym (on.grows.trees y (each_found (Stands c) es q y is st))) (Fits-refl (item_tree c y))
 
+    same_trees : (q : Text) (o : Option ItemKind) → lookup bytes_eq es q ≡ o → option_map (item_tree d) o ≡ option_map (item_tree c) o
+    same_trees q None is = refl
+    same_trees q (Some y) is = ap (λ t. Some t) (on.grows.trees y (each_found (Stands c) es q y is st))
+
+    met : (q : Text) (b : Bool) → bytes_eq q n ≡ b → IsMeetIn (Serves Fits) (option_map (item_tree c) (lookup bytes_eq es q)) (option_map (item_tree c) (cond b (Some a) None)) (Some (option_map (item_tree d) (cond b (Some m) (lookup bytes_eq es q))))
+    met q true e = subst (λ r. IsMeetIn (Serves Fits) (option_map (item_tree c) (lookup bytes_eq es r)) (Some (item_tree c a)) (Some (Some (item_tree d m)))) (sym ((bytes_eq-Decides q n).0 e))
+        (meet_one c (lookup bytes_eq es n) (item_tree c a) (item_tree d m) fits before greatest)
+    met q false e = subst (λ o. IsMeetIn (Serves Fits) (option_map (item_tree c) (lookup bytes_eq es q)) None (Some o)) (sym (same_trees q (lookup bytes_eq es q) refl)) (meet_alone (option_map (item_tree c) (lookup bytes_eq es q)))
+
+    other : (b : Bool) (o : Option ItemKind) → cond b (Some a) None ≡ None → cond b (Some m) o ≡ o
+    other true o none = absurd (cc)
+    other false o none = refl
+
     second : (b : Bool) (o : Option ItemKind) → Serves (λ x y. Fits (item_tree d x) (item_tree c y)) (cond b (Some m) o) (cond b (Some a) None)
     second true o = fits
     second false o = tt
 
-pub met_then : (c d e : Collection) (es xs ms ns : Externs) (n : Text) (a : ItemKind) → AllStand c (extern_keys es) → AllStand c (item_keys a) → AreMetWith c d es xs ms → AreMetWith d e ms ((n, a) ∷ []) ns → AreMetWith c e es (xs ++ (n, a) ∷ []) ns
-met_then c d e es xs ms ns n a st sa g h = record {
+pub met_then : (c d e : Collection) (es xs ms ns : Externs) (n : Text) (a : ItemKind) → lookup bytes_eq xs n ≡ None → AllStand c (extern_keys es) → AllStand c (item_keys a) → AreMetWith c d es xs ms → AreMetWith d e ms ((n, a) ∷ []) ns → AreMetWith c e es (xs ++ (n, a) ∷ []) ns
+met_then c d e es xs ms ns n a absent st sa g h = record {
   on = StepsOn-trans c d e g.on h.on;
   stand = h.stand;
   serve_first = AreServed-trans e d c ns ms es h.serve_first g.serve_first;
   serve_second = served_append e c ns xs ((n, a) ∷ []) (AreServed-trans e d c ns ms xs h.serve_first g.serve_second) (served_from c d g.on e ns ((n, a) ∷ []) (Each-append (Stands c) (item_keys a) [] sa tt) h.serve_second);
+  meets = λ q.
+      rw (lookup-append bytes_eq xs ((n, a) ∷ []) q)
+      (subst (λ o. IsMeetIn (Serves Fits) (option_map (item_tree c) (lookup bytes_eq es q)) o (Some (option_map (item_tree e) (lookup bytes_eq ns q)))) (map_or (lookup bytes_eq xs q) (lookup bytes_eq ((n, a) ∷ []) q))
+      (meet_then (option_map (item_tree c) (lookup bytes_eq es q)) (option_map (item_tree c) (lookup bytes_eq xs q)) (option_map (item_tree c) (lookup bytes_eq ((n, a) ∷ []) q)) (option_map (item_tree d) (lookup bytes_eq ms q)) (option_map (item_tree e) (lookup bytes_eq ns q))
+      (g.meets q) (subst (λ o. IsMeetIn (Serves Fits) (option_map (item_tree d) (lookup bytes_eq ms q)) o (Some (option_map (item_tree e) (lookup bytes_eq ns q)))) (one_tree q) (h.meets q)) (new q)));
+  others = λ q none.
+      let parts = none_or (lookup bytes_eq xs q) (lookup bytes_eq ((n, a) ∷ []) q) (sym (lookup-append bytes_eq xs ((n, a) ∷ []) q) ∙ none) in
+      h.others q parts.1 ∙ g.others q parts.0;
   covered = λ ss good k j.
       h.covered ss (g.on.steps ss good).good (g.covered ss good k (first_externs (IsCovered c ss) xs ((n, a) ∷ []) j))
       (covered_on c d g.on ss good (item_keys a ++ []) (Each-append (Stands c) (item_keys a) [] sa tt) (last_externs (IsCovered c ss) xs ((n, a) ∷ []) j));
@@ -312,6 +382,30 @@ met_then c d e es xs ms ns n a st sa g h = record {
       h.along ss rs from (g.on.steps ss good).good (g.along ss rs from good k (first_externs (LeadsAlongArrows c ss rs from) xs ((n, a) ∷ []) j))
       (along_on c d g.on.grows ss rs from good (item_keys a ++ []) (Each-append (Stands c) (item_keys a) [] sa tt) (last_externs (LeadsAlongArrows c ss rs from) xs ((n, a) ∷ []) j));
 }
+  where
+    -- the item has its tree
+    one_tree : (q : Text) → option_map (item_tree d) (lookup bytes_eq ((n, a) ∷ []) q) ≡ option_map (item_tree c) (lookup bytes_eq ((n, a) ∷ []) q)
+    one_tree q = by (bytes_eq q n)
+      where
+        by : (b : Bool) → option_map (item_tree d) (cond b (Some a) None) ≡ option_map (item_tree c) (cond b (Some a) None)
+        by true = ap (λ t. Some t) (g.on.grows.trees a sa)
+        by false = refl
+
+    -- where there was one, this isn't it
+    new : (q : Text) (t : ItemTree) → option_map (item_tree c) (lookup bytes_eq xs q) ≡ Some t → option_map (item_tree c) (lookup bytes_eq ((n, a) ∷ []) q) ≡ None
+    new q t is = by (bytes_eq q n) refl
+      where
+        by : (b : Bool) → bytes_eq q n ≡ b → option_map (item_tree c) (cond b (Some a) None) ≡ None
+        by true same = absurd (let none : None ≡ Some t = sym (ap (option_map (item_tree c)) (ap (lookup bytes_eq xs) ((bytes_eq-Decides q n).0 same) ∙ absent)) ∙ is in cc)
+        by false other = refl
+
+    map_or : (x z : Option ItemKind) → option_or (option_map (item_tree c) x) (option_map (item_tree c) z) ≡ option_map (item_tree c) (option_or x z)
+    map_or None z = refl
+    map_or (Some y) z = refl
+
+    none_or : (x z : Option ItemKind) → option_or x z ≡ None → (x ≡ None) × (z ≡ None)
+    none_or None z h = (refl, h)
+    none_or (Some y) z h = absurd (cc)
 
 -- what stands under distinct names is found by them
 pub found_among : (es : Externs) → IsDistinct bytes_eq (keys_of es) → AreFound es
@@ -324,3 +418,8 @@ found_by es h = found_among (named (λ k. k) es) (IsDistinct-shown string_bytes 
 -- uses that were put last
 pub uses_put : (us vs : List (String Global × UsedType)) → named use_content (with_new (λ s t. bytes_eq (string_bytes s) (string_bytes t)) us vs) ≡ uses_of_both (named use_content us) (named use_content vs)
 uses_put us vs = with_new-shown string_bytes use_content (λ s t. bytes_eq (string_bytes s) (string_bytes t)) bytes_eq (λ k l. refl) us vs
+
+-- so what both name is what either does
+pub with_new_named : (us vs ws : List (String Global × UsedType)) → ws ≡ with_new (λ s t. bytes_eq (string_bytes s) (string_bytes t)) us vs → (P : Key → Type 0)
+    → Each P (named_keys use_keys (named use_content us)) → Each P (named_keys use_keys (named use_content vs)) → Each P (named_keys use_keys (named use_content ws))
+with_new_named us vs ws is P h g = subst (λ l. Each P (named_keys use_keys (named use_content l))) (sym is) (each_used P _ us vs h g)

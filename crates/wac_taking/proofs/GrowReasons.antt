@@ -21,7 +21,7 @@ use Rattle.wac_taking.proofs.GrowAccounts.{grows_touching, old_items_open, old_u
 use Rattle.wac_taking.proofs.Grows.{new_named}
 use Rattle.wac_taking.proofs.MergeReasons.{one_reason, uses_refused}
 use Rattle.wac_taking.proofs.Plain.{not_plain_interface}
-use Rattle.wac_taking.proofs.TakeLemmas.{lookup-shared}
+use Rattle.wac_taking.proofs.TakeLemmas.{lookup-shared, not_known}
 
 module _ (f : Collection) (a : Merging) (may : MayTake f a) (p e : Id) (name : Text) (us : List (Text × UseContent)) (es : Externs) (put : MayPut f a p us es) (identified : identifier_at f (interface_key p) ≡ Some name) (shared : shared_in a.shared.entries (class_of name) ≡ Some e)
     (old : InterfaceContent) (was : slice_get a.types.interfaces e.index ≡ Some old) where
@@ -38,6 +38,7 @@ module _ (f : Collection) (a : Merging) (may : MayTake f a) (p e : Id) (name : T
   pub grown_uses_refused : (r : AggregateError) → AreRefusedLists a.types old.uses us r → IsRefused f a (interface_key p ∷ []) r
   grown_uses_refused r h ne = record {
     plain = not_plain_interface f p name identified;
+    known = λ all. absurd (not_known f a (interface_key p) name identified put.absent all);
     reason = λ at trial all by.
         uses_refused at (state_of a) old.uses us r (inr (grows_touching at f (state_of a) p e put.content us es name filed.0 may.kept trial all put.taken put.used identified put.absent among filed.1 filed.2))
         (old_uses_open at f (state_of a) p e put.content us es name filed.0 may.kept trial all put.taken put.used identified put.absent among filed.1 filed.2 old was)
@@ -49,8 +50,9 @@ module _ (f : Collection) (a : Merging) (may : MayTake f a) (p e : Id) (name : T
   pub grown_items_refused : (r : AggregateError) → AreFound es → AreRefusedItems a.types old.exports es r → IsRefused f a (interface_key p ∷ []) r
   grown_items_refused r found h ne = record {
     plain = not_plain_interface f p name identified;
+    known = λ all. absurd (not_known f a (interface_key p) name identified put.absent all);
     reason = λ at trial all by.
-        h ne at (state_of a) may.kept all
+        (h ne).reason at (state_of a) may.kept all
         (old_items_open at f (state_of a) p e put.content us es name filed.0 may.kept trial all put.taken put.used identified put.absent among filed.1 filed.2 old was)
         (new_items_open at f (state_of a) p e put.content us es name filed.0 may.kept trial all put.taken put.used identified put.absent among filed.1 filed.2 found)
         (grows_touching at f (state_of a) p e put.content us es name filed.0 may.kept trial all put.taken put.used identified put.absent among filed.1 filed.2);
@@ -62,6 +64,7 @@ module _ (f : Collection) (a : Merging) (may : MayTake f a) (p e : Id) (name : T
       → new.uses ≡ uses_of_both old.uses us → AreFound es → AreFound new.exports → NamesReach d (interface_keys new) (interface_key e) → (r : AggregateError) → said r ≡ Some (cycle name) → IsRefused f a (interface_key p ∷ []) r
   grown_cycle_refused new old_named same_id uses d met uses_are found new_found reach r says ne = record {
     plain = not_plain_interface f p name identified;
+    known = λ all. absurd (not_known f a (interface_key p) name identified put.absent all);
     reason = λ at trial all by.
         one_reason at r (cycle name) says
         (cycle_refused at f (state_of a) p e put.content us es name filed.0 may.kept trial all put.taken put.used identified put.absent among filed.1 filed.2 old new was d met uses_are found new_found old_named uses

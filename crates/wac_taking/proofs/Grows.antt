@@ -36,8 +36,7 @@ use Rattle.wac_taking.specs.declared.state.Merging.{Merging}
 use Rattle.wac_taking.proofs.Enters.{interface_owners}
 use Rattle.wac_taking.proofs.GrowAccounts.{grown_accounted}
 use Rattle.wac_taking.proofs.GrowLemmas.{covered_on, served_on}
-use Rattle.wac_taking.proofs.Plain.{not_plain_interface}
-use Rattle.wac_taking.proofs.TakeLemmas.{lookup-shared, shared_stands, shared_covered, content_identifier, AreFiledIn-run, Takes-entered}
+use Rattle.wac_taking.proofs.TakeLemmas.{lookup-shared, shared_stands, shared_covered, content_identifier, AreFiledIn-run, Takes-entered, not_known}
 
 -- the entry of an id, by the list of its sort
 pub entry_of : (c : Collection) (e : Id) (x : InterfaceContent) → entry_at c (interface_key e) ≡ Some (interface_entry x) → slice_get c.interfaces e.index ≡ Some x
@@ -134,6 +133,6 @@ module _ (f : Collection) (a : Merging) (may : MayTake f a) (p e : Id) (name : T
       (served_on a.types d met.on d new.exports es (Each-right (Stands a.types) (named_keys use_keys us) (extern_keys es) taken_named) met.serve_second) acyclic is refl refl refl put.taken.stands.0 adds in
       let whole = Runs-trans (RemembersTruly class_of) f (state_of a) mid t run enters.run in
       Takes-entered f a (record a { types = w; taken = n }) (interface_key p) (interface_key e) put.taken.sound put.taken.stands adds refl (AreFiledIn-run f (state_of a) t a.shared.entries may.kept refl whole may.filed) (λ k m. inl m)
-      (λ q. absurd (not_plain_interface f p name identified q))
+      (λ all. absurd (not_known f a (interface_key p) name identified put.absent all))
       (interface_owners f (state_of a) put.taken.sound may.kept p put.content z put.taken) (record { run = whole; taken = enters.taken })
       (λ at trial all. grown_accounted at f (state_of a) p e put.content us es name filed.0 may.kept trial all put.taken put.used identified put.absent among filed.1 filed.2 old new was d met uses_are found new_found t old_named uses can acyclic is refl refl refl adds own_is)

@@ -1,5 +1,5 @@
 -- What is met is open where both items are, and what can't be met gives a reason.
-use Rattle.std.proofs.Common.{◌≡◌, ◌⊎◌, inl, inr, List, [], ◌∷◌, Some, refl, sym, subst, ◌∙◌}
+use Rattle.std.proofs.Common.{◌≡◌, ◌⊎◌, inl, inr, All, Contains, List, [], ◌∷◌, Some, None, refl, ap, sym, subst, ◌∙◌}
 use Rattle.wac_model.specs.Text.{Text}
 use Rattle.wac_component.specs.Collection.{Collection, UseContent}
 use Rattle.wac_component.specs.Entries.{uses_at}
@@ -31,9 +31,17 @@ use Rattle.wac_model.specs.Order.{Fits}
 use Rattle.wac_component.specs.Growth.{Extends}
 use Rattle.wac_component.specs.Tree.{item_tree}
 use Rattle.wac_call_lists.specs.TreeSets.{HaveNoLowerBound}
-use Rattle.wac_taking.proofs.GrowLemmas.{below_both}
-use Rattle.wac_taking.specs.Growing.{IsMetWith, AreApartIn, with_own, StaysAlong}
-use Rattle.wac_taking.specs.Refused.{said, HasReason, SaysUsesDiffer, of_interfaces, of_names, UsesDiffer, SaysMismatch}
+use Rattle.std.proofs.lemmas.List.Elements.{All-head}
+use Rattle.std.specs.Str.{bytes_eq}
+use Rattle.wac_model.specs.Text.{lookup}
+use Rattle.wac_component.proofs.Among.{Contains-first, each_found}
+use Rattle.wac_call_lists.specs.WitList.{IsLeafItem}
+use Rattle.wac_call_lists.proofs.ByUses.{leaf_item, leaf_uses}
+use Rattle.wac_merge.specs.Items.{Externs, extern_keys}
+use Rattle.wac_taking.proofs.UseLemmas.{second_uses}
+use Rattle.wac_taking.proofs.GrowLemmas.{below_both, one_alone}
+use Rattle.wac_taking.specs.Growing.{IsMetWith, AreMetWith, AreApartIn, with_own, StaysAlong}
+use Rattle.wac_taking.specs.Refused.{said, HasReason, SaysUsesDiffer, of_interfaces, of_names, UsesDiffer, SaysMismatch, HasApartLeaves}
 
 -- what is open and comes from sources, and what is open, and comes from sources
 module _ (at : Attempt) (s : State) where
@@ -101,6 +109,30 @@ entries_refused at s ks js e meets kept sk sj hk hj h =
 -- the ids in an open item are open
 pub item_open : (at : Attempt) (s : State) (n : Text) (x : ItemKind) → IsOpenItem at s n x → Each (IsOpenSource at s) (item_keys x)
 item_open at s n x h = both_each at s (item_keys x) h.item.keys h.opens
+
+-- a leaf that is refused has no common lower bound with the other item
+pub leaf_apart : (c : Collection) (x y : ItemKind) (e : AggregateError) → IsLeafItem y → UsesDiffer c (item_keys x) (item_keys y) e ⊎ SaysMismatch c x y e → HaveNoLowerBound (item_tree c x) (item_tree c y)
+leaf_apart c x y e leaf (inl uses) = absurd (second_uses c (uses_at c uses.first) (uses_at c uses.second) e uses.differ (leaf_uses c uses.second.sort uses.second.id (leaf_item y uses.second leaf uses.among_second)))
+leaf_apart c x y e leaf (inr clash) = clash.no_bound
+
+pub leaves_apart : (c : Collection) (es : Externs) (n : Text) (x y : ItemKind) (e : AggregateError) → lookup bytes_eq es n ≡ Some x → UsesDiffer c (item_keys x) (item_keys y) e ⊎ SaysMismatch c x y e → All (λ (t : Text × ItemKind). IsLeafItem t.1) ((n, y) ∷ []) → HasApartLeaves c es ((n, y) ∷ [])
+leaves_apart c es n x y e is h leaves = record { name = n; first = x; second = y; is_first = is; is_second = Contains-first (n, y) []; no_bound = leaf_apart c x y e (All-head (λ (t : Text × ItemKind). IsLeafItem t.1) (n, y) [] leaves) h }
+
+-- those that are apart in more entries, and later in a list, are so here
+pub leaves_apart_on : (c d : Collection) (es ms xs ys : Externs) (n : Text) (a : ItemKind) → AreMetWith c d es xs ms → lookup bytes_eq xs n ≡ None → AllStand c (extern_keys es) → AllStand c (item_keys a) → Contains ys (n, a) → HasApartLeaves d ms ((n, a) ∷ []) → HasApartLeaves c es ys
+leaves_apart_on c d es ms xs ys n a met absent st sa among h =
+    let same : (h.name, h.second) ≡ (n, a) = one_alone (n, a) (h.name, h.second) h.is_second in
+    let named : h.name ≡ n = ap (λ (p : Text × ItemKind). p.0) same in
+    let is : h.second ≡ a = ap (λ (p : Text × ItemKind). p.1) same in
+    let first : lookup bytes_eq es n ≡ Some h.first = sym (met.others n absent) ∙ ap (lookup bytes_eq ms) (sym named) ∙ h.is_first in
+    record {
+      name = n;
+      first = h.first;
+      second = a;
+      is_first = first;
+      is_second = among;
+      no_bound = λ t x y. h.no_bound t (subst (Fits t) (sym (met.on.grows.trees h.first (each_found (Stands c) es n h.first first st))) x) (subst (λ k. Fits t (item_tree d k)) (sym is) (subst (Fits t) (sym (met.on.grows.trees a sa)) y));
+    }
 
 -- items under one name that are refused, where the item of the call touches
 pub merge_refused : (c : Collection) (at : Attempt) (s : State) (n : Text) (x y : ItemKind) (e : AggregateError) → IsKept (with_own s c) → Touches at → IsOpenItem at (with_own s c) n x → IsOpenItem at (with_own s c) n y

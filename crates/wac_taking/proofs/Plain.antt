@@ -1,5 +1,5 @@
 -- Ids that reach no interface with an identifier, no uses, and no resource with an owner.
-use Rattle.std.proofs.Common.{◌≡◌, ℕ, zero, suc, List, [], ◌∷◌, Some, None, Contains, slice_get, String, Global, string_bytes, refl, sym, subst, ◌∙◌}
+use Rattle.std.proofs.Common.{◌≡◌, inl, inr, ℕ, zero, suc, List, [], ◌∷◌, Some, None, Contains, slice_get, String, Global, string_bytes, refl, sym, subst, ◌∙◌}
 use Rattle.std.specs.Option.{option_map}
 use Rattle.wac_model.specs.Text.{Text}
 use Rattle.wac_component.specs.Collection.{Collection, UseContent}
@@ -17,14 +17,18 @@ use Rattle.wac_component.proofs.Returns.{Reaches-trans}
 use Rattle.wac_call_lists.specs.PlainList.{ArePlain}
 use Rattle.wac_narrowing.specs.Identified.{IsQuiet}
 use Rattle.wac_taking.proofs.Identifiers.{is_interface, has_identifier}
-use Rattle.wac_taking.specs.Takes.{AreWithin, LeadsToOwner, OnlyAdds}
+use Rattle.wac_taking.specs.Takes.{AreWithin, LeadsToOwner, AreKnown, OnlyGrows}
 use Rattle.wac_taking.specs.declared.state.Merging.{Merging}
 
-pub OnlyAdds-refl : (a : Merging) → OnlyAdds a a
-OnlyAdds-refl a = record { grows = Extends-refl a.types; shared = refl; imports = refl }
+pub OnlyGrows-refl : (f : Collection) (a : Merging) → OnlyGrows f a a
+OnlyGrows-refl f a = record { grows = Extends-refl a.types; shared = refl; noted = λ k o is. inl is }
 
-pub OnlyAdds-trans : (a b c : Merging) → OnlyAdds a b → OnlyAdds b c → OnlyAdds a c
-OnlyAdds-trans a b c g h = record { grows = Extends-trans a.types b.types c.types g.grows h.grows; shared = h.shared ∙ g.shared; imports = h.imports ∙ g.imports }
+pub OnlyGrows-trans : (f : Collection) (a b c : Merging) → OnlyGrows f a b → OnlyGrows f b c → OnlyGrows f a c
+OnlyGrows-trans f a b c g h = record {
+  grows = Extends-trans a.types b.types c.types g.grows h.grows;
+  shared = h.shared ∙ g.shared;
+  noted = λ k o is. elim (h.noted k o is) [ inl was ↦ g.noted k o was | inr new ↦ inr new ];
+}
 
 -- what stands at an index of a list is in it
 pub contains_at : {A : Type 0} (xs : List A) (i : ℕ) (x : A) → slice_get xs i ≡ Some x → Contains xs x
@@ -55,6 +59,12 @@ module _ (f : Collection) where
   not_plain_interface i n is p =
       let none = p.no_identifier i (interface_key i, here, stay) in
       let both : None ≡ Some n = sym none ∙ has_identifier f (interface_key i) n is in cc
+
+  -- so there is nothing to take in before
+  pub plain_known : (a : Merging) (ks : List Key) → ArePlain f ks → AreKnown f a ks
+  plain_known a ks p t n walk is =
+      let none = p.no_identifier t.id (subst (NamesReach f ks) (is_interface f t n is) (walk.0, walk.1, opens_reach f walk.0 t walk.2)) in
+      let both : None ≡ Some n = sym none ∙ has_identifier f t n is in absurd (cc)
 
   -- none openly leads to one
   pub plain_quiet : (ks : List Key) → ArePlain f ks → Each (IsQuiet f) ks

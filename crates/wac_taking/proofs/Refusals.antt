@@ -16,11 +16,11 @@ use Rattle.wac_call_lists.specs.Reason.{no_identifier, owner_without_identifier,
 use Rattle.wac_narrowing.specs.State.{State}
 use Rattle.wac_reasons.specs.Trial.{IsAccounted}
 use Rattle.wac_refusals.specs.declared.error.AggregateError.{AggregateError}
-use Rattle.wac_taking.specs.Refused.{said, IsRefusedBy, IsRefused, AreRefusedUses}
+use Rattle.wac_taking.specs.Refused.{said, IsOfUnidentified, IsRefusedBy, IsRefused, AreRefusedUses}
 use Rattle.wac_taking.specs.Takes.{state_of, AreNear, MayTake, AreWithin, OpenlyFrom, TakesBy}
 use Rattle.wac_taking.specs.declared.state.Merging.{Merging}
 use Rattle.wac_taking.proofs.Plain.{plain_within, contains_at}
-use Rattle.wac_taking.proofs.TakeLemmas.{trial_within, near_still, near_none}
+use Rattle.wac_taking.proofs.TakeLemmas.{known_within, known_still, trial_within, near_still, near_none}
 
 module _ (f : Collection) where
   -- what refuses a part refuses the whole
@@ -29,6 +29,7 @@ module _ (f : Collection) where
       let r = h ne in
       record {
         plain = λ p. r.plain (plain_within f ks js within p);
+        known = λ all. r.known (known_within f a ks js within all);
         reason = λ at trial all by. r.reason at (trial_within at f ks js within trial) all by;
       }
 
@@ -38,6 +39,7 @@ module _ (f : Collection) where
       let r = h ne in
       record {
         plain = λ p. r.plain (plain_within f ks js within p);
+        known = λ all. r.known (known_within f b ks js within (known_still f a b js g.run all));
         reason = λ at trial all by.
             let one = g.accounts at (trial_within at f ls js first trial) all by in
             r.reason at (trial_within at f ks js within trial) one.now (near_still at a b near (g.run.narrows may.kept).standing one by);
@@ -45,7 +47,7 @@ module _ (f : Collection) where
 
   -- what is near to a part is near if what is near to the whole is
   pub refused_near : (near others : List Key) (a : Merging) (ks : List Key) (e : AggregateError) → ((at : Attempt) → IsAccounted at (state_of a) → AreNear at a others → AreNear at a near) → IsRefusedBy near f a ks e → IsRefusedBy others f a ks e
-  refused_near near others a ks e of h ne = let r = h ne in record { plain = r.plain; reason = λ at trial all by. r.reason at trial all (of at all by) }
+  refused_near near others a ks e of h ne = let r = h ne in record { plain = r.plain; known = r.known; reason = λ at trial all by. r.reason at trial all (of at all by) }
 
   -- whatever is near
   pub refused_apart : {near : List Key} (a : Merging) (ks : List Key) (e : AggregateError) → IsRefused f a ks e → IsRefusedBy near f a ks e
@@ -63,6 +65,10 @@ error_passed_on (Err y) Q e h q = subst Q (sym h.1) q
 -- what refuses a part, passed on
 pub refused_part : {X : Type 0} {near : List Key} (f : Collection) (a : Merging) (ks js : List Key) (r : Result X AggregateError) (P : X → Type 0) (e : AggregateError) → AreWithin f ks js → IsRefusedBy near f a ks e → IsErr r × IsErrAnd r (λ y. y ≡ e) → MatchResult r P (IsRefusedBy near f a js)
 refused_part {near = near} f a ks js r P e within h err = passed_on r P (IsRefusedBy near f a js) e err (refused_within f a ks js e within h)
+
+-- the same where the part is the whole, whatever is near
+pub refused_item : {X : Type 0} (near : List Key) (f : Collection) (a : Merging) (ks js : List Key) (r : Result X AggregateError) (P : X → Type 0) (e : AggregateError) → js ≡ ks → IsRefused f a ks e → IsErr r × IsErrAnd r (λ y. y ≡ e) → MatchResult r P (IsRefusedBy near f a js)
+refused_item near f a ks js r P e same h err = passed_on r P (IsRefusedBy near f a js) e err (subst (λ l. IsRefusedBy near f a l e) (sym same) (refused_apart f a ks e h))
 
 -- the same, after others were taken in
 pub refused_then : {X : Type 0} {near : List Key} (f : Collection) (a b : Merging) (top : ℕ) (ls ks js : List Key) (Q : State → Type 0) (r : Result X AggregateError) (P : X → Type 0) (e : AggregateError) → AreWithin f ls js → AreWithin f ks js → MayTake f a → TakesBy near f a b top ls Q → IsRefusedBy near f b ks e
@@ -90,6 +96,7 @@ refused_owner f a r o x e at owned none says ne = record {
   plain = λ p.
       let unowned = p.no_owner r (resource_key r, here, stay) in
       absurd (let both : None ≡ Some o = sym unowned ∙ owned in cc);
+  known = λ all s said_is. let same : s ≡ owner_without_identifier x.name = let both : Some s ≡ Some (owner_without_identifier x.name) = sym said_is ∙ says in cc in subst IsOfUnidentified (sym same) tt;
   reason = λ tried trial all by s said_is.
       let same : s ≡ owner_without_identifier x.name = let both : Some s ≡ Some (owner_without_identifier x.name) = sym said_is ∙ says in cc in
       let there : (c : Collection) → Type 0 = λ c. (slice_get c.resources r.index ≡ Some x) × (owner_at c r ≡ Some o) × (identifier c o ≡ None) in
@@ -103,6 +110,7 @@ refused_use f a us i name u e at none says k are ne = record {
   plain = λ p.
       let no_uses : us ≡ [] = sym are ∙ p.no_uses k (k, here, stay) in
       absurd (let both : None ≡ Some (name, u) = sym (ap (λ vs. slice_get vs i) no_uses) ∙ at in cc);
+  known = λ all s said_is. let same : s ≡ no_identifier name = let both : Some s ≡ Some (no_identifier name) = sym said_is ∙ says in cc in subst IsOfUnidentified (sym same) tt;
   reason = λ tried trial all by s said_is.
       let same : s ≡ no_identifier name = let both : Some s ≡ Some (no_identifier name) = sym said_is ∙ says in cc in
       let has = subst (λ vs. Contains vs (name, u)) (sym are) (contains_at us i (name, u) at) in

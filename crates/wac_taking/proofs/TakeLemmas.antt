@@ -37,11 +37,12 @@ use Rattle.wac_reasons.proofs.EntryAccounts.{IsMadeFrom, made_accounted}
 use Rattle.wac_copies.specs.Copies.{IsState, MayCopy, Copies, moved}
 use Rattle.wac_copies.specs.Memo.{memo_of}
 use Rattle.wac_copies.specs.declared.memo.Memo.{Memo}
-use Rattle.wac_taking.specs.Takes.{shared_keys, shared_in, state_of, AreFiledIn, MayTake, AreWithin, LeadsToOwner, OwnersImported, IsOwnersImport, IsSharedFrom, IsOwnerImported, OnlyAdds, TakesBy, AreNear, Takes}
+use Rattle.wac_taking.specs.Takes.{shared_keys, shared_in, state_of, AreFiledIn, MayTake, AreWithin, LeadsToOwner, OwnersImported, IsOwnersImport, IsSharedFrom, IsOwnerImported, AreKnown, OnlyGrows, TakesBy, AreNear, Takes}
 use Rattle.wac_taking.specs.declared.state.Merging.{Merging}
 use Rattle.wac_component.proofs.Adding.{Extends-with_entry}
+use Rattle.wac_component.proofs.Extended.{Extends-refl}
 use Rattle.wac_call_lists.specs.PlainList.{ArePlain}
-use Rattle.wac_taking.proofs.Plain.{OnlyAdds-refl, OnlyAdds-trans, plain_within, not_plain_owner}
+use Rattle.wac_taking.proofs.Plain.{OnlyGrows-refl, OnlyGrows-trans, plain_within, plain_known, not_plain_owner}
 use Rattle.wac_taking.proofs.Within.{within_all, openly_within, leads_within}
 
 -- what is found is shared
@@ -109,6 +110,20 @@ module _ (f : Collection) (b : Merging) (ks js : List Key) (within : AreWithin f
   pub shared_from_within : (e : Key) → IsSharedFrom f ks b e → IsSharedFrom f js b e
   shared_from_within e h = record { theirs = h.theirs; name = h.name; walk = openly_within f ks js h.theirs within h.walk; identified = h.identified; own_identified = h.own_identified }
 
+  -- what is known of them is known of those
+  pub known_within : AreKnown f b js → AreKnown f b ks
+  known_within h t n walk is = h t n (openly_within f ks js t within walk) is
+
+-- what was taken in is so still
+pub known_still : (f : Collection) (a b : Merging) (ks : List Key) → Runs (RemembersTruly class_of) f (state_of a) (state_of b) → AreKnown f a ks → AreKnown f b ks
+known_still f a b ks run h t n walk is = let o = h t n walk is in (o.0, run.taken t o.0 o.1)
+
+-- an interface with an identifier that was not taken in is not known
+pub not_known : (f : Collection) (a : Merging) (k : Key) (n : Text) → identifier_at f k ≡ Some n → memo_of a.taken k ≡ None → AreKnown f a (k ∷ []) → ⊥
+not_known f a k n is absent h =
+    let o = h k n (k, here, stay) is in
+    let both : None ≡ Some o.0 = sym absent ∙ o.1 in cc
+
 -- ---- what is tried, and what is near
 
 -- a call whose item openly reaches ids openly reaches those to which they lead
@@ -152,7 +167,8 @@ module _ (f : Collection) {near : List Key} where
     stays = λ c i is. is;
     due = λ c i is. inl is;
     shares = λ e among. inl among;
-    plain = λ p. OnlyAdds-refl a;
+    plain = λ p. refl;
+    known = λ all. OnlyGrows-refl f a;
     accounts = λ at trial all h. accounted_none at (state_of a) all;
     holds = q;
   }
@@ -169,6 +185,7 @@ module _ (f : Collection) {near : List Key} where
     due = λ q i is. elim (h.due q i is) [ inl was ↦ inl was | inr new ↦ inr (owners_import_within f b ks js within q i.0 new) ];
     shares = λ e among. elim (h.shares e among) [ inl was ↦ inl was | inr new ↦ inr (shared_from_within f b ks js within e new) ];
     plain = λ p. h.plain (plain_within f ks js within p);
+    known = λ all. h.known (known_within f a ks js within all);
     accounts = λ at trial all by. h.accounts at (trial_within at f ks js within trial) all by;
     holds = p (state_of b) (h.run.kept may.kept) h.holds;
   }
@@ -199,7 +216,8 @@ module _ (f : Collection) {near : List Key} where
           ]
           | inr new ↦ inr (shared_from_within f c js ls second e new)
         ];
-        plain = λ p. OnlyAdds-trans a b c (g.plain (plain_within f ks ls first p)) (h.plain (plain_within f js ls second p));
+        plain = λ p. h.plain (plain_within f js ls second p) ∙ g.plain (plain_within f ks ls first p);
+        known = λ all. OnlyGrows-trans f a b c (g.known (known_within f a ks ls first all)) (h.known (known_within f b js ls second (known_still f a b ls g.run all)));
         accounts = λ at trial all by.
             let standing = (g.run.narrows may.kept).standing in
             let one = g.accounts at (trial_within at f ks ls first trial) all by in
@@ -235,6 +253,7 @@ module _ (f : Collection) where
     due = h.due;
     shares = h.shares;
     plain = h.plain;
+    known = h.known;
     accounts = λ at trial all by. h.accounts at trial all (of at all by);
     holds = h.holds;
   }
@@ -242,6 +261,10 @@ module _ (f : Collection) where
   -- it holds where nothing is near
   pub Takes-apart : {near : List Key} (a b : Merging) (top : ℕ) (ks : List Key) (Q : State → Type 0) → Takes f a b top ks Q → TakesBy near f a b top ks Q
   Takes-apart {near} a b top ks Q h = Takes-near [] near a b top ks Q (λ at all by. near_none at a) h
+
+  -- where the ids are plain, entries are only added
+  pub only_grows : {near : List Key} (a b : Merging) (top : ℕ) (ks : List Key) (Q : State → Type 0) → TakesBy near f a b top ks Q → ArePlain f ks → OnlyGrows f a b
+  only_grows a b top ks Q h p = h.known (plain_known f a ks p)
 
   -- shared entries stay filed where none is added
   pub AreFiledIn-run : (s t : State) (ss : List (Class × Id)) → IsKept s → s.shared ≡ shared_keys ss → Runs (RemembersTruly class_of) f s t → AreFiledIn s.own ss → AreFiledIn t.own ss
@@ -267,7 +290,8 @@ module _ (f : Collection) where
         stays = λ c i is. is;
         due = λ c i is. inl is;
         shares = λ e among. inl among;
-        plain = λ p. record { grows = h.grows (state_of a) is; shared = refl; imports = refl };
+        plain = λ p. refl;
+        known = λ all. record { grows = h.grows (state_of a) is; shared = refl; noted = λ k o noted. inl noted };
         accounts = λ at trial all by. accounted_added at (state_of a) (moved (state_of a) d n) may.kept (h.grows (state_of a) is) refl refl refl (h.splits (state_of a) is) all;
         holds = r.1;
       }
@@ -306,12 +330,27 @@ module _ (f : Collection) where
     | inr stood ↦ absurd (let both : None ≡ Some x = sym absent ∙ stood in cc)
   ]
 
+  -- with a known id nothing is noted anew that has an identifier
+  pub noted_known : (a c : Merging) (theirs own : Key) → theirs.id.number ≡ f.number → AddsPair (memo_of a.taken) (memo_of c.taken) theirs own → AreKnown f a (theirs ∷ [])
+      → (k o : Key) → memo_of c.taken k ≡ Some o → (memo_of a.taken k ≡ Some o) ⊎ ((k.id.number ≡ f.number) × (identifier_at f k ≡ None))
+  noted_known a c theirs own number adds all k o is = elim (adds.only k o is) [
+    | inl e ↦ by (identifier_at f theirs) refl e
+    | inr was ↦ inl was
+  ]
+    where
+      by : (x : Option Text) → identifier_at f theirs ≡ x → (k ≡ theirs) × (o ≡ own) → (memo_of a.taken k ≡ Some o) ⊎ ((k.id.number ≡ f.number) × (identifier_at f k ≡ None))
+      by None none e = inr (ap (λ (x : Key). x.id.number) e.0 ∙ number, ap (identifier_at f) e.0 ∙ none)
+      by (Some n) named e =
+          let stood = all theirs n (theirs, here, stay) named in
+          let same : own ≡ stood.0 = let both : Some own ≡ Some stood.0 = sym adds.is ∙ adds.kept theirs stood.0 stood.1 in cc in
+          inl (ap (memo_of a.taken) e.0 ∙ stood.1 ∙ ap (λ x. Some x) (sym same ∙ sym e.1))
+
   -- what was taken in entered, and nothing was imported
   pub Takes-entered : (a c : Merging) (theirs own : Key) → IsSound f → Stands f theirs → AddsPair (memo_of a.taken) (memo_of c.taken) theirs own → c.imports ≡ a.imports → AreFiledIn c.types c.shared.entries
       → ((e : Key) → IsAmong e (shared_keys c.shared.entries) → IsAmong e (shared_keys a.shared.entries) ⊎ IsSharedFrom f (theirs ∷ []) c e)
-      → (ArePlain f (theirs ∷ []) → OnlyAdds a c) → HasOwners (state_of a) theirs → IsEntered class_of f (state_of a) (state_of c) theirs own → ((at : Attempt) → IsTrial at f (theirs ∷ []) → IsAccounted at (state_of a) → StaysAccounted at (state_of a) (state_of c))
+      → (AreKnown f a (theirs ∷ []) → OnlyGrows f a c) → HasOwners (state_of a) theirs → IsEntered class_of f (state_of a) (state_of c) theirs own → ((at : Attempt) → IsTrial at f (theirs ∷ []) → IsAccounted at (state_of a) → StaysAccounted at (state_of a) (state_of c))
       → Takes f a c (height f theirs) (theirs ∷ []) (λ t. IsTakenKey class_of f t theirs own)
-  Takes-entered a c theirs own sound stands adds same filed shares plain has in_to accounts = record {
+  Takes-entered a c theirs own sound stands adds same filed shares known has in_to accounts = record {
     low = λ k above absent. still_none (memo_of a.taken) (memo_of c.taken) theirs own k adds (λ e. omega (arith, above, ap (height f) e)) absent (memo_of c.taken k) refl;
     run = in_to.run;
     filed = filed;
@@ -320,7 +359,8 @@ module _ (f : Collection) where
     stays = λ q i is. ap (λ s. import_of s q) same ∙ is;
     due = λ q i is. inl (ap (λ s. import_of s q) (sym same) ∙ is);
     shares = shares;
-    plain = plain;
+    plain = λ p. same;
+    known = known;
     accounts = λ at trial all by. accounts at trial all;
     holds = in_to.taken;
   }
@@ -343,7 +383,7 @@ module _ (f : Collection) where
       let filed : AreFiledIn c.types c.shared.entries = subst (λ (ss : List (Class × Id)). AreFiledIn c.types ss) (ap (λ (m : Merging). m.shared.entries) (sym same)) (AreFiledIn-run (state_of b) (state_of c) b.shared.entries kept refl in_to.entered.run g.filed) in
       Takes-after f a b c low (height f theirs) ks (theirs ∷ []) Q (λ t. IsTakenKey class_of f t theirs own) below within may g
       (Takes-entered b c theirs own sound stands adds (ap (λ (m : Merging). m.imports) same) filed (λ e among. inl (subst (IsAmong e) (ap (λ (m : Merging). shared_keys m.shared.entries) same) among))
-      (λ p. record { grows = subst (Extends b.types) (sym added) (Extends-with_entry b.types z kept.good.sound); shared = ap (λ (m : Merging). m.shared.entries) same; imports = ap (λ (m : Merging). m.imports) same }) in_to.owners
+      (λ all. record { grows = subst (Extends b.types) (sym added) (Extends-with_entry b.types z kept.good.sound); shared = ap (λ (m : Merging). m.shared.entries) same; noted = noted_known b c theirs own stands.0 adds all }) in_to.owners
       (subst (λ k. IsEntered class_of f (state_of b) (state_of c) theirs k) (sym last) in_to.entered)
       (λ at trial all. made_accounted at f (state_of b) theirs z trial all in_to.made (state_of c) kept adds_entry (ap (λ (m : Merging). (state_of m).shared) same)))
 
@@ -406,6 +446,7 @@ module _ (f : Collection) where
       due = due;
       shares = λ e m. inl m;
       plain = λ p. absurd (not_plain_owner f ks from owner_name among leads p);
+      known = λ all. record { grows = Extends-refl a.types; shared = refl; noted = λ k o noted. inl noted };
       accounts = λ at trial all by. accounted_imports at (state_of a) (state_of (record a { imports = is })) may.kept refl refl refl refl (import_open at all) all;
       holds = rw (ap (λ c. option_map (λ (i : ImportContent). i.1) (import_of is c)) on ∙ ap (option_map (λ (i : ImportContent). i.1)) (puts q ∙ ap (λ t. cond t (Some (name, Instance own)) (import_of a.imports q)) ((classes_decided q q).1 refl))) refl;
     }

@@ -1,10 +1,14 @@
 -- What becomes of the exports of a shared entry.
 use Rattle.std.specs.Prelude.{◌≡◌, List, [], ◌∷◌, Contains, Option, Some, None, Result}
 use Rattle.std.specs.declared.alloc.AllocError.{AllocError}
-use Rattle.wac_model.specs.Text.{Text}
+use Rattle.std.specs.Option.{option_map}
+use Rattle.std.specs.Str.{bytes_eq}
+use Rattle.wac_model.specs.CoreTree.{Serves}
+use Rattle.wac_model.specs.Text.{Text, lookup}
 use Rattle.wac_model.specs.ItemTree.{ItemTree}
 use Rattle.wac_model.specs.Order.{Fits}
 use Rattle.wac_bounds.specs.Bounds.{IsLowerBound}
+use Rattle.wac_bounds.specs.MeetIn.{IsMeetIn}
 use Rattle.wac_component.specs.Collection.{Collection}
 use Rattle.wac_component.specs.Growth.{Extends}
 use Rattle.wac_component.specs.Key.{Key, Each, AllStand, item_keys}
@@ -62,12 +66,14 @@ abbrev pub IsMetIfAny : Collection → Collection → ItemKind → ItemKind → 
 IsMetIfAny c d a b (Some m) = IsMetWith c d a b m
 IsMetIfAny c d a b None = Extends c d × AreApartIn d a b
 
--- the same of named items, which serve the names of either list; where those are open and come from sources, these are and do so, and all stays accounted for; and they lead along arrows
+-- the same of named items: under each name the greatest that serves both lists, and under a name of the first alone what it had. Where those are open and come from sources, these are and do so, and all stays accounted for; and they lead along arrows
 pub record AreMetWith (c d : Collection) (es ts ms : Externs) : Type 0 where
   pub on : StepsOn c d
   pub stand : AllStand d (extern_keys ms)
   pub serve_first : AreServed d c ms es
   pub serve_second : AreServed d c ms ts
+  pub meets : (name : Text) → IsMeetIn (Serves Fits) (option_map (item_tree c) (lookup bytes_eq es name)) (option_map (item_tree c) (lookup bytes_eq ts name)) (Some (option_map (item_tree d) (lookup bytes_eq ms name)))
+  pub others : (name : Text) → lookup bytes_eq ts name ≡ None → lookup bytes_eq ms name ≡ lookup bytes_eq es name
   pub accounts : (at : Attempt) (s : State) → IsKept (with_own s c) → (all : IsAccounted at (with_own s c)) → AreOpenItems at (with_own s c) es → AreAllOpen at (with_own s c) ts → StaysAlong at (with_own s c) (with_own s d) all × AreOpenItems at (with_own s d) ms
   pub along : (ss : List Key) (rs : List Root) (from : Class) → IsGood c ss → Each (LeadsAlongArrows c ss rs from) (extern_keys es) → Each (LeadsAlongArrows c ss rs from) (extern_keys ts) → Each (LeadsAlongArrows d ss rs from) (extern_keys ms)
   pub covered : (ss : List Key) → IsGood c ss → Each (IsCovered c ss) (extern_keys es) → Each (IsCovered c ss) (extern_keys ts) → Each (IsCovered d ss) (extern_keys ms)

@@ -1,3 +1,4 @@
 pub mod Takes
 pub mod Growing
 pub mod Refused
+pub mod Uses

@@ -1,6 +1,7 @@
 -- Why what is to be taken in is refused.
-use Rattle.std.specs.Prelude.{◌≡◌, ◌≢◌, ◌⊎◌, ℕ, List, [], ◌∷◌, Contains, Option, Some, None, slice_get, string_bytes}
-use Rattle.wac_model.specs.Text.{Text}
+use Rattle.std.specs.Prelude.{◌≡◌, ◌≢◌, ◌⊎◌, ℕ, All, List, [], ◌∷◌, Contains, Option, Some, None, slice_get, string_bytes}
+use Rattle.std.specs.Str.{bytes_eq}
+use Rattle.wac_model.specs.Text.{Text, lookup}
 use Rattle.wac_component.specs.Collection.{Collection, UseContent}
 use Rattle.wac_component.specs.Entries.{uses_at}
 use Rattle.wac_component.specs.Implicit.{identifier}
@@ -12,6 +13,7 @@ use Rattle.wac_call_lists.specs.Attempt.{Attempt, Touches}
 use Rattle.wac_call_lists.specs.PlainList.{ArePlain}
 use Rattle.wac_call_lists.specs.Reason.{Refusal, kinds, mismatch, used_interface, used_name, no_identifier, owner_without_identifier, taken, cycle, IsReason}
 use Rattle.wac_call_lists.specs.TreeSets.{HaveNoLowerBound}
+use Rattle.wac_call_lists.specs.WitList.{IsLeafItem}
 use Rattle.wac_merge.specs.Items.{Externs}
 use Rattle.wac_names.specs.Class.{class_of}
 use Rattle.wac_narrowing.specs.State.{State, IsKept}
@@ -19,7 +21,7 @@ use Rattle.wac_reasons.specs.Trial.{IsTrial, IsAccounted, AreOpenItems}
 use Rattle.wac_refusals.specs.declared.error.AggregateError.{AggregateError}
 use Rattle.wac_refusals.specs.declared.error.AggregateError.TheVariants.{Kinds, Mismatch, UsedInterface, UsedName, NoIdentifier, OwnerWithoutIdentifier, Taken, Cycle, Memory}
 use Rattle.wac_taking.specs.Growing.{with_own, AreAllOpen}
-use Rattle.wac_taking.specs.Takes.{AreNear, state_of}
+use Rattle.wac_taking.specs.Takes.{AreKnown, AreNear, state_of}
 use Rattle.wac_taking.specs.declared.state.Merging.{Merging}
 
 -- what is refused, unless there is no memory
@@ -38,9 +40,16 @@ said Memory = None
 abbrev pub HasReason : Attempt → AggregateError → Type 0
 HasReason at e = (r : Refusal) → said e ≡ Some r → IsReason at r
 
--- the ids aren't plain; and whatever call is tried whose item openly reaches them, where all is accounted for, and what is near is open and comes from sources, there is reason
+-- it says that an interface has no identifier
+abbrev pub IsOfUnidentified : Refusal → Type 0
+IsOfUnidentified (no_identifier used) = Unit {0}
+IsOfUnidentified (owner_without_identifier resource) = Unit {0}
+IsOfUnidentified r = ⊥
+
+-- the ids aren't plain; where all was taken in that they openly lead to and that has an identifier, it is for the want of one; and whatever call is tried whose item openly reaches them, where all is accounted for, and what is near is open and comes from sources, there is reason
 pub record IsRefusal (near : List Key) (f : Collection) (a : Merging) (ks : List Key) (e : AggregateError) : Type 0 where
   pub plain : ¬ (ArePlain f ks)
+  pub known : AreKnown f a ks → (r : Refusal) → said e ≡ Some r → IsOfUnidentified r
   pub reason : (at : Attempt) → IsTrial at f ks → IsAccounted at (state_of a) → AreNear at a near → HasReason at e
 
 -- that is so unless there is no memory
@@ -89,6 +98,20 @@ pub record SaysMismatch (c : Collection) (a b : ItemKind) (e : AggregateError) :
 abbrev pub IsMergeRefusal : Collection → ItemKind → ItemKind → AggregateError → Type 0
 IsMergeRefusal c a b e = e ≢ Memory → UsesDiffer c (item_keys a) (item_keys b) e ⊎ SaysMismatch c a b e
 
--- items are refused that are to be met with those under their names, unless there is no memory: whatever state has this collection, in which all is accounted for and these items are open, there is reason if the item touches
+-- two leaves of one name, one of each list, have no common lower bound
+pub record HasApartLeaves (c : Collection) (es ts : Externs) : Type 0 where
+  pub name : Text
+  pub first : ItemKind
+  pub second : ItemKind
+  pub is_first : lookup bytes_eq es name ≡ Some first
+  pub is_second : Contains ts (name, second)
+  pub no_bound : HaveNoLowerBound (item_tree c first) (item_tree c second)
+
+-- items aren't met with those under their names: whatever state has this collection, in which all is accounted for and these items are open, there is reason if the item touches; and leaves aren't since two are apart
+pub record IsItemsRefusal (c : Collection) (es ts : Externs) (e : AggregateError) : Type 0 where
+  pub reason : (at : Attempt) (s : State) → IsKept (with_own s c) → IsAccounted at (with_own s c) → AreOpenItems at (with_own s c) es → AreAllOpen at (with_own s c) ts → Touches at → HasReason at e
+  pub leaves : All (λ t. IsLeafItem t.1) ts → HasApartLeaves c es ts
+
+-- such items are refused, unless there is no memory
 abbrev pub AreRefusedItems : Collection → Externs → Externs → AggregateError → Type 0
-AreRefusedItems c es ts e = e ≢ Memory → (at : Attempt) (s : State) → IsKept (with_own s c) → IsAccounted at (with_own s c) → AreOpenItems at (with_own s c) es → AreAllOpen at (with_own s c) ts → Touches at → HasReason at e
+AreRefusedItems c es ts e = e ≢ Memory → IsItemsRefusal c es ts e

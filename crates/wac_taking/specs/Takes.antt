@@ -116,13 +116,17 @@ pub record IsSharedFrom (f : Collection) (ks : List Key) (b : Merging) (e : Key)
   pub identified : identifier_at f theirs ≡ Some name
   pub own_identified : identifier_at b.types e ≡ Some name
 
--- entries were added to the own collection, and nothing else became another: neither shared entries nor imports
-pub record OnlyAdds (a b : Merging) : Type 0 where
+-- each interface with an identifier to which the ids openly lead was taken in
+abbrev pub AreKnown : Collection → Merging → List Key → Type 0
+AreKnown f a ks = (t : Key) (n : Text) → OpenlyFrom f ks t → identifier_at f t ≡ Some n → (own : Key) × (memo_of a.taken t ≡ Some own)
+
+-- entries were added to the own collection, and those that stood are as they were; no entry is shared that wasn't, and what is noted anew has no identifier
+pub record OnlyGrows (f : Collection) (a b : Merging) : Type 0 where
   pub grows : Extends a.types b.types
   pub shared : b.shared.entries ≡ a.shared.entries
-  pub imports : b.imports ≡ a.imports
+  pub noted : (k o : Key) → memo_of b.taken k ≡ Some o → (memo_of a.taken k ≡ Some o) ⊎ ((k.id.number ≡ f.number) × (identifier_at f k ≡ None))
 
--- what taking in from f does: the state runs on to one of which the fact holds, and no id above the height is noted; each owner is imported still. What is imported stays; what is new is an owner to which the ids openly lead, and each new shared entry has the identifier of an interface to which they do. Where the ids are plain, entries are only added
+-- what taking in from f does: the state runs on to one of which the fact holds, and no id above the height is noted; each owner is imported still. What is imported stays; what is new is an owner to which the ids openly lead, and each new shared entry has the identifier of an interface to which they do. Where the ids are plain, nothing is imported; where all was taken in that they openly lead to and that has an identifier, entries are only added
 -- While a call is tried whose item openly reaches the ids, and what is near is open and comes from sources, all stays accounted for
 pub record TakesBy (near : List Key) (f : Collection) (a b : Merging) (top : ℕ) (ks : List Key) (Holds : State → Type 0) : Type 0 where
   pub low : (k : Key) → top < height f k → memo_of a.taken k ≡ None → memo_of b.taken k ≡ None
@@ -133,7 +137,8 @@ pub record TakesBy (near : List Key) (f : Collection) (a b : Merging) (top : ℕ
   pub stays : (q : Class) (i : ImportContent) → import_of a.imports q ≡ Some i → import_of b.imports q ≡ Some i
   pub due : (q : Class) (i : ImportContent) → import_of b.imports q ≡ Some i → (import_of a.imports q ≡ Some i) ⊎ IsOwnersImport f ks b q i.0
   pub shares : (e : Key) → IsAmong e (shared_keys b.shared.entries) → IsAmong e (shared_keys a.shared.entries) ⊎ IsSharedFrom f ks b e
-  pub plain : ArePlain f ks → OnlyAdds a b
+  pub plain : ArePlain f ks → b.imports ≡ a.imports
+  pub known : AreKnown f a ks → OnlyGrows f a b
   pub accounts : (at : Attempt) → IsTrial at f ks → IsAccounted at (state_of a) → AreNear at a near → StaysAccounted at (state_of a) (state_of b)
   pub holds : Holds (state_of b)
 

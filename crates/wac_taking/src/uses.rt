@@ -1,10 +1,11 @@
 //! Uses of one name.
 
-ghost use Rattle.std.specs.Prelude.{◌≡◌, [], ◌∷◌, Some, IfErr, IfOk, string_bytes};
+ghost use Rattle.std.specs.Prelude.{◌≡◌, [], ◌∷◌, Some, IfErr, IfOk, MatchResult, string_bytes};
 ghost use Rattle.wac_component.specs.Content.{named, use_content};
 ghost use Rattle.wac_component.specs.Key.{Stands, AllStand, item_keys, type_keys, interface_key, world_key, named_keys, use_keys};
 ghost use Rattle.wac_call_lists.specs.Reason.{used_interface as of_interfaces, used_name as of_name};
 ghost use Rattle.wac_taking.specs.Refused.{said, IsUsesRefusal, AreRefusedLists};
+ghost use Rattle.wac_taking.specs.Uses.{AreOnOneTrack, AreOfOne, UsesAgree};
 
 use indexmap::IndexMap;
 use std::alloc::{AllocError, Global};
@@ -87,7 +88,7 @@ pub(crate) fn check_uses(
 ) -> Result<(), AggregateError>
     requires existing { AllStand types.now (named_keys use_keys (named use_content existing.now.entries)) }
     requires new { AllStand types.now (named_keys use_keys (named use_content new.now.entries)) }
-    ensures { IfErr result (AreRefusedLists types.now (named use_content existing.now.entries) (named use_content new.now.entries)) }
+    ensures { MatchResult result (λ u. UsesAgree types.now (named use_content existing.now.entries) (named use_content new.now.entries)) (AreRefusedLists types.now (named use_content existing.now.entries) (named use_content new.now.entries)) }
 {
     for (name, used) in new {
         if let Some(other) = existing.get(name) {
@@ -107,20 +108,37 @@ fn check_use(
 ) -> Result<(), AggregateError>
     requires existing { Stands types.now (interface_key existing.now.interface) }
     requires new { Stands types.now (interface_key new.now.interface) }
-    ensures { IfErr result (AreRefusedLists types.now ((string_bytes name.now, use_content existing.now) ∷ []) ((string_bytes name.now, use_content new.now) ∷ [])) }
+    ensures { MatchResult result (λ u. AreOfOne types.now (use_content existing.now) (use_content new.now)) (AreRefusedLists types.now ((string_bytes name.now, use_content existing.now) ∷ []) ((string_bytes name.now, use_content new.now) ∷ [])) }
 {
-    if let (Some(expected), Some(found)) = (
-        &types[existing.interface].id,
-        &types[new.interface].id,
-    ) {
-        if !are_semver_compatible(alloc, expected.as_str(), found.as_str())? {
-            return Err(used_interface(name, expected, found)?);
-        }
-    }
+    check_tracks(alloc, types, name, existing, new)?;
     if existing.name != new.name {
         return Err(used_name(name)?);
     }
     Ok(())
+}
+
+// Refuses two uses of one name that are of interfaces on different tracks.
+fn check_tracks(
+    alloc: Global,
+    types: &Types,
+    name: &String,
+    existing: &UsedType,
+    new: &UsedType,
+) -> Result<(), AggregateError>
+    requires existing { Stands types.now (interface_key existing.now.interface) }
+    requires new { Stands types.now (interface_key new.now.interface) }
+    ensures { MatchResult result (λ u. AreOnOneTrack types.now (use_content existing.now) (use_content new.now)) (AreRefusedLists types.now ((string_bytes name.now, use_content existing.now) ∷ []) ((string_bytes name.now, use_content new.now) ∷ [])) }
+{
+    let Some(expected) = &types[existing.interface].id else {
+        return Ok(());
+    };
+    let Some(found) = &types[new.interface].id else {
+        return Ok(());
+    };
+    if are_semver_compatible(alloc, expected.as_str(), found.as_str())? {
+        return Ok(());
+    }
+    Err(used_interface(name, expected, found)?)
 }
 
 // The refusal of two uses of one name that are of interfaces on different tracks.

@@ -15,10 +15,9 @@ use Rattle.wac_narrowing.proofs.Adding.{last_at}
 use Rattle.wac_narrowing.proofs.Entering.{interface_named, shared_interface_enters}
 use Rattle.wac_copies.specs.Memo.{memo_of}
 use Rattle.wac_taking.specs.Takes.{shared_keys, state_of}
-use Rattle.wac_taking.proofs.TakeLemmas.{content_identifier, taken_as, Takes-entered, AreFiledIn-put, adds_last}
+use Rattle.wac_taking.proofs.TakeLemmas.{content_identifier, taken_as, Takes-entered, AreFiledIn-put, adds_last, not_known}
 use Rattle.wac_component.specs.Open.{stay}
 use Rattle.wac_component.specs.Reach.{here}
-use Rattle.wac_taking.proofs.Plain.{not_plain_interface}
 use Rattle.wac_taking.proofs.Enters.{interface_owners}
 use Rattle.wac_taking.proofs.GrowAccounts.{shared_accounted}
 use Rattle.wac_taking.proofs.entering.put_shared.Goals as goal
@@ -49,7 +48,7 @@ returns c =
       | inl is ↦ inr (record { theirs = theirs; name = string_bytes c.args.name; walk = (theirs, here, stay); identified = c.requires.identified; own_identified = ap (identifier_at now.types) (is ∙ sym last) ∙ identified })
       | inr stood ↦ inl stood
     ])
-    (λ p. absurd (not_plain_interface f c.args.id (string_bytes c.args.name) c.requires.identified p))
+    (λ all. absurd (not_known f was theirs (string_bytes c.args.name) c.requires.identified c.requires.taken.absent all))
     (interface_owners f (state_of was) taken.sound c.requires.state.kept c.args.id c.requires.taken.content _ taken)
     (subst (λ k. IsEntered class_of f (state_of was) (state_of now) theirs k) (sym last) enters)
     (λ at trial all. shared_accounted at f (state_of was) c.args.id c.requires.taken.content z (string_bytes c.args.name) c.requires.state.kept trial all (taken_as f (state_of was) c.args.id c.requires.taken.content _ _ z.id c.requires.taken.taken) c.requires.identified (state_of now) c.requires.taken.used refl adds shares)

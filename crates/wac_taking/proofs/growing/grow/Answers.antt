@@ -1,13 +1,13 @@
-use Rattle.std.proofs.Common.{◌≡◌, Some, slice_get, string_bytes, refl, ap, sym, subst, ◌∙◌}
+use Rattle.std.proofs.Common.{Some, string_bytes, refl, ap, sym, subst, ◌∙◌}
 use Rattle.wac_component.specs.Content.{named, use_content, interface_content}
-use Rattle.wac_component.specs.Key.{Key, Stands, AllStand, interface_key, interface_keys, named_keys, use_keys, Each}
+use Rattle.wac_component.specs.Key.{Stands, AllStand, interface_key, interface_keys, named_keys, use_keys}
 use Rattle.wac_component.proofs.Keys.{Each-left, Each-right}
 use Rattle.wac_merge.specs.Items.{extern_keys, extern_list}
 use Rattle.wac_names.specs.Class.{class_of}
 use Rattle.wac_narrowing.proofs.Entering.{interface_named}
 use Rattle.wac_refusals.specs.declared.error.AggregateError.TheVariants.{Memory}
 use Rattle.wac_taking.specs.Takes.{state_of}
-use Rattle.wac_taking.proofs.GrowLemmas.{each_used, found_among, uses_put}
+use Rattle.wac_taking.proofs.GrowLemmas.{found_among, uses_put, with_new_named}
 use Rattle.wac_taking.proofs.GrowReasons.{grown_uses_refused, grown_items_refused, grown_cycle_refused}
 use Rattle.wac_taking.proofs.Grows.{new_named, still_stands, Takes-grown}
 use Rattle.wac_taking.proofs.Refusals.{passed_on}
@@ -44,10 +44,9 @@ replace-requires c =
     let a = c.args.state.now in
     let old = interface_content c.in_ok-entry.entry in
     let new = interface_content (record { id = c.in_ok-entry.entry.id; uses = c.add_new.new.first; exports = c.meet_exports.new.existing }) in
-    let was : slice_get a.types.interfaces c.args.own.index ≡ Some old = c.index.ensures.entry ∙ ap Some (sym c.in_ok-entry.ensures.cases) in
-    let stand : AllStand a.types (interface_keys old) = subst (λ i. AllStand a.types (interface_keys i)) (sym c.in_ok-entry.ensures.cases) c.index.ensures.standing in
-    let uses : (P : Key → Type 0) → Each P (named_keys use_keys old.uses) → Each P (named_keys use_keys (named use_content c.args.uses.entries)) → Each P (named_keys use_keys new.uses)
-    = λ P h g. subst (λ us. Each P (named_keys use_keys (named use_content us))) (sym c.in_ok-add_new.ensures.entries) (each_used P _ c.in_ok-entry.entry.uses.entries c.args.uses.entries h g) in
+    let was = c.index.ensures.entry ∙ ap Some (sym c.in_ok-entry.ensures.cases) in
+    let stand = subst (λ i. AllStand a.types (interface_keys i)) (sym c.in_ok-entry.ensures.cases) c.index.ensures.standing in
+    let uses = with_new_named c.in_ok-entry.entry.uses.entries c.args.uses.entries c.add_new.new.first.entries c.in_ok-add_new.ensures.entries in
     record {
       own = still_stands c.args.types.now a c.requires.state c.args.id c.args.own (string_bytes c.args.name) (named use_content c.args.uses.entries) (extern_list c.args.exports) c.requires.taken c.requires.identified c.requires.shared old new was stand refl uses c.meet_exports.new.types c.in_ok-meet_exports.ensures.met;
       named = new_named c.args.types.now a c.requires.state c.args.id c.args.own (string_bytes c.args.name) (named use_content c.args.uses.entries) (extern_list c.args.exports) c.requires.taken c.requires.identified c.requires.shared old new was stand refl uses c.meet_exports.new.types c.in_ok-meet_exports.ensures.met;
@@ -58,10 +57,9 @@ returns c =
     let a = c.args.state.now in
     let old = interface_content c.in_ok-entry.entry in
     let new = interface_content (record { id = c.in_ok-entry.entry.id; uses = c.add_new.new.first; exports = c.meet_exports.new.existing }) in
-    let was : slice_get a.types.interfaces c.args.own.index ≡ Some old = c.index.ensures.entry ∙ ap Some (sym c.in_ok-entry.ensures.cases) in
-    let stand : AllStand a.types (interface_keys old) = subst (λ i. AllStand a.types (interface_keys i)) (sym c.in_ok-entry.ensures.cases) c.index.ensures.standing in
-    let uses : (P : Key → Type 0) → Each P (named_keys use_keys old.uses) → Each P (named_keys use_keys (named use_content c.args.uses.entries)) → Each P (named_keys use_keys new.uses)
-    = λ P h g. subst (λ us. Each P (named_keys use_keys (named use_content us))) (sym c.in_ok-add_new.ensures.entries) (each_used P _ c.in_ok-entry.entry.uses.entries c.args.uses.entries h g) in
+    let was = c.index.ensures.entry ∙ ap Some (sym c.in_ok-entry.ensures.cases) in
+    let stand = subst (λ i. AllStand a.types (interface_keys i)) (sym c.in_ok-entry.ensures.cases) c.index.ensures.standing in
+    let uses = with_new_named c.in_ok-entry.entry.uses.entries c.args.uses.entries c.add_new.new.first.entries c.in_ok-add_new.ensures.entries in
     Takes-grown c.args.types.now a c.requires.state c.args.id c.args.own (string_bytes c.args.name) (named use_content c.args.uses.entries) (extern_list c.args.exports) c.requires.taken c.requires.identified c.requires.shared old new was stand refl uses c.meet_exports.new.types c.in_ok-meet_exports.ensures.met
     (ap (named use_content) c.in_ok-add_new.ensures.entries ∙ uses_put c.in_ok-entry.entry.uses.entries c.args.uses.entries) c.meet_exports.ensures.found (found_among (extern_list c.meet_exports.new.existing) c.names_in_an_interface_are_distinct.ensures.1)
     c.replace.new.types c.put_interface.new.self c.in_ok-replace.ensures.acyclic c.in_ok-replace.ensures.grown (c.in_ok-put_interface.ensures c.requires.taken.absent)
@@ -70,7 +68,7 @@ pub returns-in_err-check_uses : goal.returns-in_err-check_uses
 returns-in_err-check_uses c =
     let a = c.args.state.now in
     let old = interface_content c.in_ok-entry.entry in
-    let was : slice_get a.types.interfaces c.args.own.index ≡ Some old = c.index.ensures.entry ∙ ap Some (sym c.in_ok-entry.ensures.cases) in
+    let was = c.index.ensures.entry ∙ ap Some (sym c.in_ok-entry.ensures.cases) in
     passed_on c.from_residual-in_err-check_uses.result _ _ c.in_err-check_uses.field-0.0 c.from_residual-in_err-check_uses.ensures
     (grown_uses_refused c.args.types.now a c.requires.state c.args.id c.args.own (string_bytes c.args.name) (named use_content c.args.uses.entries) (extern_list c.args.exports) c.requires.taken c.requires.identified c.requires.shared old was _ c.in_err-check_uses.ensures)
 
@@ -78,7 +76,7 @@ pub returns-in_err-meet_exports : goal.returns-in_err-meet_exports
 returns-in_err-meet_exports c =
     let a = c.args.state.now in
     let old = interface_content c.in_ok-entry.entry in
-    let was : slice_get a.types.interfaces c.args.own.index ≡ Some old = c.index.ensures.entry ∙ ap Some (sym c.in_ok-entry.ensures.cases) in
+    let was = c.index.ensures.entry ∙ ap Some (sym c.in_ok-entry.ensures.cases) in
     passed_on c.from_residual-in_err-meet_exports.result _ _ c.in_err-meet_exports.field-0.0 c.from_residual-in_err-meet_exports.ensures
     (grown_items_refused c.args.types.now a c.requires.state c.args.id c.args.own (string_bytes c.args.name) (named use_content c.args.uses.entries) (extern_list c.args.exports) c.requires.taken c.requires.identified c.requires.shared old was _ c.meet_exports.ensures.found c.in_err-meet_exports.ensures.met)
 
@@ -87,10 +85,9 @@ returns-in_err-replace c =
     let a = c.args.state.now in
     let old = interface_content c.in_ok-entry.entry in
     let new = interface_content (record { id = c.in_ok-entry.entry.id; uses = c.add_new.new.first; exports = c.meet_exports.new.existing }) in
-    let was : slice_get a.types.interfaces c.args.own.index ≡ Some old = c.index.ensures.entry ∙ ap Some (sym c.in_ok-entry.ensures.cases) in
-    let stand : AllStand a.types (interface_keys old) = subst (λ i. AllStand a.types (interface_keys i)) (sym c.in_ok-entry.ensures.cases) c.index.ensures.standing in
-    let uses : (P : Key → Type 0) → Each P (named_keys use_keys old.uses) → Each P (named_keys use_keys (named use_content c.args.uses.entries)) → Each P (named_keys use_keys new.uses)
-    = λ P h g. subst (λ us. Each P (named_keys use_keys (named use_content us))) (sym c.in_ok-add_new.ensures.entries) (each_used P _ c.in_ok-entry.entry.uses.entries c.args.uses.entries h g) in
+    let was = c.index.ensures.entry ∙ ap Some (sym c.in_ok-entry.ensures.cases) in
+    let stand = subst (λ i. AllStand a.types (interface_keys i)) (sym c.in_ok-entry.ensures.cases) c.index.ensures.standing in
+    let uses = with_new_named c.in_ok-entry.entry.uses.entries c.args.uses.entries c.add_new.new.first.entries c.in_ok-add_new.ensures.entries in
     passed_on c.from_residual-in_err-replace.result _ _ c.in_err-replace.field-0.0 c.from_residual-in_err-replace.ensures
     (λ ne. grown_cycle_refused c.args.types.now a c.requires.state c.args.id c.args.own (string_bytes c.args.name) (named use_content c.args.uses.entries) (extern_list c.args.exports) c.requires.taken c.requires.identified c.requires.shared old was new stand refl uses c.meet_exports.new.types c.in_ok-meet_exports.ensures.met
     (ap (named use_content) c.in_ok-add_new.ensures.entries ∙ uses_put c.in_ok-entry.entry.uses.entries c.args.uses.entries) c.meet_exports.ensures.found (found_among (extern_list c.meet_exports.new.existing) c.names_in_an_interface_are_distinct.ensures.1)

@@ -12,7 +12,7 @@ use Rattle.wac_component.proofs.Among.{Contains-first}
 use Rattle.wac_narrowing.specs.Laws.{LeadsAlongArrows}
 use Rattle.wac_reasons.proofs.Accounts.{accounted_none, none_roots}
 use Rattle.wac_taking.specs.Growing.{with_own}
-use Rattle.wac_taking.proofs.MergeReasons.{met_open, met_along, merge_refused}
+use Rattle.wac_taking.proofs.MergeReasons.{met_open, met_along, merge_refused, leaves_apart}
 use Rattle.wac_taking.proofs.Refusals.{passed_on}
 use Rattle.wac_taking.proofs.growing.meet_export.Goals as goal
 
@@ -22,7 +22,7 @@ meet_items-requires-clause-existing c = each_found (Stands c.args.types.now) (ex
 pub returns-in_default : goal.returns-in_default
 returns-in_default c =
     met_put c.args.types.now c.args.types.now (extern_list c.args.existing.now) (extern_list c.put_extern.new.externs) (string_bytes c.args.name.now) c.args.kind c.args.kind (StepsOn-refl c.args.types.now) c.requires.existing c.requires.new (Fits-refl (item_tree c.args.types.now c.args.kind))
-    (λ b is. let both : None ≡ Some b = c.in_default.ensures ∙ is in absurd (cc)) (λ ss good h k. k)
+    (λ b is. let both : None ≡ Some b = c.in_default.ensures ∙ is in absurd (cc)) (λ t before this. this) (λ ss good h k. k)
     (λ at s kept all hx new. (record { stays = accounted_none at (with_own s c.args.types.now) all; roots = none_roots at (with_own s c.args.types.now) all }, new)) (λ ss rs from good h k. k) c.in_ok-put_extern.ensures
 
 pub returns : goal.returns
@@ -31,6 +31,7 @@ returns c =
     let found = sym c.in-Some.ensures in
     met_put c.args.types.now c.meet_items.new.types (extern_list c.args.existing.now) (extern_list c.put_extern-2.new.externs) (string_bytes c.args.name.now) c.args.kind c.in_ok-met.met met.on c.requires.existing met.stands met.fits_second
     (λ b is. let both : Some c.in-Some.other ≡ Some b = sym found ∙ is in let same : c.in-Some.other ≡ b = cc in subst (λ x. Fits (item_tree c.meet_items.new.types c.in_ok-met.met) (item_tree c.args.types.now x)) same met.fits_first)
+    (λ t before this. met.greatest t (before c.in-Some.other found) this)
     (λ ss good h k. met.covered ss good (each_found (IsCovered c.args.types.now ss) (extern_list c.args.existing.now) (string_bytes c.args.name.now) c.in-Some.other found h) k)
     (λ at s kept all hx new. met_open c.args.types.now c.meet_items.new.types c.in-Some.other c.args.kind c.in_ok-met.met met at s (string_bytes c.args.name.now) kept all (hx (string_bytes c.args.name.now) c.in-Some.other found) new)
     (λ ss rs from good h k. met_along c.args.types.now c.meet_items.new.types c.in-Some.other c.args.kind c.in_ok-met.met met ss rs from good (each_found (Stands c.args.types.now) (extern_list c.args.existing.now) (string_bytes c.args.name.now) c.in-Some.other found c.requires.existing) c.requires.new
@@ -40,4 +41,7 @@ pub returns-in_err-met : goal.returns-in_err-met
 returns-in_err-met c =
     let found = sym c.in-Some.ensures in
     passed_on c.from_residual-in_err-met.result _ _ c.in_err-met.field-0.0 c.from_residual-in_err-met.ensures
-    (λ ne at s kept all hx hy touches. merge_refused c.args.types.now at s (string_bytes c.args.name.now) c.in-Some.other c.args.kind c.in_err-met.field-0.0 kept touches (hx (string_bytes c.args.name.now) c.in-Some.other found) (hy (string_bytes c.args.name.now) c.args.kind (Contains-first _ [])) (c.in_err-met.ensures ne))
+    (λ ne. record {
+      reason = λ at s kept all hx hy touches. merge_refused c.args.types.now at s (string_bytes c.args.name.now) c.in-Some.other c.args.kind c.in_err-met.field-0.0 kept touches (hx (string_bytes c.args.name.now) c.in-Some.other found) (hy (string_bytes c.args.name.now) c.args.kind (Contains-first _ [])) (c.in_err-met.ensures ne);
+      leaves = leaves_apart c.args.types.now (extern_list c.args.existing.now) (string_bytes c.args.name.now) c.in-Some.other c.args.kind c.in_err-met.field-0.0 found (c.in_err-met.ensures ne);
+    })

@@ -42,7 +42,7 @@ use Rattle.wac_taking.specs.Takes.{owners_keys, AreOwnersTaken}
 use Rattle.wac_taking.proofs.Alike.{same_resource, same_defined_type, owners_lower, owned_within_type, owned_stand, alike_absent, Takes-alike, own_if_led, resource_at, within_resources, owner_stands, absent_of, Takes-also, AreFirstTaken, first_still, first_next, first_whole, IsNear-none, IsNear-led, IsNear-Takes, near_below, near_item, near_nearest, Takes-nearest, nearest_still}
 use Rattle.wac_taking.proofs.Arms.{taken_item, taken_value, taken_content, Takes-set, Takes-place, Takes-use, used_index}
 use Rattle.wac_taking.proofs.Plain.{used_named}
-use Rattle.wac_taking.proofs.Refusals.{passed_on, refused_later, refused_near, refused_apart, refused_part, refused_then, refused_uses, refused_owner, refused_use, refused_used, uses_within}
+use Rattle.wac_taking.proofs.Refusals.{passed_on, refused_later, refused_near, refused_apart, refused_part, refused_item, refused_then, refused_uses, refused_owner, refused_use, refused_used, uses_within}
 use Rattle.wac_taking.specs.Refused.{IsRefused}
 use Rattle.wac_component.specs.Implicit.{identifier, HasIdentifier}
 use Rattle.wac_call_lists.specs.Reason.{owner_without_identifier}
@@ -880,3 +880,30 @@ take_used-returns-then-is_none t c =
     let w = used_named c.args.uses.now.entries c.args.index p c.used_at-interface.ensures in
     let unidentified = ap (option_and_then (λ (x : InterfaceContent). x.id)) c.index.ensures.entry ∙ no_name c.index.result.now.id c.if-is_none.ensures in
     refused_use f c.args.state.now (named use_content c.args.uses.now.entries) c.args.index w.0 w.1 c.in_ok-no_identifier.field-0 w.2 (subst (λ q. identifier f q ≡ None) (sym w.3) unidentified) (c.in_ok-no_identifier.ensures w.0 w.1 w.2)
+
+pub take_item-returns-in_err-take_func-in-Func : goal.take_item-returns-in_err-take_func-in-Func
+take_item-returns-in_err-take_func-in-Func t c = refused_item (near_keys c.args.near) c.args.types.now c.args.state.now (func_key c.in-Func.id ∷ []) (item_keys c.args.kind) c.from_residual-in_err-take_func-in-Func.result _ c.in_err-take_func-in-Func.field-0.0 (ap item_keys c.in-Func.is) c.in_err-take_func-in-Func.ensures c.from_residual-in_err-take_func-in-Func.ensures
+
+pub take_item-returns-in_err-take_world-in-Component : goal.take_item-returns-in_err-take_world-in-Component
+take_item-returns-in_err-take_world-in-Component t c = refused_item (near_keys c.args.near) c.args.types.now c.args.state.now (world_key c.in-Component.id ∷ []) (item_keys c.args.kind) c.from_residual-in_err-take_world-in-Component.result _ c.in_err-take_world-in-Component.field-0.0 (ap item_keys c.in-Component.is) c.in_err-take_world-in-Component.ensures c.from_residual-in_err-take_world-in-Component.ensures
+
+pub take_item-returns-in_err-take_module-in-Module : goal.take_item-returns-in_err-take_module-in-Module
+take_item-returns-in_err-take_module-in-Module t c = refused_item (near_keys c.args.near) c.args.types.now c.args.state.now (module_key c.in-Module.id ∷ []) (item_keys c.args.kind) c.from_residual-in_err-take_module-in-Module.result _ c.in_err-take_module-in-Module.field-0.0 (ap item_keys c.in-Module.is) c.in_err-take_module-in-Module.ensures c.from_residual-in_err-take_module-in-Module.ensures
+
+pub take_item-returns-in_err-take_value-in-Value : goal.take_item-returns-in_err-take_value-in-Value
+take_item-returns-in_err-take_value-in-Value t c = refused_item (near_keys c.args.near) c.args.types.now c.args.state.now (value_keys c.in-Value.ty) (item_keys c.args.kind) c.from_residual-in_err-take_value-in-Value.result _ c.in_err-take_value-in-Value.field-0.0 (ap item_keys c.in-Value.is) c.in_err-take_value-in-Value.ensures c.from_residual-in_err-take_value-in-Value.ensures
+
+pub take_type-returns-in_err-take_resource-in-Resource : goal.take_type-returns-in_err-take_resource-in-Resource
+take_type-returns-in_err-take_resource-in-Resource t c = refused_item (near_keys c.args.near) c.args.types.now c.args.state.now (resource_key c.in-Resource.id ∷ []) (type_keys c.args.ty) c.from_residual.result _ c.in_err-take_resource-in-Resource.field-0.0 (ap type_keys c.in-Resource.is) c.in_err-take_resource-in-Resource.ensures c.from_residual.ensures
+
+pub take_type-returns-in_err-take_func-in-Func : goal.take_type-returns-in_err-take_func-in-Func
+take_type-returns-in_err-take_func-in-Func t c = refused_item (near_keys c.args.near) c.args.types.now c.args.state.now (func_key c.in-Func.id ∷ []) (type_keys c.args.ty) c.from_residual-in_err-take_func-in-Func.result _ c.in_err-take_func-in-Func.field-0.0 (ap type_keys c.in-Func.is) c.in_err-take_func-in-Func.ensures c.from_residual-in_err-take_func-in-Func.ensures
+
+pub take_type-returns-in_err-take_value-in-Value : goal.take_type-returns-in_err-take_value-in-Value
+take_type-returns-in_err-take_value-in-Value t c = refused_item (near_keys c.args.near) c.args.types.now c.args.state.now (value_keys c.in-Value.ty) (type_keys c.args.ty) c.from_residual-in_err-take_value-in-Value.result _ c.in_err-take_value-in-Value.field-0.0 (ap type_keys c.in-Value.is) c.in_err-take_value-in-Value.ensures c.from_residual-in_err-take_value-in-Value.ensures
+
+pub take_type-returns-in_err-take_world-in-World : goal.take_type-returns-in_err-take_world-in-World
+take_type-returns-in_err-take_world-in-World t c = refused_item (near_keys c.args.near) c.args.types.now c.args.state.now (world_key c.in-World.id ∷ []) (type_keys c.args.ty) c.from_residual-in_err-take_world-in-World.result _ c.in_err-take_world-in-World.field-0.0 (ap type_keys c.in-World.is) c.in_err-take_world-in-World.ensures c.from_residual-in_err-take_world-in-World.ensures
+
+pub take_type-returns-in_err-take_module-in-Module : goal.take_type-returns-in_err-take_module-in-Module
+take_type-returns-in_err-take_module-in-Module t c = refused_item (near_keys c.args.near) c.args.types.now c.args.state.now (module_key c.in-Module.id ∷ []) (type_keys c.args.ty) c.from_residual-in_err-take_module-in-Module.result _ c.in_err-take_module-in-Module.field-0.0 (ap type_keys c.in-Module.is) c.in_err-take_module-in-Module.ensures c.from_residual-in_err-take_module-in-Module.ensures
