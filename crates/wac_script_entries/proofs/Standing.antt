@@ -1,8 +1,9 @@
 -- That ids stand in maps by name, with one thing more.
-use Rattle.std.proofs.Common.{◌≡◌, Option, None, Some, List, [], ◌∷◌, ◌++◌, refl, ap, ◌∙◌, inl, inr, string_bytes, String, Global}
+use Rattle.std.proofs.Common.{◌≡◌, Option, None, Some, List, [], ◌∷◌, ◌++◌, refl, ap, ◌∙◌, inl, inr, string_bytes, String, Global, Result, Ok, Err}
 use Rattle.std.proofs.lemmas.Bool.{cases_Bool}
 use Rattle.std.specs.List.{flat_map}
 use Rattle.std.specs.Option.{option_to_list}
+use Rattle.std.specs.Result.{OnOk}
 use Rattle.std.specs.Str.{bytes_eq}
 use Rattle.std.specs.String.{string_eq}
 use Rattle.indexmap.specs.IndexMap.{insert_entry}
@@ -50,3 +51,8 @@ optional_rest P (Some v) vs h q = Each-append P (value_keys v) (flat_map value_k
 pub stand_cases : (P : Key → Type 0) (es : List (String Global × Option ValueType)) → Each P (named_keys (optional_keys value_keys) (named (λ t. t) es)) → Each P (flat_map value_keys (case_types es))
 stand_cases P [] h = tt
 stand_cases P (e ∷ es) h = optional_rest P e.1 (case_types es) (stand_optional P e.1 (Each-left P (optional_keys value_keys e.1) _ h)) (stand_cases P es (Each-right P (optional_keys value_keys e.1) _ h))
+
+-- what holds is so where there is a value
+pub on_ok : {X E : Type 0} (r : Result X E) (P : Type 0) → P → OnOk r P
+on_ok (Ok x) P h = h
+on_ok (Err e) P h = tt

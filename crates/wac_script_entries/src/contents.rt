@@ -1,6 +1,6 @@
 //! The contents of entries, as words describe them.
 
-ghost use Rattle.std.specs.Prelude.{IfOk};
+ghost use Rattle.std.specs.Prelude.{IfOk, OnOk};
 ghost use Rattle.wac_component.specs.Content.{named, use_content, resource_content, func_content, interface_content, world_content};
 ghost use Rattle.wac_component.specs.Key.{AllStand, value_keys, item_keys, use_keys, named_keys, resource_keys, func_keys, interface_keys, world_keys};
 
@@ -28,15 +28,28 @@ pub(crate) fn named_values<'a>(
 {
     let mut found = IndexMap::new(alloc);
     for &word in words {
-        let (name, value) = split_named("`NAME=VALUE`", word)?;
-        let ty = find_value(types, read_value(value)?)?;
-        let key = read_name(alloc, name)?;
-        let before = found.insert(key, ty)?;
-        if before.is_some() {
-            return Err(ScriptError::Repeated(name));
-        }
+        add_value(alloc, types, &mut found, word)?;
     }
     Ok(found)
+}
+
+// One more of these, under a name that wasn't there.
+fn add_value<'a>(
+    alloc: Global,
+    types: &Types,
+    found: &mut IndexMap<String, ValueType>,
+    word: &'a str,
+) -> Result<(), ScriptError<'a>>
+    requires { AllStand types.now (named_keys value_keys (named (λ t. t) found.old.entries)) }
+    ensures { OnOk result (AllStand types.now (named_keys value_keys (named (λ t. t) found.new.entries))) }
+{
+    let (name, value) = split_named("`NAME=VALUE`", word)?;
+    let ty = find_value(types, read_value(value)?)?;
+    let key = read_name(alloc, name)?;
+    match found.insert(key, ty)? {
+        None => Ok(()),
+        Some(_) => Err(ScriptError::Repeated(name)),
+    }
 }
 
 // The items of the members `NAME=ITEM` of one part, whose letter and colon each of them begins with.
@@ -50,18 +63,30 @@ fn named_items<'a>(
 {
     let mut kinds = IndexMap::new(alloc);
     for &member in members {
-        let Some(word) = member.strip_prefix(part) else {
-            continue;
-        };
-        let (name, item) = split_named("`NAME=ITEM`", word)?;
-        let kind = find_item(types, read_item(item)?)?;
-        let key = read_name(alloc, name)?;
-        let before = kinds.insert(key, kind)?;
-        if before.is_some() {
-            return Err(ScriptError::Repeated(name));
+        if let Some(word) = member.strip_prefix(part) {
+            add_item(alloc, types, &mut kinds, word)?;
         }
     }
     Ok(kinds)
+}
+
+// One more of these, under a name that wasn't there.
+fn add_item<'a>(
+    alloc: Global,
+    types: &Types,
+    kinds: &mut IndexMap<String, ItemKind>,
+    word: &'a str,
+) -> Result<(), ScriptError<'a>>
+    requires { AllStand types.now (named_keys item_keys (named (λ k. k) kinds.old.entries)) }
+    ensures { OnOk result (AllStand types.now (named_keys item_keys (named (λ k. k) kinds.new.entries))) }
+{
+    let (name, item) = split_named("`NAME=ITEM`", word)?;
+    let kind = find_item(types, read_item(item)?)?;
+    let key = read_name(alloc, name)?;
+    match kinds.insert(key, kind)? {
+        None => Ok(()),
+        Some(_) => Err(ScriptError::Repeated(name)),
+    }
 }
 
 // Where types are used from: the members `u:NAME=iN` and `u:NAME=iN=NAME`.
@@ -74,18 +99,30 @@ fn named_uses<'a>(
 {
     let mut found = IndexMap::new(alloc);
     for &member in members {
-        let Some(word) = member.strip_prefix("u:") else {
-            continue;
-        };
-        let (name, of) = split_named("`NAME=iN[=NAME]`", word)?;
-        let used = used_type(alloc, types, of)?;
-        let key = read_name(alloc, name)?;
-        let before = found.insert(key, used)?;
-        if before.is_some() {
-            return Err(ScriptError::Repeated(name));
+        if let Some(word) = member.strip_prefix("u:") {
+            add_use(alloc, types, &mut found, word)?;
         }
     }
     Ok(found)
+}
+
+// One more of these, under a name that wasn't there.
+fn add_use<'a>(
+    alloc: Global,
+    types: &Types,
+    found: &mut IndexMap<String, UsedType>,
+    word: &'a str,
+) -> Result<(), ScriptError<'a>>
+    requires { AllStand types.now (named_keys use_keys (named use_content found.old.entries)) }
+    ensures { OnOk result (AllStand types.now (named_keys use_keys (named use_content found.new.entries))) }
+{
+    let (name, of) = split_named("`NAME=iN[=NAME]`", word)?;
+    let used = used_type(alloc, types, of)?;
+    let key = read_name(alloc, name)?;
+    match found.insert(key, used)? {
+        None => Ok(()),
+        Some(_) => Err(ScriptError::Repeated(name)),
+    }
 }
 
 // Where a type is used from: `iN`, or `iN=NAME` where it has another name there.

@@ -1,6 +1,6 @@
 //! The contents of defined types, as words describe them.
 
-ghost use Rattle.std.specs.Prelude.{IfOk};
+ghost use Rattle.std.specs.Prelude.{IfOk, OnOk};
 ghost use Rattle.std.specs.List.{flat_map};
 ghost use Rattle.wac_component.specs.Content.{named, defined_content};
 ghost use Rattle.wac_component.specs.Key.{AllStand, value_keys, optional_keys, named_keys, defined_keys};
@@ -54,15 +54,28 @@ fn cases_of<'a>(
 {
     let mut cases = IndexMap::new(alloc);
     for &word in words {
-        let (name, value) = split_named("`NAME=VALUE` or `NAME=-`", word)?;
-        let ty = find_optional_value(types, read_optional_value(value)?)?;
-        let key = read_name(alloc, name)?;
-        let before = cases.insert(key, ty)?;
-        if before.is_some() {
-            return Err(ScriptError::Repeated(name));
-        }
+        add_case(alloc, types, &mut cases, word)?;
     }
     Ok(cases)
+}
+
+// One more of these, under a name that wasn't there.
+fn add_case<'a>(
+    alloc: Global,
+    types: &Types,
+    cases: &mut IndexMap<String, Option<ValueType>>,
+    word: &'a str,
+) -> Result<(), ScriptError<'a>>
+    requires { AllStand types.now (named_keys (optional_keys value_keys) (named (λ t. t) cases.old.entries)) }
+    ensures { OnOk result (AllStand types.now (named_keys (optional_keys value_keys) (named (λ t. t) cases.new.entries))) }
+{
+    let (name, value) = split_named("`NAME=VALUE` or `NAME=-`", word)?;
+    let ty = find_optional_value(types, read_optional_value(value)?)?;
+    let key = read_name(alloc, name)?;
+    match cases.insert(key, ty)? {
+        None => Ok(()),
+        Some(_) => Err(ScriptError::Repeated(name)),
+    }
 }
 
 // The word that stands alone after a kind, in this form.

@@ -13,20 +13,28 @@ fn imports_of<'a>(
 ) -> Result<IndexMap<(String, String), CoreExtern>, ScriptError<'a>> {
     let mut imports = IndexMap::new(alloc);
     for &member in members {
-        let Some(word) = member.strip_prefix("m:") else {
-            continue;
-        };
-        let (names, of) = split_named("`NAME,NAME=EXTERN`", word)?;
-        let Some((source, name)) = names.split_once(',') else {
-            return Err(unexpected("`NAME,NAME=EXTERN`", word));
-        };
-        let key = (read_name(alloc, source)?, read_name(alloc, name)?);
-        let before = imports.insert(key, read_extern(alloc, of)?)?;
-        if before.is_some() {
-            return Err(ScriptError::Repeated(names));
+        if let Some(word) = member.strip_prefix("m:") {
+            add_import(alloc, &mut imports, word)?;
         }
     }
     Ok(imports)
+}
+
+// One more of these, under names that weren't there.
+fn add_import<'a>(
+    alloc: Global,
+    imports: &mut IndexMap<(String, String), CoreExtern>,
+    word: &'a str,
+) -> Result<(), ScriptError<'a>> {
+    let (names, of) = split_named("`NAME,NAME=EXTERN`", word)?;
+    let Some((source, name)) = names.split_once(',') else {
+        return Err(unexpected("`NAME,NAME=EXTERN`", word));
+    };
+    let key = (read_name(alloc, source)?, read_name(alloc, name)?);
+    match imports.insert(key, read_extern(alloc, of)?)? {
+        None => Ok(()),
+        Some(_) => Err(ScriptError::Repeated(names)),
+    }
 }
 
 // The exports of a core module: the members `e:NAME=EXTERN`.
@@ -36,18 +44,26 @@ fn exports_of<'a>(
 ) -> Result<IndexMap<String, CoreExtern>, ScriptError<'a>> {
     let mut exports = IndexMap::new(alloc);
     for &member in members {
-        let Some(word) = member.strip_prefix("e:") else {
-            continue;
-        };
-        let (name, of) = split_named("`NAME=EXTERN`", word)?;
-        let of = read_extern(alloc, of)?;
-        let key = read_name(alloc, name)?;
-        let before = exports.insert(key, of)?;
-        if before.is_some() {
-            return Err(ScriptError::Repeated(name));
+        if let Some(word) = member.strip_prefix("e:") {
+            add_export(alloc, &mut exports, word)?;
         }
     }
     Ok(exports)
+}
+
+// One more of these, under a name that wasn't there.
+fn add_export<'a>(
+    alloc: Global,
+    exports: &mut IndexMap<String, CoreExtern>,
+    word: &'a str,
+) -> Result<(), ScriptError<'a>> {
+    let (name, of) = split_named("`NAME=EXTERN`", word)?;
+    let of = read_extern(alloc, of)?;
+    let key = read_name(alloc, name)?;
+    match exports.insert(key, of)? {
+        None => Ok(()),
+        Some(_) => Err(ScriptError::Repeated(name)),
+    }
 }
 
 /// A core module type: `(m:NAME,NAME=EXTERN)* (e:NAME=EXTERN)*`.
