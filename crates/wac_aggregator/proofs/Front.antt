@@ -128,7 +128,7 @@ module _ (calls front : List Call) (call : Call) (a b : Merging) (among : Contai
           }
 
   -- an import that came with the item
-  of_owner_import : (q : Class) (i : ImportContent) → class_eq c q ≡ false → import_of a.imports q ≡ None → class_of i.0 ≡ q → IsOwnersImport f (item_keys call.kind) taken q i.0 → IsImportName (more front call) i.0
+  of_owner_import : (q : Class) (i : ImportContent) → class_eq c q ≡ false → import_of a.imports q ≡ None → class_of i.0 ≡ q → IsOwnersImport f (item_keys call.kind) taken q i → IsImportName (more front call) i.0
   of_owner_import q i apart none on new = record {
     due = of_owner call (last front call) (record {
       resource = new.leads.resource;
@@ -137,7 +137,7 @@ module _ (calls front : List Call) (call : Call) (a b : Merging) (among : Contai
       owned = new.leads.owned;
       is_on = record { name = new.owner_name; identified = has_identifier f (interface_key new.leads.owner) new.owner_name new.leads.identified; on_track = new.on_track ∙ sym on };
     });
-    source = inr (shared_taken new.entry i.0 new.is_shared new.named);
+    source = inr (shared_taken (interface_key new.entry) i.0 new.is_shared new.named);
     highest = highest_more front call i.0
         (λ other m higher. let r = had_import other m in let no : None ≡ Some r.0 = sym none ∙ ap (import_of a.imports) (sym on ∙ sym (higher_track other i.0 higher)) ∙ r.1 in cc)
         (λ higher. let no : false ≡ true = sym apart ∙ (classes_decided c q).1 (higher_track call.name i.0 higher ∙ on) in cc);

@@ -74,8 +74,8 @@ module _ (call : Call) (a mid : Merging) (own : ItemKind) (may : MayTake call.ty
     reason = λ try. one_reason (attempt_at call a) e (taken call.name) h.1 (came (import_of mid.imports (call_track call)) refl h.0);
   }
     where
-      of_owner : (n : Text) → IsOwnersImport call.types (item_keys call.kind) mid (call_track call) n → IsTaken (attempt_at call a) call.name
-      of_owner n o = record {
+      of_owner : (i : ImportContent) → IsOwnersImport call.types (item_keys call.kind) mid (call_track call) i → IsTaken (attempt_at call a) call.name
+      of_owner i o = record {
         none_stood = ap (option_map (λ (i : ImportContent). item_tree a.types i.1)) none;
         resource = o.leads.resource;
         owner = o.leads.owner;
@@ -89,7 +89,7 @@ module _ (call : Call) (a mid : Merging) (own : ItemKind) (may : MayTake call.ty
       came None at some = absurd (cc)
       came (Some i) at some = elim (takes.due (call_track call) i at) [
         | inl was ↦ absurd (let no : None ≡ Some i = sym none ∙ was in cc)
-        | inr o ↦ of_owner i.0 o
+        | inr o ↦ of_owner i o
       ]
 
   -- it has no meet with the import, or their uses differ

@@ -306,7 +306,7 @@ module _ (f : Collection) (sound : IsSound f) (a b : Merging) (now : Memo) (thei
         stays = g.stays;
         due = λ q i is. elim (g.due q i is) [
           | inl was ↦ inl was
-          | inr new ↦ inr (owners_import_within f c (map resource_key rs) (theirs ∷ []) within q i.0 (owners_import_still f b c kept runs (map resource_key rs) q i.0 new))
+          | inr new ↦ inr (owners_import_within f c (map resource_key rs) (theirs ∷ []) within q i (owners_import_still f b c kept runs (map resource_key rs) q i new))
         ];
         shares = λ e among. elim (g.shares e among) [
           | inl was ↦ inl was

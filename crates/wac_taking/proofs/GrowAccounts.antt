@@ -6,7 +6,7 @@ use Rattle.std.specs.Option.{option_map_or}
 use Rattle.wac_component.specs.Collection.{Collection, UseContent, InterfaceContent}
 use Rattle.wac_component.specs.Entries.{identifier_at, exports_at, uses_at, entry_exports, entry_uses}
 use Rattle.wac_component.specs.Id.{Id}
-use Rattle.wac_component.specs.Key.{Key, Each, Stands, AllStand, optional_keys, other_keys, interface_entry, interface_key, interface_keys, item_keys, named_keys, use_keys}
+use Rattle.wac_component.specs.Key.{Key, Each, Stands, AllStand, interface_entry, interface_key, interface_keys, item_keys, named_keys, use_keys}
 use Rattle.wac_component.specs.Open.{open_next}
 use Rattle.wac_component.specs.Reach.{IsAmong}
 use Rattle.wac_component.specs.declared.items.ItemKind.{ItemKind}
@@ -14,7 +14,7 @@ use Rattle.wac_component.proofs.Among.{among_each, among_either, each_among, eac
 use Rattle.wac_component.proofs.Reading.{interface_at}
 use Rattle.wac_core_merge.proofs.NameLemmas.{Contains-with_new}
 use Rattle.wac_merge.specs.Built.{uses_of_both}
-use Rattle.wac_component.proofs.Keys.{Each-left, Each-right, Each-append}
+use Rattle.wac_component.proofs.Keys.{Each-left, Each-right}
 use Rattle.wac_merge.specs.Items.{Externs, AreFound}
 use Rattle.wac_call_lists.specs.Attempt.{Attempt, IsSource, Touches}
 use Rattle.wac_names.specs.Class.{class_of}
@@ -22,8 +22,6 @@ use Rattle.wac_narrowing.specs.Entering.{AddsEntry, InterfaceIsTaken}
 use Rattle.wac_narrowing.specs.Last.{last_key}
 use Rattle.wac_narrowing.specs.Laws.{LeadsAlongArrows}
 use Rattle.wac_narrowing.specs.Narrows.{AddsShared, CanGrow, grown}
-use Rattle.wac_narrowing.specs.Traced.{Arrows}
-use Rattle.wac_narrowing.proofs.Tracing.{shared_along}
 use Rattle.wac_component.specs.Replacing.{NamesReach}
 use Rattle.wac_call_lists.specs.Reason.{IsReason, cycle}
 use Rattle.wac_narrowing.specs.State.{State, AddsPair, IsKept}
@@ -41,7 +39,8 @@ use Rattle.wac_reasons.proofs.Reasons.{entry_items, leads_back, uses_stay, new_t
 use Rattle.std.proofs.lemmas.List.Elements.{All-contains}
 use Rattle.wac_taking.specs.Takes.{IsTakenUse}
 use Rattle.wac_taking.specs.Growing.{AreAllOpen, AreMetWith, StaysAlong, with_own}
-use Rattle.wac_taking.proofs.GrowLemmas.{kept_on, along_on}
+use Rattle.wac_taking.proofs.Arrowed.{grown_along}
+use Rattle.wac_taking.proofs.GrowLemmas.{kept_on}
 use Rattle.wac_taking.proofs.Refusals.{among_uses}
 use Rattle.wac_reasons.proofs.SourcedItems.{interface_from}
 use Rattle.wac_taking.proofs.TakeLemmas.{shared_stands}
@@ -173,25 +172,14 @@ module _ (at : Attempt) (f : Collection) (s : State) (p e : Id) (x : InterfaceCo
           among_each (IsOpenKey (with_own s d)) j (item_keys r.1) r.3 (met_now.1 r.0 r.1 is).opens
     ])
 
-    -- what the entry named leads along arrows from its track
-    old_along : Each (LeadsAlongArrows s.own s.shared all.roots (class_of m)) (interface_keys old)
-    old_along = each_among (LeadsAlongArrows s.own s.shared all.roots (class_of m)) (interface_keys old) (λ j q.
-        shared_along class_of (Arrows class_of all.roots) s.own s.shared (interface_key e) j m all.arrowed (among, own_is) (subst (IsAmong j) (sym (ap (optional_keys other_keys) (interface_at s.own e old was))) q))
-
     taken_along_track : Each (LeadsAlongArrows s.own s.shared all.roots (class_of m)) (interface_keys z)
     taken_along_track = subst (λ t. Each (LeadsAlongArrows s.own s.shared all.roots t) (interface_keys z)) (sym same) (parts_along at f s p x z name kept trial all h identified)
 
-    -- so does what the grown one names
+    -- what the grown entry names leads along arrows from its track
     pub new_along : (old_stand : AllStand s.own (interface_keys old)) (names : (P : Key → Type 0) → Each P (named_keys use_keys old.uses) → Each P (named_keys use_keys us) → Each P (named_keys use_keys new.uses)) → Each (LeadsAlongArrows d s.shared met_now.0.stays.now.roots (class_of m)) (interface_keys new)
     new_along old_stand names =
-        let L : Key → Type 0 = LeadsAlongArrows s.own s.shared all.roots (class_of m) in
-        let on : (ks : List Key) → AllStand s.own ks → Each L ks → Each (LeadsAlongArrows d s.shared all.roots (class_of m)) ks = along_on s.own d met.on.grows s.shared all.roots (class_of m) kept.good in
         subst (λ rs. Each (LeadsAlongArrows d s.shared rs (class_of m)) (interface_keys new)) (sym met_now.0.roots)
-        (Each-append (LeadsAlongArrows d s.shared all.roots (class_of m)) (named_keys use_keys new.uses) (named_keys item_keys new.exports)
-        (names (LeadsAlongArrows d s.shared all.roots (class_of m))
-        (on (named_keys use_keys old.uses) (Each-left (Stands s.own) (named_keys use_keys old.uses) (named_keys item_keys old.exports) old_stand) (Each-left L (named_keys use_keys old.uses) (named_keys item_keys old.exports) old_along))
-        (on (named_keys use_keys us) (Each-left (Stands s.own) (named_keys use_keys us) (named_keys item_keys es) named) (Each-left L (named_keys use_keys us) (named_keys item_keys es) taken_along_track)))
-        (met.along s.shared all.roots (class_of m) kept.good (Each-right L (named_keys use_keys old.uses) (named_keys item_keys old.exports) old_along) (Each-right L (named_keys use_keys us) (named_keys item_keys es) taken_along_track)))
+        (grown_along s e old new z m kept among was own_is d met names old_stand named all.roots all.arrowed taken_along_track)
 
     -- all stays accounted for once the entry has grown
     pub grown_accounted : (t : State) (old_stand : AllStand s.own (interface_keys old)) (names : (P : Key → Type 0) → Each P (named_keys use_keys old.uses) → Each P (named_keys use_keys us) → Each P (named_keys use_keys new.uses)) → CanGrow d s.shared e old new

@@ -112,7 +112,7 @@ module _ (f : Collection) (a : Merging) (may : MayTake f a) (p e : Id) (name : T
   pub still_stands : Stands d (interface_key e)
   still_stands = met.on.grows.standing (interface_key e) old_stands
 
-  can : CanGrow d (state_of a).shared e old new
+  pub can : CanGrow d (state_of a).shared e old new
   can = record {
     is_shared = among;
     was = entry_of d e old (met.on.grows.same_entry (interface_key e) old_stands ∙ interface_at a.types e old was);

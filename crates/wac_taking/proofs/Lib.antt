@@ -13,3 +13,9 @@ pub mod Identifiers
 pub mod Plain
 pub mod Refusals
 pub mod UseLemmas
+pub mod MemberParts
+pub mod MemberPuts
+pub mod Members
+pub mod Arrowed
+pub mod MemberCycles
+pub mod MemberGrows

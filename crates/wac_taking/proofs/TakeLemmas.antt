@@ -85,16 +85,17 @@ module _ (f : Collection) (b c : Merging) (kept : IsKept (state_of b)) (run : Ru
   still_named : (e : Key) (n : Text) → IsAmong e (shared_keys b.shared.entries) → identifier_at b.types e ≡ Some n → identifier_at c.types e ≡ Some n
   still_named e n among is = (run.stops kept).identifiers e (shared_stands (state_of b) kept e among) ∙ is
 
-  pub owners_import_still : (ks : List Key) (q : Class) (n : Text) → IsOwnersImport f ks b q n → IsOwnersImport f ks c q n
-  owners_import_still ks q n h = record {
+  pub owners_import_still : (ks : List Key) (q : Class) (i : ImportContent) → IsOwnersImport f ks b q i → IsOwnersImport f ks c q i
+  owners_import_still ks q i h = record {
     from = h.from;
     among = h.among;
     owner_name = h.owner_name;
     leads = h.leads;
     on_track = h.on_track;
     entry = h.entry;
-    is_shared = (run.stops kept).shared h.entry h.is_shared;
-    named = still_named h.entry n h.is_shared h.named;
+    is_shared = (run.stops kept).shared (interface_key h.entry) h.is_shared;
+    named = still_named (interface_key h.entry) i.0 h.is_shared h.named;
+    item = h.item;
   }
 
   pub shared_from_still : (ks : List Key) (e : Key) → IsAmong e (shared_keys b.shared.entries) → IsSharedFrom f ks b e → IsSharedFrom f ks c e
@@ -102,10 +103,10 @@ module _ (f : Collection) (b c : Merging) (kept : IsKept (state_of b)) (run : Ru
 
 -- the same of more ids
 module _ (f : Collection) (b : Merging) (ks js : List Key) (within : AreWithin f ks js) where
-  pub owners_import_within : (q : Class) (n : Text) → IsOwnersImport f ks b q n → IsOwnersImport f js b q n
-  owners_import_within q n h =
+  pub owners_import_within : (q : Class) (i : ImportContent) → IsOwnersImport f ks b q i → IsOwnersImport f js b q i
+  owners_import_within q i h =
       let l = leads_within f h.from ks js h.owner_name within h.among h.leads in
-      record { from = l.0; among = l.1; owner_name = h.owner_name; leads = l.2; on_track = h.on_track; entry = h.entry; is_shared = h.is_shared; named = h.named }
+      record { from = l.0; among = l.1; owner_name = h.owner_name; leads = l.2; on_track = h.on_track; entry = h.entry; is_shared = h.is_shared; named = h.named; item = h.item }
 
   pub shared_from_within : (e : Key) → IsSharedFrom f ks b e → IsSharedFrom f js b e
   shared_from_within e h = record { theirs = h.theirs; name = h.name; walk = openly_within f ks js h.theirs within h.walk; identified = h.identified; own_identified = h.own_identified }
@@ -182,7 +183,7 @@ module _ (f : Collection) {near : List Key} where
     owners = h.owners;
     led = h.led;
     stays = h.stays;
-    due = λ q i is. elim (h.due q i is) [ inl was ↦ inl was | inr new ↦ inr (owners_import_within f b ks js within q i.0 new) ];
+    due = λ q i is. elim (h.due q i is) [ inl was ↦ inl was | inr new ↦ inr (owners_import_within f b ks js within q i new) ];
     shares = λ e among. elim (h.shares e among) [ inl was ↦ inl was | inr new ↦ inr (shared_from_within f b ks js within e new) ];
     plain = λ p. h.plain (plain_within f ks js within p);
     known = λ all. h.known (known_within f a ks js within all);
@@ -205,9 +206,9 @@ module _ (f : Collection) {near : List Key} where
         due = λ q i is. elim (h.due q i is) [
           | inl was ↦ elim (g.due q i was) [
             | inl old ↦ inl old
-            | inr new ↦ inr (owners_import_within f c ks ls first q i.0 (owners_import_still f b c kept h.run ks q i.0 new))
+            | inr new ↦ inr (owners_import_within f c ks ls first q i (owners_import_still f b c kept h.run ks q i new))
           ]
-          | inr new ↦ inr (owners_import_within f c js ls second q i.0 new)
+          | inr new ↦ inr (owners_import_within f c js ls second q i new)
         ];
         shares = λ e among. elim (h.shares e among) [
           | inl was ↦ elim (g.shares e was) [
@@ -455,13 +456,13 @@ module _ (f : Collection) where
         import_open at all = import_now (λ x. (k : Key) → IsAmong k (item_keys x) → IsOpenSource at (state_of a) k)
             (λ k m. subst (λ j. IsOpenSource at (state_of a) j) (sym (among_single (interface_key own) m)) (root_open at (state_of a) (interface_key own) all (of_shared shared))) (λ n x was k m. root_open at (state_of a) k all (of_import {n = n} was m))
 
-        due : (r : Class) (i : ImportContent) → import_of is r ≡ Some i → (import_of a.imports r ≡ Some i) ⊎ IsOwnersImport f ks (record a { imports = is }) r i.0
+        due : (r : Class) (i : ImportContent) → import_of is r ≡ Some i → (import_of a.imports r ≡ Some i) ⊎ IsOwnersImport f ks (record a { imports = is }) r i
         due r i at = by (class_eq q r) refl (sym (puts r) ∙ at)
           where
-            by : (t : Bool) → class_eq q r ≡ t → cond t (Some (name, Instance own)) (import_of a.imports r) ≡ Some i → (import_of a.imports r ≡ Some i) ⊎ IsOwnersImport f ks (record a { imports = is }) r i.0
+            by : (t : Bool) → class_eq q r ≡ t → cond t (Some (name, Instance own)) (import_of a.imports r) ≡ Some i → (import_of a.imports r ≡ Some i) ⊎ IsOwnersImport f ks (record a { imports = is }) r i
             by true e h =
                 let same : (name, Instance own) ≡ i = cc in
-                inr (record { from = from; among = among; owner_name = owner_name; leads = leads; on_track = on ∙ (classes_decided q r).0 e; entry = interface_key own; is_shared = shared; named = named ∙ ap (λ (j : ImportContent). Some j.0) same })
+                inr (record { from = from; among = among; owner_name = owner_name; leads = leads; on_track = on ∙ (classes_decided q r).0 e; entry = own; is_shared = shared; named = named ∙ ap (λ (j : ImportContent). Some j.0) same; item = sym (ap (λ (j : ImportContent). j.1) same) })
             by false e h = inl h
 
   -- there was one

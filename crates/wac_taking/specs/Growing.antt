@@ -45,7 +45,7 @@ pub record StaysAlong (at : Attempt) (s t : State) (all : IsAccounted at s) : Ty
   pub stays : StaysAccounted at s t
   pub roots : stays.now.roots ≡ all.roots
 
--- in d stands the greatest item that fits where either of two items of c is asked for; it leads openly to shared interfaces alone where both do
+-- in d stands the greatest item that fits where either of two items of c is asked for, which is the first where that fits where the second is; it leads openly to shared interfaces alone where both do
 pub record IsMetWith (c d : Collection) (a b m : ItemKind) : Type 0 where
   pub on : StepsOn c d
   pub stands : AllStand d (item_keys m)
@@ -55,6 +55,7 @@ pub record IsMetWith (c d : Collection) (a b m : ItemKind) : Type 0 where
   pub fits_first : Fits (item_tree d m) (item_tree c a)
   pub fits_second : Fits (item_tree d m) (item_tree c b)
   pub greatest : (t : ItemTree) → Fits t (item_tree c a) → Fits t (item_tree c b) → Fits t (item_tree d m)
+  pub kept : Fits (item_tree c a) (item_tree c b) → m ≡ a
   pub covered : (ss : List Key) → IsGood c ss → Each (IsCovered c ss) (item_keys a) → Each (IsCovered c ss) (item_keys b) → Each (IsCovered d ss) (item_keys m)
 
 -- no item fits where both of two items are asked for

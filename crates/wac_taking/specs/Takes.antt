@@ -15,6 +15,7 @@ use Rattle.wac_component.specs.Open.{open_next, OpenReaches}
 use Rattle.wac_component.specs.Reach.{IsAmong}
 use Rattle.wac_component.specs.Tree.{root_name}
 use Rattle.wac_component.specs.declared.items.ItemKind.{ItemKind}
+use Rattle.wac_component.specs.declared.items.ItemKind.TheVariants.{Instance}
 use Rattle.wac_names.specs.Class.{Class, class_eq, class_of}
 use Rattle.wac_call_lists.specs.Attempt.{Attempt}
 use Rattle.wac_call_lists.specs.PlainList.{ArePlain}
@@ -97,16 +98,17 @@ pub record LeadsToOwner (f : Collection) (k : Key) (n : Text) : Type 0 where
 abbrev pub OwnersImported : Collection → State → Type 0
 OwnersImported g s = (theirs own : Key) (n : Text) → s.taken theirs ≡ Some own → theirs.id.number ≡ g.number → LeadsToOwner g theirs n → IsSome (s.imports n)
 
--- an import on the track of an owner to which the ids openly lead, under the identifier of a shared entry
-pub record IsOwnersImport (f : Collection) (ks : List Key) (b : Merging) (q : Class) (name : Text) : Type 0 where
+-- an import on the track of an owner to which the ids openly lead: an instance of a shared entry, under the identifier of that
+pub record IsOwnersImport (f : Collection) (ks : List Key) (b : Merging) (q : Class) (import : ImportContent) : Type 0 where
   pub from : Key
   pub among : IsAmong from ks
   pub owner_name : Text
   pub leads : LeadsToOwner f from owner_name
   pub on_track : class_of owner_name ≡ q
-  pub entry : Key
-  pub is_shared : IsAmong entry (shared_keys b.shared.entries)
-  pub named : identifier_at b.types entry ≡ Some name
+  pub entry : Id
+  pub is_shared : IsAmong (interface_key entry) (shared_keys b.shared.entries)
+  pub named : identifier_at b.types (interface_key entry) ≡ Some import.0
+  pub item : import.1 ≡ Instance entry
 
 -- a shared entry with the identifier of an interface to which the ids openly lead
 pub record IsSharedFrom (f : Collection) (ks : List Key) (b : Merging) (e : Key) : Type 0 where
@@ -135,7 +137,7 @@ pub record TakesBy (near : List Key) (f : Collection) (a b : Merging) (top : ℕ
   pub owners : (g : Collection) → IsOneWith f g → OwnersImported g (state_of a) → OwnersImported g (state_of b)
   pub led : b.imports.led ≡ a.imports.led
   pub stays : (q : Class) (i : ImportContent) → import_of a.imports q ≡ Some i → import_of b.imports q ≡ Some i
-  pub due : (q : Class) (i : ImportContent) → import_of b.imports q ≡ Some i → (import_of a.imports q ≡ Some i) ⊎ IsOwnersImport f ks b q i.0
+  pub due : (q : Class) (i : ImportContent) → import_of b.imports q ≡ Some i → (import_of a.imports q ≡ Some i) ⊎ IsOwnersImport f ks b q i
   pub shares : (e : Key) → IsAmong e (shared_keys b.shared.entries) → IsAmong e (shared_keys a.shared.entries) ⊎ IsSharedFrom f ks b e
   pub plain : ArePlain f ks → b.imports ≡ a.imports
   pub known : AreKnown f a ks → OnlyGrows f a b

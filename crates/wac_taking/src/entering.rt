@@ -7,12 +7,15 @@ ghost use Rattle.wac_component.specs.Height.{height};
 ghost use Rattle.wac_component.specs.Key.{interface_key};
 ghost use Rattle.wac_names.specs.Class.{class_of};
 ghost use Rattle.wac_narrowing.specs.Taking.{IsTakenKey};
+ghost use Rattle.wac_call_lists.specs.Entries.{ReachesByUses};
+ghost use Rattle.wac_taking.specs.Members.{AnswersMembers};
 ghost use Rattle.wac_taking.specs.Refused.{IsRefused};
 ghost use Rattle.wac_taking.specs.Takes.{MayTake, MayPut, Takes, shared_in};
 
 use super::growing::grow;
 use super::state::Merging;
 use indexmap::IndexMap;
+use wac_component::laws::names_in_an_interface_are_distinct;
 use wac_component::{Interface, InterfaceId, ItemKind, Types, UsedType};
 use wac_names::NameClass;
 use wac_refusals::AggregateError;
@@ -27,7 +30,8 @@ pub(crate) fn put_interface(
 ) -> Result<InterfaceId, AggregateError>
     requires state { MayTake types.now state.old }
     requires taken { MayPut types.now state.old id (named use_content uses.entries) (named (λ k. k) exports.entries) }
-    ensures { MatchResult result (λ r. Takes types.now state.old state.new (height types.now (interface_key id)) (interface_key id ∷ []) (λ t. IsTakenKey class_of types.now t (interface_key id) (interface_key r))) (IsRefused types.now state.old (interface_key id ∷ [])) }
+    ensures taken { MatchResult result (λ r. Takes types.now state.old state.new (height types.now (interface_key id)) (interface_key id ∷ []) (λ t. IsTakenKey class_of types.now t (interface_key id) (interface_key r))) (IsRefused types.now state.old (interface_key id ∷ [])) }
+    ensures members { AnswersMembers result types.now state.old state.new (ReachesByUses types.now id) }
 {
     let Some(name) = types[id].id.clone()? else {
         return put_plain(state, types, id, uses, exports);
@@ -76,13 +80,17 @@ pub(crate) fn put_shared(
     requires of { class ≡ class_of (string_bytes name) }
     requires new { shared_in state.old.shared.entries class ≡ None }
     requires taken { MayPut types.now state.old id (named use_content uses.entries) (named (λ k. k) exports.entries) }
-    ensures { MatchResult result (λ r. Takes types.now state.old state.new (height types.now (interface_key id)) (interface_key id ∷ []) (λ t. IsTakenKey class_of types.now t (interface_key id) (interface_key r))) (IsRefused types.now state.old (interface_key id ∷ [])) }
+    ensures taken { MatchResult result (λ r. Takes types.now state.old state.new (height types.now (interface_key id)) (interface_key id ∷ []) (λ t. IsTakenKey class_of types.now t (interface_key id) (interface_key r))) (IsRefused types.now state.old (interface_key id ∷ [])) }
+    ensures members { AnswersMembers result types.now state.old state.new (ReachesByUses types.now id) }
 {
-    let own = state.types.add_interface(Interface {
+    let entry = Interface {
         id: Some(name),
         uses,
         exports,
-    })?;
+    };
+    // A name stands once in a map, so that what stands under it is what a look-up finds.
+    names_in_an_interface_are_distinct(&entry);
+    let own = state.types.add_interface(entry)?;
     state.shared.insert(class, own)?;
     state.taken.put_interface(id, own)?;
     Ok(own)

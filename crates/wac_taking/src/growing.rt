@@ -7,6 +7,7 @@ ghost use Rattle.wac_component.specs.Entries.{identifier_at};
 ghost use Rattle.wac_component.specs.Height.{height};
 ghost use Rattle.wac_component.specs.Key.{Stands, AllStand, item_keys, interface_key, interface_keys};
 ghost use Rattle.wac_component.specs.Replacing.{NamesReach};
+ghost use Rattle.wac_call_lists.specs.Entries.{ReachesByUses};
 ghost use Rattle.wac_call_lists.specs.Reason.{cycle as closes};
 ghost use Rattle.wac_refusals.specs.declared.error.AggregateError.TheVariants.{Memory};
 ghost use Rattle.wac_merge.specs.Items.{AreFound, extern_keys, extern_list};
@@ -14,6 +15,7 @@ ghost use Rattle.wac_names.specs.Class.{class_of};
 ghost use Rattle.wac_narrowing.specs.Narrows.{grown};
 ghost use Rattle.wac_narrowing.specs.Taking.{IsTakenKey};
 ghost use Rattle.wac_taking.specs.Growing.{IsMetWith, AreMetWith};
+ghost use Rattle.wac_taking.specs.Members.{AnswersMembers};
 ghost use Rattle.wac_taking.specs.Refused.{said, IsRefused, IsMergeRefusal, AreRefusedItems};
 ghost use Rattle.wac_taking.specs.Takes.{MayTake, MayPut, Takes, shared_in};
 
@@ -71,10 +73,13 @@ pub(crate) fn grow(
     requires identified { identifier_at types.now (interface_key id) ≡ Some (string_bytes name) }
     requires shared { shared_in state.old.shared.entries (class_of (string_bytes name)) ≡ Some own }
     requires taken { MayPut types.now state.old id (named use_content uses.entries) (named (λ k. k) exports.entries) }
-    ensures { MatchResult result (λ r. Takes types.now state.old state.new (height types.now (interface_key id)) (interface_key id ∷ []) (λ t. IsTakenKey class_of types.now t (interface_key id) (interface_key r))) (IsRefused types.now state.old (interface_key id ∷ [])) }
+    ensures taken { MatchResult result (λ r. Takes types.now state.old state.new (height types.now (interface_key id)) (interface_key id ∷ []) (λ t. IsTakenKey class_of types.now t (interface_key id) (interface_key r))) (IsRefused types.now state.old (interface_key id ∷ [])) }
+    ensures members { AnswersMembers result types.now state.old state.new (ReachesByUses types.now id) }
 {
     let alloc = state.alloc();
     let mut entry = state.types[own].clone()?;
+    // A name stands once in a map, so that what stands under it is what a look-up finds.
+    names_in_an_interface_are_distinct(&entry);
     check_uses(alloc, &state.types, &entry.uses, &uses)?;
     add_new(&mut entry.uses, uses)?;
     let place = place_of(state, &name)?;
@@ -85,7 +90,7 @@ pub(crate) fn grow(
         &mut entry.exports,
         &exports,
     )?;
-    // A name stands once in a map, so that what stands under it is what a look-up finds.
+    // So it does in the maps that were added to.
     names_in_an_interface_are_distinct(&entry);
     replace(&mut state.types, own, entry, name)?;
     state.taken.put_interface(id, own)?;

@@ -9,10 +9,12 @@ ghost use Rattle.wac_component.specs.Height.{height, keys_height};
 ghost use Rattle.wac_component.specs.Id.{Id};
 ghost use Rattle.wac_component.specs.Implicit.{HasIdentifier};
 ghost use Rattle.wac_component.specs.Key.{Stands, Each, AllStand, item_keys, type_keys, value_keys, alias_keys, optional_keys, named_keys, use_keys, defined_keys, defined_key, resource_key, func_key, interface_key, world_key, module_key};
-ghost use Rattle.wac_component.specs.declared.items.ItemKind.TheVariants.{«Type» as OfType};
+ghost use Rattle.wac_component.specs.declared.items.ItemKind.TheVariants.{«Type» as OfType, Instance};
+ghost use Rattle.wac_call_lists.specs.Entries.{ReachesByUses};
 ghost use Rattle.wac_names.specs.Class.{class_of};
 ghost use Rattle.wac_narrowing.specs.Taking.{AreMapped, IsTakenItem, IsTakenKey};
 ghost use Rattle.wac_narrowing.specs.Values.{IsTakenValue, AreListed, IfAny, AreDefined};
+ghost use Rattle.wac_taking.specs.Members.{AnswersMembers, IsUsedBy};
 ghost use Rattle.wac_taking.specs.Refused.{IsRefusedBy, IsRefused, AreRefusedUses, SaysOfUse};
 ghost use Rattle.wac_taking.specs.Takes.{MayTake, IsOwnEntry, IsNear, near_keys, TakesBy, Takes, owners_keys, AreOwnersTaken, IsTakenAlias, IsTakenOwner, IsTakenUse, alias_at};
 
@@ -45,7 +47,8 @@ pub fn take_item(
     requires source { AllStand types.now (item_keys kind) }
     requires state { MayTake types.now state.old }
     requires near { IsNear state.old near }
-    ensures { MatchResult result (λ k. TakesBy (near_keys near) types.now state.old state.new (keys_height types.now (item_keys kind)) (item_keys kind) (λ t. IsTakenItem class_of types.now t kind k)) (IsRefusedBy (near_keys near) types.now state.old (item_keys kind)) }
+    ensures taken { MatchResult result (λ k. TakesBy (near_keys near) types.now state.old state.new (keys_height types.now (item_keys kind)) (item_keys kind) (λ t. IsTakenItem class_of types.now t kind k)) (IsRefusedBy (near_keys near) types.now state.old (item_keys kind)) }
+    ensures members { (i : Id) → kind ≡ Instance i → AnswersMembers result types.now state.old state.new (ReachesByUses types.now i) }
 {
     match kind {
         ItemKind::Type(ty) => Ok(ItemKind::Type(take_type(state, types, ty, near)?)),
@@ -375,7 +378,8 @@ fn take_interface(
     requires source { Stands types.now (interface_key id) }
     requires state { MayTake types.now state.old }
     requires near { IsNear state.old near }
-    ensures { MatchResult result (λ r. TakesBy (near_keys near) types.now state.old state.new (height types.now (interface_key id)) (interface_key id ∷ []) (λ t. IsTakenKey class_of types.now t (interface_key id) (interface_key r))) (IsRefusedBy (near_keys near) types.now state.old (interface_key id ∷ [])) }
+    ensures taken { MatchResult result (λ r. TakesBy (near_keys near) types.now state.old state.new (height types.now (interface_key id)) (interface_key id ∷ []) (λ t. IsTakenKey class_of types.now t (interface_key id) (interface_key r))) (IsRefusedBy (near_keys near) types.now state.old (interface_key id ∷ [])) }
+    ensures members { AnswersMembers result types.now state.old state.new (ReachesByUses types.now id) }
 {
     if let Some(own) = state.taken.interface(id) {
         return Ok(own);
@@ -398,7 +402,8 @@ fn take_uses(
 ) -> Result<IndexMap<String, UsedType>, AggregateError>
     requires source { AllStand types.now (named_keys use_keys (named use_content uses.now.entries)) }
     requires state { MayTake types.now state.old }
-    ensures { MatchResult result (λ m. Takes types.now state.old state.new (keys_height types.now (named_keys use_keys (named use_content uses.now.entries))) (named_keys use_keys (named use_content uses.now.entries)) (λ t. AreMapped (IsTakenUse types.now t) (named use_content uses.now.entries) (named use_content m.entries))) (AreRefusedUses types.now state.old (named use_content uses.now.entries)) }
+    ensures taken { MatchResult result (λ m. Takes types.now state.old state.new (keys_height types.now (named_keys use_keys (named use_content uses.now.entries))) (named_keys use_keys (named use_content uses.now.entries)) (λ t. AreMapped (IsTakenUse types.now t) (named use_content uses.now.entries) (named use_content m.entries))) (AreRefusedUses types.now state.old (named use_content uses.now.entries)) }
+    ensures members { AnswersMembers result types.now state.old state.new (IsUsedBy types.now (named use_content uses.now.entries)) }
 {
     let mut taken = uses.clone()?;
     for i in 0..uses.len() {
@@ -432,7 +437,8 @@ fn take_used(
     requires source { AllStand types.now (named_keys use_keys (named use_content uses.now.entries)) }
     requires state { MayTake types.now state.old }
     requires at { index < length uses.now.entries }
-    ensures { MatchResult result (λ r. Takes types.now state.old state.new (keys_height types.now (named_keys use_keys (named use_content uses.now.entries))) (named_keys use_keys (named use_content uses.now.entries)) (λ t. (p : Id) → option_map (λ u. u.interface) (slice_get (types_of uses.now.entries) index) ≡ Some p → IsTakenKey class_of types.now t (interface_key p) (interface_key r) × HasIdentifier types.now p)) (AreRefusedUses types.now state.old (named use_content uses.now.entries)) }
+    ensures taken { MatchResult result (λ r. Takes types.now state.old state.new (keys_height types.now (named_keys use_keys (named use_content uses.now.entries))) (named_keys use_keys (named use_content uses.now.entries)) (λ t. (p : Id) → option_map (λ u. u.interface) (slice_get (types_of uses.now.entries) index) ≡ Some p → IsTakenKey class_of types.now t (interface_key p) (interface_key r) × HasIdentifier types.now p)) (AreRefusedUses types.now state.old (named use_content uses.now.entries)) }
+    ensures members { AnswersMembers result types.now state.old state.new (IsUsedBy types.now (named use_content uses.now.entries)) }
 {
     let interface = used_at(uses, index);
     types.sound();

@@ -4,6 +4,7 @@ use Rattle.wac_component.specs.Content.{interface_content}
 use Rattle.wac_component.proofs.CloneLemmas.{option_map-clone}
 use Rattle.wac_names.specs.Class.{class_of}
 use Rattle.wac_taking.specs.Takes.{shared_in}
+use Rattle.wac_taking.proofs.MemberPuts.{no_plain}
 use Rattle.wac_taking.proofs.TakeLemmas.{content_identifier}
 use Rattle.wac_taking.proofs.entering.put_interface.Goals as goal
 
@@ -35,3 +36,9 @@ put_shared-requires-clause-of c = c.in_ok-class.ensures ∙ ap class_of c.as_str
 
 pub put_shared-requires-clause-new : goal.put_shared-requires-clause-new
 put_shared-requires-clause-new c = sym c.get.ensures.value ∙ sym c.copied.ensures ∙ c.in-None.is
+
+pub returns-in_default-clause-members : goal.returns-in_default-clause-members
+returns-in_default-clause-members c = λ taken wit has all.
+    absurd (no_plain c.args.types.now c.args.id
+    (content_identifier c.args.types.now c.args.id (interface_content c.index.result.now) c.index.ensures.entry
+    ∙ sym (option_map-clone string_bytes (λ v w same. same) c.index.result.now.id c.in_ok-name.field-0 c.in_ok-name.ensures.cases) ∙ ap (option_map string_bytes) c.in_default.is) wit)

@@ -1,12 +1,10 @@
 use Rattle.std.proofs.Common.{◌≡◌, ◌++◌, [], ◌∷◌, Some, refl, ap, sym, subst, ◌∙◌, None, string_bytes, inl, inr}
-use Rattle.std.proofs.lemmas.List.{map-append}
 use Rattle.std.specs.Option.{option_map_or}
 use Rattle.indexmap.proofs.CallerLemmas.{insert_entry-new}
 use Rattle.wac_component.specs.Content.{interface_content}
 use Rattle.wac_component.specs.Entries.{entry_identifier, identifier_at}
-use Rattle.wac_component.specs.Id.{Id}
 use Rattle.wac_component.specs.Key.{interface_entry, interface_key}
-use Rattle.wac_names.specs.Class.{Class, class_eq, class_of}
+use Rattle.wac_names.specs.Class.{class_eq, class_of}
 use Rattle.wac_narrowing.specs.Entering.{AddsEntry, IsEntered}
 use Rattle.wac_narrowing.specs.Last.{last_key}
 use Rattle.wac_narrowing.specs.Narrows.{AddsShared}
@@ -14,19 +12,20 @@ use Rattle.wac_narrowing.specs.State.{AddsPair}
 use Rattle.wac_narrowing.proofs.Adding.{last_at}
 use Rattle.wac_narrowing.proofs.Entering.{interface_named, shared_interface_enters}
 use Rattle.wac_copies.specs.Memo.{memo_of}
-use Rattle.wac_taking.specs.Takes.{shared_keys, state_of}
-use Rattle.wac_taking.proofs.TakeLemmas.{content_identifier, taken_as, Takes-entered, AreFiledIn-put, adds_last, not_known}
+use Rattle.wac_taking.specs.Takes.{state_of}
+use Rattle.wac_taking.proofs.TakeLemmas.{content_identifier, taken_as, Takes-entered, AreFiledIn-put, not_known}
 use Rattle.wac_component.specs.Open.{stay}
 use Rattle.wac_component.specs.Reach.{here}
 use Rattle.wac_taking.proofs.Enters.{interface_owners}
 use Rattle.wac_taking.proofs.GrowAccounts.{shared_accounted}
+use Rattle.wac_taking.proofs.MemberPuts.{shares_last, TakesMembers-added}
 use Rattle.wac_taking.proofs.entering.put_shared.Goals as goal
 
 pub add_interface-requires : goal.add_interface-requires
 add_interface-requires c = interface_named class_of c.args.types.now (state_of c.args.state.now) c.requires.state.kept c.args.id c.requires.taken.content _ c.requires.taken.taken
 
-pub returns : goal.returns
-returns c =
+pub returns-clause-taken : goal.returns-clause-taken
+returns-clause-taken c =
     let f = c.args.types.now in
     let was = c.args.state.now in
     let now = record c.args.state.now { types = c.add_interface.new.self; shared = c.insert.new.self; taken = c.put_interface.new.self } in
@@ -35,8 +34,7 @@ returns c =
     let last : interface_key c.in_ok-own.own ≡ last_key was.types (interface_entry z) = ap interface_key c.in_ok-own.ensures.id in
     let pair = c.in_ok-put_interface.ensures c.requires.taken.absent in
     let entries : c.insert.new.self.entries ≡ was.shared.entries ++ (c.args.class, c.in_ok-own.own) ∷ [] = c.in_ok-insert.ensures.entries ∙ insert_entry-new class_eq was.shared c.args.class c.in_ok-own.own c.requires.new in
-    let keys : shared_keys c.insert.new.self.entries ≡ shared_keys was.shared.entries ++ interface_key c.in_ok-own.own ∷ [] = ap shared_keys entries ∙ map-append (λ (e : Class × Id). interface_key e.1) was.shared.entries ((c.args.class, c.in_ok-own.own) ∷ []) in
-    let shares : AddsShared (state_of was).shared (state_of now).shared (last_key was.types (interface_entry z)) = subst (λ k. AddsShared (state_of was).shared (state_of now).shared k) last (subst (λ ks. AddsShared (state_of was).shared ks (interface_key c.in_ok-own.own)) (sym keys) (adds_last (shared_keys was.shared.entries) (interface_key c.in_ok-own.own))) in
+    let shares : AddsShared (state_of was).shared (state_of now).shared (last_key was.types (interface_entry z)) = subst (λ k. AddsShared (state_of was).shared (state_of now).shared k) last (shares_last was.shared.entries c.insert.new.self.entries c.args.class c.in_ok-own.own entries) in
     let adds : AddsEntry f (state_of was) (state_of now) theirs (interface_entry z) = record { own = c.in_ok-own.ensures.added; imports = refl; copies = refl; number = c.requires.taken.taken.stands.0; remembers = subst (AddsPair (memo_of was.taken) (memo_of now.taken) theirs) last pair } in
     let enters = shared_interface_enters class_of f (state_of was) c.requires.state.kept c.args.id c.requires.taken.content z (taken_as f (state_of was) c.args.id c.requires.taken.content _ _ z.id c.requires.taken.taken) (state_of now) (string_bytes c.args.name) (string_bytes c.args.name) (sym (content_identifier f c.args.id c.requires.taken.content c.requires.taken.taken.entry) ∙ c.requires.identified) refl refl adds shares in
     let identified : identifier_at now.types (interface_key c.in_ok-own.own) ≡ Some (string_bytes c.args.name) =
@@ -52,3 +50,12 @@ returns c =
     (interface_owners f (state_of was) taken.sound c.requires.state.kept c.args.id c.requires.taken.content _ taken)
     (subst (λ k. IsEntered class_of f (state_of was) (state_of now) theirs k) (sym last) enters)
     (λ at trial all. shared_accounted at f (state_of was) c.args.id c.requires.taken.content z (string_bytes c.args.name) c.requires.state.kept trial all (taken_as f (state_of was) c.args.id c.requires.taken.content _ _ z.id c.requires.taken.taken) c.requires.identified (state_of now) c.requires.taken.used refl adds shares)
+
+pub returns-clause-members : goal.returns-clause-members
+returns-clause-members c = λ taken wit has all.
+    let was = c.args.state.now in
+    let now = record c.args.state.now { types = c.add_interface.new.self; shared = c.insert.new.self; taken = c.put_interface.new.self } in
+    TakesMembers-added c.args.types.now was now c.requires.state c.args.id c.in_ok-own.own (interface_content (record { id = Some c.args.name; uses = c.args.uses; exports = c.args.exports })) c.requires.taken (string_bytes c.args.name) c.args.class
+    c.requires.identified refl c.requires.of c.requires.new c.names_in_an_interface_are_distinct.ensures.0 (ap interface_key c.in_ok-own.ensures.id) c.in_ok-own.ensures.added c.in_ok-insert.ensures.updates.0 taken wit has
+    (shares_last was.shared.entries c.insert.new.self.entries c.args.class c.in_ok-own.own (c.in_ok-insert.ensures.entries ∙ insert_entry-new class_eq was.shared c.args.class c.in_ok-own.own c.requires.new))
+    (c.in_ok-put_interface.ensures c.requires.taken.absent)

@@ -41,15 +41,20 @@ use Rattle.wac_alike.specs.Alike.{IsMadeOf, IsAlikeAnswer}
 use Rattle.wac_taking.specs.Takes.{owners_keys, AreOwnersTaken}
 use Rattle.wac_taking.proofs.Alike.{same_resource, same_defined_type, owners_lower, owned_within_type, owned_stand, alike_absent, Takes-alike, own_if_led, resource_at, within_resources, owner_stands, absent_of, Takes-also, AreFirstTaken, first_still, first_next, first_whole, IsNear-none, IsNear-led, IsNear-Takes, near_below, near_item, near_nearest, Takes-nearest, nearest_still}
 use Rattle.wac_taking.proofs.Arms.{taken_item, taken_value, taken_content, Takes-set, Takes-place, Takes-use, used_index}
-use Rattle.wac_taking.proofs.Plain.{used_named}
+use Rattle.wac_taking.proofs.Plain.{used_named, contains_at, OnlyGrows-trans}
+use Rattle.wac_taking.proofs.Members.{wit_within, reached_closed, used_closed, TakesMembers-none, TakesMembers-then, TakesMembers-within, member_refused_within, member_refused_after, member_refused_unidentified, known_refused, used_from, content_known, interface_members}
 use Rattle.wac_taking.proofs.Refusals.{passed_on, refused_later, refused_near, refused_apart, refused_part, refused_item, refused_then, refused_uses, refused_owner, refused_use, refused_used, uses_within}
-use Rattle.wac_taking.specs.Refused.{IsRefused}
+use Rattle.wac_taking.specs.Refused.{IsRefused, IsOfUnidentified}
+use Rattle.wac_taking.specs.Members.{TakesMembers, IsMemberRefusal, IsUsedBy}
+use Rattle.wac_call_lists.specs.Entries.{ReachesByUses}
+use Rattle.wac_call_lists.specs.WitList.{AreWit}
+use Rattle.wac_narrowing.proofs.Running.{Runs-trans}
 use Rattle.wac_component.specs.Implicit.{identifier, HasIdentifier}
-use Rattle.wac_call_lists.specs.Reason.{owner_without_identifier}
+use Rattle.wac_call_lists.specs.Reason.{no_identifier, owner_without_identifier}
 use Rattle.wac_refusals.specs.declared.error.AggregateError.TheVariants.{OwnerWithoutIdentifier}
 use Rattle.wac_taking.proofs.Enters.{defined_stands, func_stands, alias_stands, world_stands, interface_is_taken, world_is_taken, defined_enters, func_enters, resource_enters, world_enters}
 use Rattle.wac_taking.proofs.Parts.{item_of_value, type_of_value, borrow_of_taken, own_of_taken, defined_of_taken, alias_of_taken, owner_still, owner_taken, uses_still, values_still, option_still}
-use Rattle.wac_taking.proofs.TakeLemmas.{content_identifier, no_name, some_name, MayTake-Takes, MayTake-copies, Takes-copied, Takes-near, Takes-apart, Takes-after, Takes-none, Takes-more, Takes-then, Takes-hit, Takes-enter}
+use Rattle.wac_taking.proofs.TakeLemmas.{content_identifier, known_still, no_name, some_name, MayTake-Takes, MayTake-copies, Takes-copied, Takes-near, Takes-apart, Takes-after, Takes-none, Takes-more, Takes-then, Takes-hit, Takes-enter}
 use Rattle.wac_taking.proofs.taking.+taking.Goals as goal
 
 pub take_defined-returns-in-Some : goal.take_defined-returns-in-Some
@@ -64,28 +69,28 @@ pub take_resource-returns-in-Some : goal.take_resource-returns-in-Some
 take_resource-returns-in-Some t c =
     Takes-hit c.args.types.now c.args.state.now (resource_key c.args.id) (resource_key c.in-Some.own) (height c.args.types.now (resource_key c.args.id)) c.requires.state c.requires.source.0 (sym c.in-Some.ensures)
 
-pub take_interface-returns-in-Some : goal.take_interface-returns-in-Some
-take_interface-returns-in-Some t c =
+pub take_interface-returns-in-Some-clause-taken : goal.take_interface-returns-in-Some-clause-taken
+take_interface-returns-in-Some-clause-taken t c =
     Takes-hit c.args.types.now c.args.state.now (interface_key c.args.id) (interface_key c.in-Some.own) (height c.args.types.now (interface_key c.args.id)) c.requires.state c.requires.source.0 (sym c.in-Some.ensures)
 
-pub take_item-returns-in_ok-take_func-in-Func : goal.take_item-returns-in_ok-take_func-in-Func
-take_item-returns-in_ok-take_func-in-Func t c =
+pub take_item-returns-in_ok-take_func-in-Func-clause-taken : goal.take_item-returns-in_ok-take_func-in-Func-clause-taken
+take_item-returns-in_ok-take_func-in-Func-clause-taken t c =
     taken_item c.args.types.now c.args.state.now c.take_func.new.state c.requires.state item (func_key c.in-Func.id) (func_key c.in_ok-take_func-in-Func.field-0) c.args.kind (Func c.in-Func.id) (Func c.in_ok-take_func-in-Func.field-0) c.in-Func.is refl refl refl refl (Takes-apart c.args.types.now c.args.state.now c.take_func.new.state _ _ _ c.in_ok-take_func-in-Func.ensures)
 
-pub take_item-returns-in_ok-take_interface-in-Instance : goal.take_item-returns-in_ok-take_interface-in-Instance
-take_item-returns-in_ok-take_interface-in-Instance t c =
-    taken_item c.args.types.now c.args.state.now c.take_interface.new.state c.requires.state item (interface_key c.in-Instance.id) (interface_key c.in_ok-take_interface-in-Instance.field-0) c.args.kind (Instance c.in-Instance.id) (Instance c.in_ok-take_interface-in-Instance.field-0) c.in-Instance.is refl refl refl refl c.in_ok-take_interface-in-Instance.ensures
+pub take_item-returns-in_ok-take_interface-in-Instance-clause-taken : goal.take_item-returns-in_ok-take_interface-in-Instance-clause-taken
+take_item-returns-in_ok-take_interface-in-Instance-clause-taken t c =
+    taken_item c.args.types.now c.args.state.now c.take_interface.new.state c.requires.state item (interface_key c.in-Instance.id) (interface_key c.in_ok-take_interface-in-Instance.field-0) c.args.kind (Instance c.in-Instance.id) (Instance c.in_ok-take_interface-in-Instance.field-0) c.in-Instance.is refl refl refl refl c.in_ok-take_interface-in-Instance.ensures.taken
 
-pub take_item-returns-in_ok-take_world-in-Component : goal.take_item-returns-in_ok-take_world-in-Component
-take_item-returns-in_ok-take_world-in-Component t c =
+pub take_item-returns-in_ok-take_world-in-Component-clause-taken : goal.take_item-returns-in_ok-take_world-in-Component-clause-taken
+take_item-returns-in_ok-take_world-in-Component-clause-taken t c =
     taken_item c.args.types.now c.args.state.now c.take_world.new.state c.requires.state item (world_key c.in-Component.id) (world_key c.in_ok-take_world-in-Component.field-0) c.args.kind (Component c.in-Component.id) (Component c.in_ok-take_world-in-Component.field-0) c.in-Component.is refl refl refl refl (Takes-apart c.args.types.now c.args.state.now c.take_world.new.state _ _ _ c.in_ok-take_world-in-Component.ensures)
 
-pub take_item-returns-in_ok-take_module-in-Module : goal.take_item-returns-in_ok-take_module-in-Module
-take_item-returns-in_ok-take_module-in-Module t c =
+pub take_item-returns-in_ok-take_module-in-Module-clause-taken : goal.take_item-returns-in_ok-take_module-in-Module-clause-taken
+take_item-returns-in_ok-take_module-in-Module-clause-taken t c =
     taken_item c.args.types.now c.args.state.now c.take_module.new.state c.requires.state item (module_key c.in-Module.id) (module_key c.in_ok-take_module-in-Module.field-0) c.args.kind (Module c.in-Module.id) (Module c.in_ok-take_module-in-Module.field-0) c.in-Module.is refl refl refl refl (Takes-apart c.args.types.now c.args.state.now c.take_module.new.state _ _ _ c.in_ok-take_module-in-Module.ensures)
 
-pub take_item-returns-in_ok-take_type-in-Type : goal.take_item-returns-in_ok-take_type-in-Type
-take_item-returns-in_ok-take_type-in-Type t c =
+pub take_item-returns-in_ok-take_type-in-Type-clause-taken : goal.take_item-returns-in_ok-take_type-in-Type-clause-taken
+take_item-returns-in_ok-take_type-in-Type-clause-taken t c =
     subst (λ k. TakesBy (near_keys c.args.near) c.args.types.now c.args.state.now c.take_type.new.state (keys_height c.args.types.now (item_keys k)) (item_keys k) (λ s. IsTakenItem class_of c.args.types.now s k (OfType c.in_ok-take_type-in-Type.field-0))) (sym c.in-Type.is) c.in_ok-take_type-in-Type.ensures
 
 pub take_type-returns-in_ok-take_resource-in-Resource : goal.take_type-returns-in_ok-take_resource-in-Resource
@@ -98,7 +103,7 @@ take_type-returns-in_ok-take_func-in-Func t c =
 
 pub take_type-returns-in_ok-take_interface-in-Interface : goal.take_type-returns-in_ok-take_interface-in-Interface
 take_type-returns-in_ok-take_interface-in-Interface t c =
-    taken_item c.args.types.now c.args.state.now c.take_interface.new.state c.requires.state type_item (interface_key c.in-Interface.id) (interface_key c.in_ok-take_interface-in-Interface.field-0) (OfType c.args.ty) (OfType (TypeInterface c.in-Interface.id)) (OfType (TypeInterface c.in_ok-take_interface-in-Interface.field-0)) (ap OfType c.in-Interface.is) refl refl refl refl c.in_ok-take_interface-in-Interface.ensures
+    taken_item c.args.types.now c.args.state.now c.take_interface.new.state c.requires.state type_item (interface_key c.in-Interface.id) (interface_key c.in_ok-take_interface-in-Interface.field-0) (OfType c.args.ty) (OfType (TypeInterface c.in-Interface.id)) (OfType (TypeInterface c.in_ok-take_interface-in-Interface.field-0)) (ap OfType c.in-Interface.is) refl refl refl refl c.in_ok-take_interface-in-Interface.ensures.taken
 
 pub take_type-returns-in_ok-take_world-in-World : goal.take_type-returns-in_ok-take_world-in-World
 take_type-returns-in_ok-take_world-in-World t c =
@@ -193,7 +198,7 @@ pub take_externs-loop-i-preserved : goal.take_externs-loop-i-preserved
 take_externs-loop-i-preserved t c =
     record {
       count = set_count c.loop-i.taken.entries c.set_extern.new.map.entries c.loop-i.i c.in-Ok.own c.set_extern.ensures ∙ c.loop-i.invariant.count;
-      takes = Takes-set (λ s. IsTakenItem class_of c.args.types.now s) c.args.types.now (λ s u kept run x y h. taken_item_still class_of c.args.types.now s u kept (RemembersTruly class_of) c.args.types.now run x y h) c.args.state.now c.loop-i.state c.take_item.new.state c.requires.state (keys_height c.args.types.now (named_keys item_keys (named (λ k. k) c.args.externs.now.entries))) (keys_height c.args.types.now (item_keys c.extern_at.result)) _ _ (named_lower item_keys (λ k. k) c.args.types.now c.args.externs.now.entries c.loop-i.i c.extern_at.result c.extern_at.ensures) (within_named c.args.types.now item_keys (λ k. k) c.args.externs.now.entries c.loop-i.i c.extern_at.result c.extern_at.ensures) c.loop-i.i c.extern_at.result (λ k. k) c.in-Ok.own (named (λ k. k) c.args.externs.now.entries) c.loop-i.taken.entries c.set_extern.new.map.entries (types-named (λ k. k) c.args.externs.now.entries c.loop-i.i c.extern_at.result c.extern_at.ensures) c.set_extern.ensures c.loop-i.invariant.takes (Takes-near c.args.types.now _ (near_keys c.args.near.now) c.loop-i.state c.take_item.new.state _ _ _ (λ at all by. near_below at c.loop-i.state c.args.near.now c.near_interface-below.result (MayTake-Takes c.args.types.now c.args.state.now c.loop-i.state _ _ _ c.requires.state c.loop-i.invariant.takes).kept c.near_interface-below.ensures by) c.in-Ok.ensures);
+      takes = Takes-set (λ s. IsTakenItem class_of c.args.types.now s) c.args.types.now (λ s u kept run x y h. taken_item_still class_of c.args.types.now s u kept (RemembersTruly class_of) c.args.types.now run x y h) c.args.state.now c.loop-i.state c.take_item.new.state c.requires.state (keys_height c.args.types.now (named_keys item_keys (named (λ k. k) c.args.externs.now.entries))) (keys_height c.args.types.now (item_keys c.extern_at.result)) _ _ (named_lower item_keys (λ k. k) c.args.types.now c.args.externs.now.entries c.loop-i.i c.extern_at.result c.extern_at.ensures) (within_named c.args.types.now item_keys (λ k. k) c.args.externs.now.entries c.loop-i.i c.extern_at.result c.extern_at.ensures) c.loop-i.i c.extern_at.result (λ k. k) c.in-Ok.own (named (λ k. k) c.args.externs.now.entries) c.loop-i.taken.entries c.set_extern.new.map.entries (types-named (λ k. k) c.args.externs.now.entries c.loop-i.i c.extern_at.result c.extern_at.ensures) c.set_extern.ensures c.loop-i.invariant.takes (Takes-near c.args.types.now _ (near_keys c.args.near.now) c.loop-i.state c.take_item.new.state _ _ _ (λ at all by. near_below at c.loop-i.state c.args.near.now c.near_interface-below.result (MayTake-Takes c.args.types.now c.args.state.now c.loop-i.state _ _ _ c.requires.state c.loop-i.invariant.takes).kept c.near_interface-below.ensures by) c.in-Ok.ensures.taken);
     }
 
 pub take_externs-returns : goal.take_externs-returns
@@ -345,8 +350,8 @@ take_func-add_func_type-requires t c =
     let parts = Takes-then f c.args.state.now c.take_fields.new.state b _ _ (keys_height f (func_keys x)) _ _ (func_keys x) params answer (params_lower f c.index-func.result.now.params.entries x.«result») (result_lower f c.index-func.result.now.params.entries x.«result») (within_params f c.index-func.result.now.params.entries x.«result») (within_right f (named_keys value_keys x.params) (optional_keys value_keys x.«result»)) c.requires.state (λ s u kept run h. values_still f s u kept (RemembersTruly class_of) f run x.params z.params h) c.in_ok-params.ensures c.in_ok-result.ensures in
     func_stands f (state_of b) x z (record { params = parts.holds.0; «result» = parts.holds.1; is_async = refl })
 
-pub take_item-returns-in_ok-take_value-in-Value : goal.take_item-returns-in_ok-take_value-in-Value
-take_item-returns-in_ok-take_value-in-Value t c =
+pub take_item-returns-in_ok-take_value-in-Value-clause-taken : goal.take_item-returns-in_ok-take_value-in-Value-clause-taken
+take_item-returns-in_ok-take_value-in-Value-clause-taken t c =
     subst (λ k. TakesBy (near_keys c.args.near) c.args.types.now c.args.state.now c.take_value.new.state (keys_height c.args.types.now (item_keys k)) (item_keys k) (λ s. IsTakenItem class_of c.args.types.now s k (Value c.in_ok-take_value-in-Value.field-0))) (sym c.in-Value.is) (Takes-more c.args.types.now c.args.state.now c.take_value.new.state _ _ _ _ _ _ (omega arith) (within_all c.args.types.now _) c.requires.state (λ s kept h. item_of_value c.args.types.now s c.in-Value.ty c.in_ok-take_value-in-Value.field-0 h) (Takes-apart c.args.types.now c.args.state.now c.take_value.new.state _ _ _ c.in_ok-take_value-in-Value.ensures))
 
 pub take_type-returns-in_ok-take_value-in-Value : goal.take_type-returns-in_ok-take_value-in-Value
@@ -358,21 +363,21 @@ take_interface-take_uses-requires t c =
     (omega (arith, uses_lower c.args.types.now (interface_content c.index-interface.result.now), c.index-interface.ensures.lower), (uses_stand c.args.types.now (interface_content c.index-interface.result.now) c.index-interface.ensures.standing, c.requires.state))
 
 pub take_interface-nearest-requires-clause-state : goal.take_interface-nearest-requires-clause-state
-take_interface-nearest-requires-clause-state t c = (MayTake-Takes c.args.types.now c.args.state.now c.take_uses.new.state _ _ _ c.requires.state c.in_ok-uses.ensures).kept
+take_interface-nearest-requires-clause-state t c = (MayTake-Takes c.args.types.now c.args.state.now c.take_uses.new.state _ _ _ c.requires.state c.in_ok-uses.ensures.taken).kept
 
 pub take_interface-nearest-requires-clause-near : goal.take_interface-nearest-requires-clause-near
-take_interface-nearest-requires-clause-near t c = IsNear-Takes c.args.types.now c.args.state.now c.take_uses.new.state _ _ _ c.args.near c.requires.state c.in_ok-uses.ensures c.requires.near
+take_interface-nearest-requires-clause-near t c = IsNear-Takes c.args.types.now c.args.state.now c.take_uses.new.state _ _ _ c.args.near c.requires.state c.in_ok-uses.ensures.taken c.requires.near
 
 pub take_interface-take_alike-requires : goal.take_interface-take_alike-requires
 take_interface-take_alike-requires t c =
-    (omega (arith, exports_lower c.args.types.now (interface_content c.index-interface.result.now), c.index-interface.ensures.lower), (exports_stand c.args.types.now (interface_content c.index-interface.result.now) c.index-interface.ensures.standing, (MayTake-Takes c.args.types.now c.args.state.now c.take_uses.new.state _ _ _ c.requires.state c.in_ok-uses.ensures, c.in_ok-near.ensures.stands)))
+    (omega (arith, exports_lower c.args.types.now (interface_content c.index-interface.result.now), c.index-interface.ensures.lower), (exports_stand c.args.types.now (interface_content c.index-interface.result.now) c.index-interface.ensures.standing, (MayTake-Takes c.args.types.now c.args.state.now c.take_uses.new.state _ _ _ c.requires.state c.in_ok-uses.ensures.taken, c.in_ok-near.ensures.stands)))
 
 pub take_interface-take_externs-requires : goal.take_interface-take_externs-requires
 take_interface-take_externs-requires t c =
     let f = c.args.types.now in
     let u = c.take_uses.new.state in
     let v = c.take_alike.new.state in
-    let may = MayTake-Takes f c.args.state.now u _ _ _ c.requires.state c.in_ok-uses.ensures in
+    let may = MayTake-Takes f c.args.state.now u _ _ _ c.requires.state c.in_ok-uses.ensures.taken in
     (omega (arith, exports_lower f (interface_content c.index-interface.result.now), c.index-interface.ensures.lower), (exports_stand f (interface_content c.index-interface.result.now) c.index-interface.ensures.standing, (MayTake-Takes f u v _ _ _ may c.in_ok-take_alike.ensures, IsNear-Takes f u v _ _ _ c.in_ok-near.near may c.in_ok-take_alike.ensures c.in_ok-near.ensures.stands)))
 
 pub take_interface-put_interface-requires-clause-taken : goal.take_interface-put_interface-requires-clause-taken
@@ -383,8 +388,8 @@ take_interface-put_interface-requires-clause-taken t c =
     let es = named (λ k. k) c.in_ok-exports.exports.entries in
     let used : State → Type 0 = λ s. AreMapped (IsTakenUse f s) x.uses us in
     let exported : State → Type 0 = λ s. AreMapped (IsTakenItem class_of f s) x.exports es in
-    let first = Takes-then f c.args.state.now c.take_uses.new.state c.take_alike.new.state _ _ (keys_height f (interface_keys x)) _ _ (interface_keys x) used (λ s. Unit {0}) (uses_lower f x) (exports_lower f x) (within_left f (named_keys use_keys x.uses) (named_keys item_keys x.exports)) (within_right f (named_keys use_keys x.uses) (named_keys item_keys x.exports)) c.requires.state (λ s u kept run h. uses_still f s u kept (RemembersTruly class_of) f run x.uses us h) (Takes-apart f c.args.state.now c.take_uses.new.state _ _ _ c.in_ok-uses.ensures) (Takes-nearest f c.args.near c.in_ok-near.near c.take_uses.new.state c.take_alike.new.state _ _ _ (MayTake-Takes f c.args.state.now c.take_uses.new.state _ _ _ c.requires.state c.in_ok-uses.ensures) c.in_ok-near.ensures.nearest c.in_ok-take_alike.ensures) in
-    let parts = Takes-then f c.args.state.now c.take_alike.new.state c.take_externs.new.state _ _ (keys_height f (interface_keys x)) _ _ (interface_keys x) (λ s. used s × Unit {0}) exported (omega arith) (exports_lower f x) (within_all f (interface_keys x)) (within_right f (named_keys use_keys x.uses) (named_keys item_keys x.exports)) c.requires.state (λ s u kept run h. (uses_still f s u kept (RemembersTruly class_of) f run x.uses us h.0, tt)) first (Takes-nearest f c.args.near c.in_ok-near.near c.take_alike.new.state c.take_externs.new.state _ _ _ (MayTake-Takes f c.take_uses.new.state c.take_alike.new.state _ _ _ (MayTake-Takes f c.args.state.now c.take_uses.new.state _ _ _ c.requires.state c.in_ok-uses.ensures) c.in_ok-take_alike.ensures) (nearest_still f c.take_uses.new.state c.take_alike.new.state _ _ _ c.args.near c.in_ok-near.near (MayTake-Takes f c.args.state.now c.take_uses.new.state _ _ _ c.requires.state c.in_ok-uses.ensures) c.in_ok-take_alike.ensures c.in_ok-near.ensures.nearest) c.in_ok-exports.ensures) in
+    let first = Takes-then f c.args.state.now c.take_uses.new.state c.take_alike.new.state _ _ (keys_height f (interface_keys x)) _ _ (interface_keys x) used (λ s. Unit {0}) (uses_lower f x) (exports_lower f x) (within_left f (named_keys use_keys x.uses) (named_keys item_keys x.exports)) (within_right f (named_keys use_keys x.uses) (named_keys item_keys x.exports)) c.requires.state (λ s u kept run h. uses_still f s u kept (RemembersTruly class_of) f run x.uses us h) (Takes-apart f c.args.state.now c.take_uses.new.state _ _ _ c.in_ok-uses.ensures.taken) (Takes-nearest f c.args.near c.in_ok-near.near c.take_uses.new.state c.take_alike.new.state _ _ _ (MayTake-Takes f c.args.state.now c.take_uses.new.state _ _ _ c.requires.state c.in_ok-uses.ensures.taken) c.in_ok-near.ensures.nearest c.in_ok-take_alike.ensures) in
+    let parts = Takes-then f c.args.state.now c.take_alike.new.state c.take_externs.new.state _ _ (keys_height f (interface_keys x)) _ _ (interface_keys x) (λ s. used s × Unit {0}) exported (omega arith) (exports_lower f x) (within_all f (interface_keys x)) (within_right f (named_keys use_keys x.uses) (named_keys item_keys x.exports)) c.requires.state (λ s u kept run h. (uses_still f s u kept (RemembersTruly class_of) f run x.uses us h.0, tt)) first (Takes-nearest f c.args.near c.in_ok-near.near c.take_alike.new.state c.take_externs.new.state _ _ _ (MayTake-Takes f c.take_uses.new.state c.take_alike.new.state _ _ _ (MayTake-Takes f c.args.state.now c.take_uses.new.state _ _ _ c.requires.state c.in_ok-uses.ensures.taken) c.in_ok-take_alike.ensures) (nearest_still f c.take_uses.new.state c.take_alike.new.state _ _ _ c.args.near c.in_ok-near.near (MayTake-Takes f c.args.state.now c.take_uses.new.state _ _ _ c.requires.state c.in_ok-uses.ensures.taken) c.in_ok-take_alike.ensures c.in_ok-near.ensures.nearest) c.in_ok-exports.ensures) in
     record {
       content = x;
       taken = interface_is_taken f (state_of c.take_externs.new.state) c.sound.ensures c.args.id x us es c.requires.source c.index-interface.ensures.entry parts.holds.0.0 parts.holds.1;
@@ -392,21 +397,21 @@ take_interface-put_interface-requires-clause-taken t c =
       absent = parts.low (interface_key c.args.id) c.index-interface.ensures.lower (sym c.in_default.ensures);
     }
 
-pub take_interface-returns : goal.take_interface-returns
-take_interface-returns t c =
+pub take_interface-returns-clause-taken : goal.take_interface-returns-clause-taken
+take_interface-returns-clause-taken t c =
     let f = c.args.types.now in
     let x = interface_content c.index-interface.result.now in
     let us = named use_content c.in_ok-uses.uses.entries in
     let used : State → Type 0 = λ s. AreMapped (IsTakenUse f s) x.uses us in
     let exported : State → Type 0 = λ s. AreMapped (IsTakenItem class_of f s) x.exports (named (λ k. k) c.in_ok-exports.exports.entries) in
-    let first = Takes-then f c.args.state.now c.take_uses.new.state c.take_alike.new.state _ _ (keys_height f (interface_keys x)) _ _ (interface_keys x) used (λ s. Unit {0}) (uses_lower f x) (exports_lower f x) (within_left f (named_keys use_keys x.uses) (named_keys item_keys x.exports)) (within_right f (named_keys use_keys x.uses) (named_keys item_keys x.exports)) c.requires.state (λ s u kept run h. uses_still f s u kept (RemembersTruly class_of) f run x.uses us h) (Takes-apart f c.args.state.now c.take_uses.new.state _ _ _ c.in_ok-uses.ensures) (Takes-nearest f c.args.near c.in_ok-near.near c.take_uses.new.state c.take_alike.new.state _ _ _ (MayTake-Takes f c.args.state.now c.take_uses.new.state _ _ _ c.requires.state c.in_ok-uses.ensures) c.in_ok-near.ensures.nearest c.in_ok-take_alike.ensures) in
-    let parts = Takes-then f c.args.state.now c.take_alike.new.state c.take_externs.new.state _ _ (keys_height f (interface_keys x)) _ _ (interface_keys x) (λ s. used s × Unit {0}) exported (omega arith) (exports_lower f x) (within_all f (interface_keys x)) (within_right f (named_keys use_keys x.uses) (named_keys item_keys x.exports)) c.requires.state (λ s u kept run h. (uses_still f s u kept (RemembersTruly class_of) f run x.uses us h.0, tt)) first (Takes-nearest f c.args.near c.in_ok-near.near c.take_alike.new.state c.take_externs.new.state _ _ _ (MayTake-Takes f c.take_uses.new.state c.take_alike.new.state _ _ _ (MayTake-Takes f c.args.state.now c.take_uses.new.state _ _ _ c.requires.state c.in_ok-uses.ensures) c.in_ok-take_alike.ensures) (nearest_still f c.take_uses.new.state c.take_alike.new.state _ _ _ c.args.near c.in_ok-near.near (MayTake-Takes f c.args.state.now c.take_uses.new.state _ _ _ c.requires.state c.in_ok-uses.ensures) c.in_ok-take_alike.ensures c.in_ok-near.ensures.nearest) c.in_ok-exports.ensures) in
-    MatchResult-weaker c.put_interface.result c.put_interface.ensures (λ r h. Takes-after f c.args.state.now c.take_externs.new.state c.put_interface.new.state (keys_height f (interface_keys x)) (height f (interface_key c.args.id)) (interface_keys x) (interface_key c.args.id ∷ []) (λ s. (used s × Unit {0}) × exported s) (λ s. IsTakenKey class_of f s (interface_key c.args.id) (interface_key r)) (omega (arith, c.index-interface.ensures.lower)) (within_parts f (interface_key c.args.id) (interface_keys x) (ap (optional_keys other_keys) (interface_at f c.args.id x c.index-interface.ensures.entry))) c.requires.state parts (Takes-apart f c.take_externs.new.state c.put_interface.new.state _ _ _ h)) (λ e h. refused_later f c.args.state.now c.take_externs.new.state _ (interface_keys x) (interface_key c.args.id ∷ []) (interface_key c.args.id ∷ []) _ e (within_parts f (interface_key c.args.id) (interface_keys x) (ap (optional_keys other_keys) (interface_at f c.args.id x c.index-interface.ensures.entry))) (within_all f (interface_key c.args.id ∷ [])) c.requires.state parts (refused_apart f c.take_externs.new.state _ e h))
+    let first = Takes-then f c.args.state.now c.take_uses.new.state c.take_alike.new.state _ _ (keys_height f (interface_keys x)) _ _ (interface_keys x) used (λ s. Unit {0}) (uses_lower f x) (exports_lower f x) (within_left f (named_keys use_keys x.uses) (named_keys item_keys x.exports)) (within_right f (named_keys use_keys x.uses) (named_keys item_keys x.exports)) c.requires.state (λ s u kept run h. uses_still f s u kept (RemembersTruly class_of) f run x.uses us h) (Takes-apart f c.args.state.now c.take_uses.new.state _ _ _ c.in_ok-uses.ensures.taken) (Takes-nearest f c.args.near c.in_ok-near.near c.take_uses.new.state c.take_alike.new.state _ _ _ (MayTake-Takes f c.args.state.now c.take_uses.new.state _ _ _ c.requires.state c.in_ok-uses.ensures.taken) c.in_ok-near.ensures.nearest c.in_ok-take_alike.ensures) in
+    let parts = Takes-then f c.args.state.now c.take_alike.new.state c.take_externs.new.state _ _ (keys_height f (interface_keys x)) _ _ (interface_keys x) (λ s. used s × Unit {0}) exported (omega arith) (exports_lower f x) (within_all f (interface_keys x)) (within_right f (named_keys use_keys x.uses) (named_keys item_keys x.exports)) c.requires.state (λ s u kept run h. (uses_still f s u kept (RemembersTruly class_of) f run x.uses us h.0, tt)) first (Takes-nearest f c.args.near c.in_ok-near.near c.take_alike.new.state c.take_externs.new.state _ _ _ (MayTake-Takes f c.take_uses.new.state c.take_alike.new.state _ _ _ (MayTake-Takes f c.args.state.now c.take_uses.new.state _ _ _ c.requires.state c.in_ok-uses.ensures.taken) c.in_ok-take_alike.ensures) (nearest_still f c.take_uses.new.state c.take_alike.new.state _ _ _ c.args.near c.in_ok-near.near (MayTake-Takes f c.args.state.now c.take_uses.new.state _ _ _ c.requires.state c.in_ok-uses.ensures.taken) c.in_ok-take_alike.ensures c.in_ok-near.ensures.nearest) c.in_ok-exports.ensures) in
+    MatchResult-weaker c.put_interface.result c.put_interface.ensures.taken (λ r h. Takes-after f c.args.state.now c.take_externs.new.state c.put_interface.new.state (keys_height f (interface_keys x)) (height f (interface_key c.args.id)) (interface_keys x) (interface_key c.args.id ∷ []) (λ s. (used s × Unit {0}) × exported s) (λ s. IsTakenKey class_of f s (interface_key c.args.id) (interface_key r)) (omega (arith, c.index-interface.ensures.lower)) (within_parts f (interface_key c.args.id) (interface_keys x) (ap (optional_keys other_keys) (interface_at f c.args.id x c.index-interface.ensures.entry))) c.requires.state parts (Takes-apart f c.take_externs.new.state c.put_interface.new.state _ _ _ h)) (λ e h. refused_later f c.args.state.now c.take_externs.new.state _ (interface_keys x) (interface_key c.args.id ∷ []) (interface_key c.args.id ∷ []) _ e (within_parts f (interface_key c.args.id) (interface_keys x) (ap (optional_keys other_keys) (interface_at f c.args.id x c.index-interface.ensures.entry))) (within_all f (interface_key c.args.id ∷ [])) c.requires.state parts (refused_apart f c.take_externs.new.state _ e h))
 
 pub take_uses-loop-i-init : goal.take_uses-loop-i-init
 take_uses-loop-i-init t c =
     let shows = named-clones use_content (λ u v same. same) c.args.uses.now c.in_ok-taken.taken c.in_ok-taken.ensures.cases in
-    record { count = named_count use_content c.args.uses.now.entries c.in_ok-taken.taken.entries shows; takes = Takes-none c.args.types.now c.args.state.now (keys_height c.args.types.now (named_keys use_keys (named use_content c.args.uses.now.entries))) _ _ c.requires.state (set_start (IsTakenUse c.args.types.now (state_of c.args.state.now)) (named use_content c.args.uses.now.entries) (named use_content c.in_ok-taken.taken.entries) shows) }
+    record { count = named_count use_content c.args.uses.now.entries c.in_ok-taken.taken.entries shows; takes = Takes-none c.args.types.now c.args.state.now (keys_height c.args.types.now (named_keys use_keys (named use_content c.args.uses.now.entries))) _ _ c.requires.state (set_start (IsTakenUse c.args.types.now (state_of c.args.state.now)) (named use_content c.args.uses.now.entries) (named use_content c.in_ok-taken.taken.entries) shows); members = λ taken wit has all. TakesMembers-none c.args.types.now c.args.state.now _ taken has }
 
 pub take_uses-loop-i-preserved : goal.take_uses-loop-i-preserved
 take_uses-loop-i-preserved t c =
@@ -418,14 +423,15 @@ take_uses-loop-i-preserved t c =
     let top = keys_height f (named_keys use_keys (named use_content es)) in
     let may = MayTake-Takes f c.args.state.now c.loop-i.state _ _ _ c.requires.state c.loop-i.invariant.takes in
     let one : Takes f c.loop-i.state c.take_used.new.state top _ (λ s. IsTakenKey class_of f s (interface_key u.0.interface) (interface_key c.in_ok-own.own) × HasIdentifier f u.0.interface) =
-    Takes-more f c.loop-i.state c.take_used.new.state top top _ _ _ _ (omega arith) (within_all f _) may (λ s kept h. h u.0.interface (ap (option_map (λ (v : UsedType). v.interface)) u.1)) c.in_ok-own.ensures in
+    Takes-more f c.loop-i.state c.take_used.new.state top top _ _ _ _ (omega arith) (within_all f _) may (λ s kept h. h u.0.interface (ap (option_map (λ (v : UsedType). v.interface)) u.1)) c.in_ok-own.ensures.taken in
     record {
       count = set_count c.loop-i.taken.entries c.set_used.new.uses.entries c.loop-i.i (record there.0 { interface = c.in_ok-own.own }) put ∙ c.loop-i.invariant.count;
       takes = Takes-use f c.args.state.now c.loop-i.state c.take_used.new.state c.requires.state top _ es c.loop-i.taken.entries c.set_used.new.uses.entries c.loop-i.i c.in_ok-own.own u.0 there.0 u.1 there.1 put c.loop-i.invariant.takes one;
+      members = λ taken wit has all. let g = c.loop-i.invariant.members taken wit has all in TakesMembers-then f c.args.state.now c.loop-i.state c.take_used.new.state _ taken g (c.in_ok-own.ensures.members g.more wit g.has (g.all f (λ e. refl) all));
     }
 
-pub take_uses-returns : goal.take_uses-returns
-take_uses-returns t c =
+pub take_uses-returns-clause-taken : goal.take_uses-returns-clause-taken
+take_uses-returns-clause-taken t c =
     Takes-more c.args.types.now c.args.state.now c.loop-i.state (keys_height c.args.types.now (named_keys use_keys (named use_content c.args.uses.now.entries))) (keys_height c.args.types.now (named_keys use_keys (named use_content c.args.uses.now.entries))) _ _ _ _ (omega arith) (within_all c.args.types.now _) c.requires.state (λ s kept q. set_whole (IsTakenUse c.args.types.now s) c.loop-i.i (named use_content c.args.uses.now.entries) (named use_content c.loop-i.taken.entries) q (omega (arith, length-named use_content c.args.uses.now.entries, c.loop-i-test.false, c.len-i-end.ensures.len))) c.loop-i.invariant.takes
 
 pub take_used-index-requires : goal.take_used-index-requires
@@ -435,13 +441,13 @@ pub take_used-take_interface-requires : goal.take_used-take_interface-requires
 take_used-take_interface-requires t c =
     (omega (arith, used_lower c.args.types.now c.args.uses.now.entries c.args.index c.used_at-interface.result c.used_at-interface.ensures), (used_stands c.args.types.now c.args.uses.now.entries c.args.index c.used_at-interface.result c.used_at-interface.ensures c.requires.source, (c.requires.state, IsNear-none c.args.state.now)))
 
-pub take_used-returns : goal.take_used-returns
-take_used-returns t c =
+pub take_used-returns-clause-taken : goal.take_used-returns-clause-taken
+take_used-returns-clause-taken t c =
     let f = c.args.types.now in
     let p = c.used_at-interface.result in
     let name = some_name c.index.result.now.id c.if-is_none.ensures in
     let identified : HasIdentifier f p = rw (ap (option_and_then (λ (x : InterfaceContent). x.id)) c.index.ensures.entry ∙ name.1) refl in
-    MatchResult-weaker c.take_interface.result c.take_interface.ensures (λ r h.
+    MatchResult-weaker c.take_interface.result c.take_interface.ensures.taken (λ r h.
     Takes-more f c.args.state.now c.take_interface.new.state (height f (interface_key p)) _ _ _ _ _ (omega (arith, used_lower f c.args.uses.now.entries c.args.index p c.used_at-interface.ensures)) (within_used f c.args.uses.now.entries c.args.index p c.used_at-interface.ensures) c.requires.state (λ s kept taken q at. let both : Some p ≡ Some q = sym c.used_at-interface.ensures ∙ at in let same : p ≡ q = cc in (subst (λ j. IsTakenKey class_of f s (interface_key j) (interface_key r)) same taken, subst (λ j. HasIdentifier f j) same identified)) h)
     (λ e h.
     let w = used_named c.args.uses.now.entries c.args.index p c.used_at-interface.ensures in
@@ -459,14 +465,14 @@ pub take_world-copy_externs-requires-clause-source : goal.take_world-copy_extern
 take_world-copy_externs-requires-clause-source t c = world_imports_stand c.args.types.now (world_content c.index-world.result.now) c.index-world.ensures.standing
 
 pub take_world-copy_externs-requires-clause-state : goal.take_world-copy_externs-requires-clause-state
-take_world-copy_externs-requires-clause-state t c = MayTake-copies c.args.types.now c.take_uses.new.state (MayTake-Takes c.args.types.now c.args.state.now c.take_uses.new.state _ _ _ c.requires.state c.in_ok-uses.ensures)
+take_world-copy_externs-requires-clause-state t c = MayTake-copies c.args.types.now c.take_uses.new.state (MayTake-Takes c.args.types.now c.args.state.now c.take_uses.new.state _ _ _ c.requires.state c.in_ok-uses.ensures.taken)
 
 pub take_world-take_externs-requires : goal.take_world-take_externs-requires
 take_world-take_externs-requires t c =
     let f = c.args.types.now in
     let b = c.take_uses.new.state in
     let x = world_content c.index-world.result.now in
-    let may = MayTake-Takes f c.args.state.now b _ _ _ c.requires.state c.in_ok-uses.ensures in
+    let may = MayTake-Takes f c.args.state.now b _ _ _ c.requires.state c.in_ok-uses.ensures.taken in
     let now = record b { types = c.copy_externs.new.own; copies = c.copy_externs.new.copies } in
     (omega (arith, world_exports_lower f x, c.index-world.ensures.lower), (world_exports_stand f x c.index-world.ensures.standing, (MayTake-Takes f b now _ _ _ may (Takes-copied f b c.copy_externs.new.own c.copy_externs.new.copies _ (named_keys use_keys x.uses) _ may c.in_ok-imports.ensures), IsNear-none now)))
 
@@ -482,8 +488,8 @@ take_world-add_world-requires t c =
     let used : State → Type 0 = λ s. AreMapped (IsTakenUse f s) x.uses z.uses in
     let imported : State → Type 0 = λ s. AreMapped (IsCopiedItem f s) x.imports z.imports in
     let exported : State → Type 0 = λ s. AreMapped (IsTakenItem class_of f s) x.exports z.exports in
-    let may = MayTake-Takes f a b _ _ _ c.requires.state c.in_ok-uses.ensures in
-    let first = Takes-then f a b now _ _ (keys_height f (world_keys x)) _ _ (named_keys use_keys x.uses) used imported (world_uses_lower f x) (world_imports_lower f x) (within_all f _) (within_all f _) c.requires.state (λ s u kept run h. uses_still f s u kept (RemembersTruly class_of) f run x.uses z.uses h) c.in_ok-uses.ensures (Takes-copied f b c.copy_externs.new.own c.copy_externs.new.copies _ (named_keys use_keys x.uses) _ may c.in_ok-imports.ensures) in
+    let may = MayTake-Takes f a b _ _ _ c.requires.state c.in_ok-uses.ensures.taken in
+    let first = Takes-then f a b now _ _ (keys_height f (world_keys x)) _ _ (named_keys use_keys x.uses) used imported (world_uses_lower f x) (world_imports_lower f x) (within_all f _) (within_all f _) c.requires.state (λ s u kept run h. uses_still f s u kept (RemembersTruly class_of) f run x.uses z.uses h) c.in_ok-uses.ensures.taken (Takes-copied f b c.copy_externs.new.own c.copy_externs.new.copies _ (named_keys use_keys x.uses) _ may c.in_ok-imports.ensures) in
     let parts = Takes-then f a now e _ _ (keys_height f (world_keys x)) _ _ (named_keys use_keys x.uses ++ named_keys item_keys x.exports) (λ s. used s × imported s) exported (omega arith) (world_exports_lower f x) (within_left f (named_keys use_keys x.uses) (named_keys item_keys x.exports)) (within_right f (named_keys use_keys x.uses) (named_keys item_keys x.exports)) c.requires.state (λ s u kept run h. (uses_still f s u kept (RemembersTruly class_of) f run x.uses z.uses h.0, copies_still f s u kept (RemembersTruly class_of) f run x.imports z.imports h.1)) first c.in_ok-exports.ensures in
     world_stands f (state_of e) c.sound.ensures (parts.run.kept c.requires.state.kept) c.args.id x z (world_is_taken f (state_of e) c.sound.ensures c.args.id x z c.requires.source c.index-world.ensures.entry parts.holds.0.0 parts.holds.0.1 parts.holds.1)
 
@@ -499,8 +505,8 @@ take_world-returns t c =
     let used : State → Type 0 = λ s. AreMapped (IsTakenUse f s) x.uses z.uses in
     let imported : State → Type 0 = λ s. AreMapped (IsCopiedItem f s) x.imports z.imports in
     let exported : State → Type 0 = λ s. AreMapped (IsTakenItem class_of f s) x.exports z.exports in
-    let may = MayTake-Takes f a b _ _ _ c.requires.state c.in_ok-uses.ensures in
-    let first = Takes-then f a b now _ _ (keys_height f (world_keys x)) _ _ (named_keys use_keys x.uses) used imported (world_uses_lower f x) (world_imports_lower f x) (within_all f _) (within_all f _) c.requires.state (λ s u kept run h. uses_still f s u kept (RemembersTruly class_of) f run x.uses z.uses h) c.in_ok-uses.ensures (Takes-copied f b c.copy_externs.new.own c.copy_externs.new.copies _ (named_keys use_keys x.uses) _ may c.in_ok-imports.ensures) in
+    let may = MayTake-Takes f a b _ _ _ c.requires.state c.in_ok-uses.ensures.taken in
+    let first = Takes-then f a b now _ _ (keys_height f (world_keys x)) _ _ (named_keys use_keys x.uses) used imported (world_uses_lower f x) (world_imports_lower f x) (within_all f _) (within_all f _) c.requires.state (λ s u kept run h. uses_still f s u kept (RemembersTruly class_of) f run x.uses z.uses h) c.in_ok-uses.ensures.taken (Takes-copied f b c.copy_externs.new.own c.copy_externs.new.copies _ (named_keys use_keys x.uses) _ may c.in_ok-imports.ensures) in
     let parts = Takes-then f a now e _ _ (keys_height f (world_keys x)) _ _ (named_keys use_keys x.uses ++ named_keys item_keys x.exports) (λ s. used s × imported s) exported (omega arith) (world_exports_lower f x) (within_left f (named_keys use_keys x.uses) (named_keys item_keys x.exports)) (within_right f (named_keys use_keys x.uses) (named_keys item_keys x.exports)) c.requires.state (λ s u kept run h. (uses_still f s u kept (RemembersTruly class_of) f run x.uses z.uses h.0, copies_still f s u kept (RemembersTruly class_of) f run x.imports z.imports h.1)) first c.in_ok-exports.ensures in
     Takes-enter f a e (record e { types = c.add_world.new.self; taken = c.put_world.new.self }) (world_key c.args.id) (world_key c.in_ok-own.own) (world_entry z) (keys_height f (world_keys x)) _ (λ s. (used s × imported s) × exported s) c.requires.state c.sound.ensures c.requires.source (omega (arith, c.index-world.ensures.lower)) (within_parts f (world_key c.args.id) (named_keys use_keys x.uses ++ named_keys item_keys x.exports) (ap (optional_keys other_keys) (world_at f c.args.id x c.index-world.ensures.entry)))
     parts refl c.in_ok-own.ensures.added (ap world_key c.in_ok-own.ensures.id) (c.in_ok-put_world.ensures (parts.low (world_key c.args.id) c.index-world.ensures.lower (sym c.in_default.ensures)))
@@ -572,7 +578,7 @@ pub take_owner-import_owner-requires-clause-shared : goal.take_owner-import_owne
 take_owner-import_owner-requires-clause-shared t c =
     let name = some_name c.index.result.now.id c.if-is_none.ensures in
     let identified = content_identifier c.args.types.now c.in-Some.owner (interface_content c.index.result.now) c.index.ensures.entry ∙ name.1 in
-    (c.in_ok-own.ensures.holds.remembered.shared name.0 identified).is_shared
+    (c.in_ok-own.ensures.taken.holds.remembered.shared name.0 identified).is_shared
 
 pub take_owner-returns : goal.take_owner-returns
 take_owner-returns t c =
@@ -582,24 +588,24 @@ take_owner-returns t c =
     let o = c.in-Some.owner in
     let name = some_name c.index.result.now.id c.if-is_none.ensures in
     let identified = content_identifier f o (interface_content c.index.result.now) c.index.ensures.entry ∙ name.1 in
-    let shared = c.in_ok-own.ensures.holds.remembered.shared name.0 identified in
+    let shared = c.in_ok-own.ensures.taken.holds.remembered.shared name.0 identified in
     let owned = c.requires.of ∙ c.in-Some.is in
     let leads : LeadsToOwner f (resource_key c.args.id) name.0 = record { resource = c.args.id; owner = o; walk = stay; owned = owned; identified = identified } in
     let taken : State → Type 0 = λ s. IsTakenKey class_of f s (interface_key o) (interface_key c.in_ok-own.own) in
-    let imported = c.in_ok-import_owner.ensures f (resource_key c.args.id ∷ []) (resource_key c.args.id) name.0 shared.name (MayTake-Takes f a b _ _ _ c.requires.state c.in_ok-own.ensures) here leads shared.identified shared.on_track in
+    let imported = c.in_ok-import_owner.ensures f (resource_key c.args.id ∷ []) (resource_key c.args.id) name.0 shared.name (MayTake-Takes f a b _ _ _ c.requires.state c.in_ok-own.ensures.taken) here leads shared.identified shared.on_track in
     subst (λ x. Takes f a c.import_owner.new.state (keys_height f (optional_keys (λ p. interface_key p ∷ []) x)) (resource_key c.args.id ∷ []) (IsTakenOwner f x (Some c.in_ok-own.own))) (sym c.in-Some.is)
     (Takes-more f a c.import_owner.new.state _ _ _ _ (λ s. taken s × IsSome (s.imports name.0)) _ (omega arith) (within_all f (resource_key c.args.id ∷ [])) c.requires.state
     (λ s kept h. owner_taken f s o c.in_ok-own.own name.0 identified h.0 h.1)
     (Takes-then f a b c.import_owner.new.state (height f (interface_key o)) 0 (height f (interface_key o)) (interface_key o ∷ []) (resource_key c.args.id ∷ []) (resource_key c.args.id ∷ []) taken (λ s. IsSome (s.imports name.0)) (omega arith) (omega arith)
     (owned_within f c.args.id o owned) (within_all f (resource_key c.args.id ∷ [])) c.requires.state
-    (λ s u kept run h. taken_key_still class_of f s u kept (RemembersTruly class_of) f run (interface_key o) (interface_key c.in_ok-own.own) h) c.in_ok-own.ensures imported))
+    (λ s u kept run h. taken_key_still class_of f s u kept (RemembersTruly class_of) f run (interface_key o) (interface_key c.in_ok-own.own) h) c.in_ok-own.ensures.taken imported))
 
 pub take_interface-put_interface-requires-clause-state : goal.take_interface-put_interface-requires-clause-state
 take_interface-put_interface-requires-clause-state t c =
     let f = c.args.types.now in
     let u = c.take_uses.new.state in
     let v = c.take_alike.new.state in
-    let may = MayTake-Takes f c.args.state.now u _ _ _ c.requires.state c.in_ok-uses.ensures in
+    let may = MayTake-Takes f c.args.state.now u _ _ _ c.requires.state c.in_ok-uses.ensures.taken in
     MayTake-Takes f v c.take_externs.new.state _ _ _ (MayTake-Takes f u v _ _ _ may c.in_ok-take_alike.ensures) c.in_ok-exports.ensures
 
 pub take_alike-loop-i-init : goal.take_alike-loop-i-init
@@ -745,7 +751,7 @@ take_alike-returns-in-Err t c =
 pub take_externs-returns-in-Err : goal.take_externs-returns-in-Err
 take_externs-returns-in-Err t c =
     let f = c.args.types.now in
-    refused_later f c.args.state.now c.loop-i.state _ (named_keys item_keys (named (λ k. k) c.args.externs.now.entries)) (item_keys c.extern_at.result) (named_keys item_keys (named (λ k. k) c.args.externs.now.entries)) _ c.in-Err.refusal (within_all f _) (within_named f item_keys (λ k. k) c.args.externs.now.entries c.loop-i.i c.extern_at.result c.extern_at.ensures) c.requires.state c.loop-i.invariant.takes (refused_near f _ (near_keys c.args.near.now) c.loop-i.state _ _ (λ at all by. near_below at c.loop-i.state c.args.near.now c.near_interface-below.result (MayTake-Takes f c.args.state.now c.loop-i.state _ _ _ c.requires.state c.loop-i.invariant.takes).kept c.near_interface-below.ensures by) c.in-Err.ensures)
+    refused_later f c.args.state.now c.loop-i.state _ (named_keys item_keys (named (λ k. k) c.args.externs.now.entries)) (item_keys c.extern_at.result) (named_keys item_keys (named (λ k. k) c.args.externs.now.entries)) _ c.in-Err.refusal (within_all f _) (within_named f item_keys (λ k. k) c.args.externs.now.entries c.loop-i.i c.extern_at.result c.extern_at.ensures) c.requires.state c.loop-i.invariant.takes (refused_near f _ (near_keys c.args.near.now) c.loop-i.state _ _ (λ at all by. near_below at c.loop-i.state c.args.near.now c.near_interface-below.result (MayTake-Takes f c.args.state.now c.loop-i.state _ _ _ c.requires.state c.loop-i.invariant.takes).kept c.near_interface-below.ensures by) c.in-Err.ensures.taken)
 
 pub take_alike_resource-returns-in_err-take_owners : goal.take_alike_resource-returns-in_err-take_owners
 take_alike_resource-returns-in_err-take_owners t c =
@@ -814,23 +820,23 @@ take_func-returns-in_err-result t c =
     let x = func_content c.index-func.result.now in
     refused_then f c.args.state.now c.take_fields.new.state _ (flat_map value_keys (types_of c.index-func.result.now.params.entries)) (optional_keys value_keys x.«result») (func_key c.args.id ∷ []) _ c.from_residual-in_err-result.result _ c.in_err-result.field-0.0 (within_trans f (flat_map value_keys (types_of c.index-func.result.now.params.entries)) (func_keys x) (func_key c.args.id ∷ []) (within_params f c.index-func.result.now.params.entries x.«result») (within_parts f (func_key c.args.id) (func_keys x) (ap (optional_keys other_keys) (func_at f c.args.id x c.index-func.ensures.entry)))) (within_trans f (optional_keys value_keys x.«result») (func_keys x) (func_key c.args.id ∷ []) (within_right f (named_keys value_keys x.params) (optional_keys value_keys x.«result»)) (within_parts f (func_key c.args.id) (func_keys x) (ap (optional_keys other_keys) (func_at f c.args.id x c.index-func.ensures.entry)))) c.requires.state c.in_ok-params.ensures c.in_err-result.ensures c.from_residual-in_err-result.ensures
 
-pub take_interface-returns-in_err-take_alike : goal.take_interface-returns-in_err-take_alike
-take_interface-returns-in_err-take_alike t c =
+pub take_interface-returns-in_err-take_alike-clause-taken : goal.take_interface-returns-in_err-take_alike-clause-taken
+take_interface-returns-in_err-take_alike-clause-taken t c =
     let f = c.args.types.now in
     let x = interface_content c.index-interface.result.now in
-    refused_then f c.args.state.now c.take_uses.new.state _ (named_keys use_keys x.uses) (named_keys item_keys x.exports) (interface_key c.args.id ∷ []) _ c.from_residual-in_err-take_alike.result _ c.in_err-take_alike.field-0.0 (within_trans f (named_keys use_keys x.uses) (interface_keys x) (interface_key c.args.id ∷ []) (within_left f (named_keys use_keys x.uses) (named_keys item_keys x.exports)) (within_parts f (interface_key c.args.id) (interface_keys x) (ap (optional_keys other_keys) (interface_at f c.args.id x c.index-interface.ensures.entry)))) (within_trans f (named_keys item_keys x.exports) (interface_keys x) (interface_key c.args.id ∷ []) (within_right f (named_keys use_keys x.uses) (named_keys item_keys x.exports)) (within_parts f (interface_key c.args.id) (interface_keys x) (ap (optional_keys other_keys) (interface_at f c.args.id x c.index-interface.ensures.entry)))) c.requires.state (Takes-apart f c.args.state.now c.take_uses.new.state _ _ _ c.in_ok-uses.ensures) (refused_near f (near_keys c.in_ok-near.near) (near_keys c.args.near) c.take_uses.new.state _ _ (λ at all by. near_nearest at c.take_uses.new.state c.args.near c.in_ok-near.near (MayTake-Takes f c.args.state.now c.take_uses.new.state _ _ _ c.requires.state c.in_ok-uses.ensures).kept c.in_ok-near.ensures.nearest all by) c.in_err-take_alike.ensures) c.from_residual-in_err-take_alike.ensures
+    refused_then f c.args.state.now c.take_uses.new.state _ (named_keys use_keys x.uses) (named_keys item_keys x.exports) (interface_key c.args.id ∷ []) _ c.from_residual-in_err-take_alike.result _ c.in_err-take_alike.field-0.0 (within_trans f (named_keys use_keys x.uses) (interface_keys x) (interface_key c.args.id ∷ []) (within_left f (named_keys use_keys x.uses) (named_keys item_keys x.exports)) (within_parts f (interface_key c.args.id) (interface_keys x) (ap (optional_keys other_keys) (interface_at f c.args.id x c.index-interface.ensures.entry)))) (within_trans f (named_keys item_keys x.exports) (interface_keys x) (interface_key c.args.id ∷ []) (within_right f (named_keys use_keys x.uses) (named_keys item_keys x.exports)) (within_parts f (interface_key c.args.id) (interface_keys x) (ap (optional_keys other_keys) (interface_at f c.args.id x c.index-interface.ensures.entry)))) c.requires.state (Takes-apart f c.args.state.now c.take_uses.new.state _ _ _ c.in_ok-uses.ensures.taken) (refused_near f (near_keys c.in_ok-near.near) (near_keys c.args.near) c.take_uses.new.state _ _ (λ at all by. near_nearest at c.take_uses.new.state c.args.near c.in_ok-near.near (MayTake-Takes f c.args.state.now c.take_uses.new.state _ _ _ c.requires.state c.in_ok-uses.ensures.taken).kept c.in_ok-near.ensures.nearest all by) c.in_err-take_alike.ensures) c.from_residual-in_err-take_alike.ensures
 
-pub take_interface-returns-in_err-exports : goal.take_interface-returns-in_err-exports
-take_interface-returns-in_err-exports t c =
+pub take_interface-returns-in_err-exports-clause-taken : goal.take_interface-returns-in_err-exports-clause-taken
+take_interface-returns-in_err-exports-clause-taken t c =
     let f = c.args.types.now in
     let x = interface_content c.index-interface.result.now in
-    refused_then f c.args.state.now c.take_alike.new.state _ (interface_keys x) (named_keys item_keys x.exports) (interface_key c.args.id ∷ []) _ c.from_residual-in_err-exports.result _ c.in_err-exports.field-0.0 (within_parts f (interface_key c.args.id) (interface_keys x) (ap (optional_keys other_keys) (interface_at f c.args.id x c.index-interface.ensures.entry))) (within_trans f (named_keys item_keys x.exports) (interface_keys x) (interface_key c.args.id ∷ []) (within_right f (named_keys use_keys x.uses) (named_keys item_keys x.exports)) (within_parts f (interface_key c.args.id) (interface_keys x) (ap (optional_keys other_keys) (interface_at f c.args.id x c.index-interface.ensures.entry)))) c.requires.state (Takes-then f c.args.state.now c.take_uses.new.state c.take_alike.new.state _ _ (keys_height f (interface_keys x)) _ _ (interface_keys x) _ (λ s. Unit {0}) (uses_lower f x) (exports_lower f x) (within_left f (named_keys use_keys x.uses) (named_keys item_keys x.exports)) (within_right f (named_keys use_keys x.uses) (named_keys item_keys x.exports)) c.requires.state (λ s u kept run h. uses_still f s u kept (RemembersTruly class_of) f run x.uses (named use_content c.in_ok-uses.uses.entries) h) (Takes-apart f c.args.state.now c.take_uses.new.state _ _ _ c.in_ok-uses.ensures) (Takes-nearest f c.args.near c.in_ok-near.near c.take_uses.new.state c.take_alike.new.state _ _ _ (MayTake-Takes f c.args.state.now c.take_uses.new.state _ _ _ c.requires.state c.in_ok-uses.ensures) c.in_ok-near.ensures.nearest c.in_ok-take_alike.ensures)) (refused_near f (near_keys c.in_ok-near.near) (near_keys c.args.near) c.take_alike.new.state _ _ (λ at all by. near_nearest at c.take_alike.new.state c.args.near c.in_ok-near.near (MayTake-Takes f c.take_uses.new.state c.take_alike.new.state _ _ _ (MayTake-Takes f c.args.state.now c.take_uses.new.state _ _ _ c.requires.state c.in_ok-uses.ensures) c.in_ok-take_alike.ensures).kept (nearest_still f c.take_uses.new.state c.take_alike.new.state _ _ _ c.args.near c.in_ok-near.near (MayTake-Takes f c.args.state.now c.take_uses.new.state _ _ _ c.requires.state c.in_ok-uses.ensures) c.in_ok-take_alike.ensures c.in_ok-near.ensures.nearest) all by) c.in_err-exports.ensures) c.from_residual-in_err-exports.ensures
+    refused_then f c.args.state.now c.take_alike.new.state _ (interface_keys x) (named_keys item_keys x.exports) (interface_key c.args.id ∷ []) _ c.from_residual-in_err-exports.result _ c.in_err-exports.field-0.0 (within_parts f (interface_key c.args.id) (interface_keys x) (ap (optional_keys other_keys) (interface_at f c.args.id x c.index-interface.ensures.entry))) (within_trans f (named_keys item_keys x.exports) (interface_keys x) (interface_key c.args.id ∷ []) (within_right f (named_keys use_keys x.uses) (named_keys item_keys x.exports)) (within_parts f (interface_key c.args.id) (interface_keys x) (ap (optional_keys other_keys) (interface_at f c.args.id x c.index-interface.ensures.entry)))) c.requires.state (Takes-then f c.args.state.now c.take_uses.new.state c.take_alike.new.state _ _ (keys_height f (interface_keys x)) _ _ (interface_keys x) _ (λ s. Unit {0}) (uses_lower f x) (exports_lower f x) (within_left f (named_keys use_keys x.uses) (named_keys item_keys x.exports)) (within_right f (named_keys use_keys x.uses) (named_keys item_keys x.exports)) c.requires.state (λ s u kept run h. uses_still f s u kept (RemembersTruly class_of) f run x.uses (named use_content c.in_ok-uses.uses.entries) h) (Takes-apart f c.args.state.now c.take_uses.new.state _ _ _ c.in_ok-uses.ensures.taken) (Takes-nearest f c.args.near c.in_ok-near.near c.take_uses.new.state c.take_alike.new.state _ _ _ (MayTake-Takes f c.args.state.now c.take_uses.new.state _ _ _ c.requires.state c.in_ok-uses.ensures.taken) c.in_ok-near.ensures.nearest c.in_ok-take_alike.ensures)) (refused_near f (near_keys c.in_ok-near.near) (near_keys c.args.near) c.take_alike.new.state _ _ (λ at all by. near_nearest at c.take_alike.new.state c.args.near c.in_ok-near.near (MayTake-Takes f c.take_uses.new.state c.take_alike.new.state _ _ _ (MayTake-Takes f c.args.state.now c.take_uses.new.state _ _ _ c.requires.state c.in_ok-uses.ensures.taken) c.in_ok-take_alike.ensures).kept (nearest_still f c.take_uses.new.state c.take_alike.new.state _ _ _ c.args.near c.in_ok-near.near (MayTake-Takes f c.args.state.now c.take_uses.new.state _ _ _ c.requires.state c.in_ok-uses.ensures.taken) c.in_ok-take_alike.ensures c.in_ok-near.ensures.nearest) all by) c.in_err-exports.ensures) c.from_residual-in_err-exports.ensures
 
-pub take_interface-returns-in_err-uses : goal.take_interface-returns-in_err-uses
-take_interface-returns-in_err-uses t c =
+pub take_interface-returns-in_err-uses-clause-taken : goal.take_interface-returns-in_err-uses-clause-taken
+take_interface-returns-in_err-uses-clause-taken t c =
     let f = c.args.types.now in
     let x = interface_content c.index-interface.result.now in
-    refused_uses (near_keys c.args.near) f c.args.state.now (interface_key c.args.id) x.uses c.from_residual.result _ c.in_err-uses.field-0.0 (ap (λ o. option_map_or entry_uses o []) (interface_at f c.args.id x c.index-interface.ensures.entry)) c.in_err-uses.ensures c.from_residual.ensures
+    refused_uses (near_keys c.args.near) f c.args.state.now (interface_key c.args.id) x.uses c.from_residual.result _ c.in_err-uses.field-0.0 (ap (λ o. option_map_or entry_uses o []) (interface_at f c.args.id x c.index-interface.ensures.entry)) c.in_err-uses.ensures.taken c.from_residual.ensures
 
 pub take_world-returns-in_err-exports : goal.take_world-returns-in_err-exports
 take_world-returns-in_err-exports t c =
@@ -838,15 +844,15 @@ take_world-returns-in_err-exports t c =
     let x = world_content c.index-world.result.now in
     let b = c.take_uses.new.state in
     let now = record b { types = c.copy_externs.new.own; copies = c.copy_externs.new.copies } in
-    let may = MayTake-Takes f c.args.state.now b _ _ _ c.requires.state c.in_ok-uses.ensures in
-    let first = Takes-then f c.args.state.now b now _ _ (keys_height f (world_keys x)) _ _ (named_keys use_keys x.uses) _ _ (world_uses_lower f x) (world_imports_lower f x) (within_all f _) (within_all f _) c.requires.state (λ s u kept run h. uses_still f s u kept (RemembersTruly class_of) f run x.uses (named use_content c.in_ok-uses.uses.entries) h) c.in_ok-uses.ensures (Takes-copied f b c.copy_externs.new.own c.copy_externs.new.copies _ (named_keys use_keys x.uses) _ may c.in_ok-imports.ensures) in
+    let may = MayTake-Takes f c.args.state.now b _ _ _ c.requires.state c.in_ok-uses.ensures.taken in
+    let first = Takes-then f c.args.state.now b now _ _ (keys_height f (world_keys x)) _ _ (named_keys use_keys x.uses) _ _ (world_uses_lower f x) (world_imports_lower f x) (within_all f _) (within_all f _) c.requires.state (λ s u kept run h. uses_still f s u kept (RemembersTruly class_of) f run x.uses (named use_content c.in_ok-uses.uses.entries) h) c.in_ok-uses.ensures.taken (Takes-copied f b c.copy_externs.new.own c.copy_externs.new.copies _ (named_keys use_keys x.uses) _ may c.in_ok-imports.ensures) in
     refused_then f c.args.state.now now _ (named_keys use_keys x.uses) (named_keys item_keys x.exports) (world_key c.args.id ∷ []) _ c.from_residual-in_err-exports.result _ c.in_err-exports.field-0.0 (within_trans f (named_keys use_keys x.uses) (named_keys use_keys x.uses ++ named_keys item_keys x.exports) (world_key c.args.id ∷ []) (within_left f (named_keys use_keys x.uses) (named_keys item_keys x.exports)) (within_parts f (world_key c.args.id) (named_keys use_keys x.uses ++ named_keys item_keys x.exports) (ap (optional_keys other_keys) (world_at f c.args.id x c.index-world.ensures.entry)))) (within_trans f (named_keys item_keys x.exports) (named_keys use_keys x.uses ++ named_keys item_keys x.exports) (world_key c.args.id ∷ []) (within_right f (named_keys use_keys x.uses) (named_keys item_keys x.exports)) (within_parts f (world_key c.args.id) (named_keys use_keys x.uses ++ named_keys item_keys x.exports) (ap (optional_keys other_keys) (world_at f c.args.id x c.index-world.ensures.entry)))) c.requires.state first c.in_err-exports.ensures c.from_residual-in_err-exports.ensures
 
 pub take_world-returns-in_err-uses : goal.take_world-returns-in_err-uses
 take_world-returns-in_err-uses t c =
     let f = c.args.types.now in
     let x = world_content c.index-world.result.now in
-    refused_uses [] f c.args.state.now (world_key c.args.id) x.uses c.from_residual-in_err-uses.result _ c.in_err-uses.field-0.0 (ap (λ o. option_map_or entry_uses o []) (world_at f c.args.id x c.index-world.ensures.entry)) c.in_err-uses.ensures c.from_residual-in_err-uses.ensures
+    refused_uses [] f c.args.state.now (world_key c.args.id) x.uses c.from_residual-in_err-uses.result _ c.in_err-uses.field-0.0 (ap (λ o. option_map_or entry_uses o []) (world_at f c.args.id x c.index-world.ensures.entry)) c.in_err-uses.ensures.taken c.from_residual-in_err-uses.ensures
 
 pub take_owner-returns-then-is_none : goal.take_owner-returns-then-is_none
 take_owner-returns-then-is_none t c =
@@ -859,7 +865,7 @@ pub take_owner-returns-in_err-own : goal.take_owner-returns-in_err-own
 take_owner-returns-in_err-own t c =
     let f = c.args.types.now in
     let o = c.in-Some.owner in
-    refused_part f c.args.state.now (interface_key o ∷ []) (resource_key c.args.id ∷ []) c.from_residual-in_err-own.result _ c.in_err-own.field-0.0 (owned_within f c.args.id o (c.requires.of ∙ c.in-Some.is)) c.in_err-own.ensures c.from_residual-in_err-own.ensures
+    refused_part f c.args.state.now (interface_key o ∷ []) (resource_key c.args.id ∷ []) c.from_residual-in_err-own.result _ c.in_err-own.field-0.0 (owned_within f c.args.id o (c.requires.of ∙ c.in-Some.is)) c.in_err-own.ensures.taken c.from_residual-in_err-own.ensures
 
 pub take_owners-returns-in_err-take_owner : goal.take_owners-returns-in_err-take_owner
 take_owners-returns-in_err-take_owner t c =
@@ -868,30 +874,30 @@ take_owners-returns-in_err-take_owner t c =
     let r = c.resource_at-id.result in
     refused_then f c.args.state.now c.loop-i.state _ (map resource_key rs) (resource_key r ∷ []) (map resource_key rs) _ c.from_residual.result _ c.in_err-take_owner.field-0.0 (within_all f (map resource_key rs)) (within_resources f rs c.loop-i.i r c.resource_at-id.ensures) c.requires.state c.loop-i.invariant.takes c.in_err-take_owner.ensures c.from_residual.ensures
 
-pub take_uses-returns-in_err-own : goal.take_uses-returns-in_err-own
-take_uses-returns-in_err-own t c =
+pub take_uses-returns-in_err-own-clause-taken : goal.take_uses-returns-in_err-own-clause-taken
+take_uses-returns-in_err-own-clause-taken t c =
     passed_on c.from_residual-in_err-own.result _ _ c.in_err-own.field-0.0 c.from_residual-in_err-own.ensures
-    (λ k are. refused_later c.args.types.now c.args.state.now c.loop-i.state _ (named_keys use_keys (named use_content c.args.uses.now.entries)) (k ∷ []) (k ∷ []) _ c.in_err-own.field-0.0 (uses_within c.args.types.now k _ are) (within_all c.args.types.now (k ∷ [])) c.requires.state c.loop-i.invariant.takes (c.in_err-own.ensures k are))
+    (λ k are. refused_later c.args.types.now c.args.state.now c.loop-i.state _ (named_keys use_keys (named use_content c.args.uses.now.entries)) (k ∷ []) (k ∷ []) _ c.in_err-own.field-0.0 (uses_within c.args.types.now k _ are) (within_all c.args.types.now (k ∷ [])) c.requires.state c.loop-i.invariant.takes (c.in_err-own.ensures.taken k are))
 
-pub take_used-returns-then-is_none : goal.take_used-returns-then-is_none
-take_used-returns-then-is_none t c =
+pub take_used-returns-then-is_none-clause-taken : goal.take_used-returns-then-is_none-clause-taken
+take_used-returns-then-is_none-clause-taken t c =
     let f = c.args.types.now in
     let p = c.used_at-interface.result in
     let w = used_named c.args.uses.now.entries c.args.index p c.used_at-interface.ensures in
     let unidentified = ap (option_and_then (λ (x : InterfaceContent). x.id)) c.index.ensures.entry ∙ no_name c.index.result.now.id c.if-is_none.ensures in
     refused_use f c.args.state.now (named use_content c.args.uses.now.entries) c.args.index w.0 w.1 c.in_ok-no_identifier.field-0 w.2 (subst (λ q. identifier f q ≡ None) (sym w.3) unidentified) (c.in_ok-no_identifier.ensures w.0 w.1 w.2)
 
-pub take_item-returns-in_err-take_func-in-Func : goal.take_item-returns-in_err-take_func-in-Func
-take_item-returns-in_err-take_func-in-Func t c = refused_item (near_keys c.args.near) c.args.types.now c.args.state.now (func_key c.in-Func.id ∷ []) (item_keys c.args.kind) c.from_residual-in_err-take_func-in-Func.result _ c.in_err-take_func-in-Func.field-0.0 (ap item_keys c.in-Func.is) c.in_err-take_func-in-Func.ensures c.from_residual-in_err-take_func-in-Func.ensures
+pub take_item-returns-in_err-take_func-in-Func-clause-taken : goal.take_item-returns-in_err-take_func-in-Func-clause-taken
+take_item-returns-in_err-take_func-in-Func-clause-taken t c = refused_item (near_keys c.args.near) c.args.types.now c.args.state.now (func_key c.in-Func.id ∷ []) (item_keys c.args.kind) c.from_residual-in_err-take_func-in-Func.result _ c.in_err-take_func-in-Func.field-0.0 (ap item_keys c.in-Func.is) c.in_err-take_func-in-Func.ensures c.from_residual-in_err-take_func-in-Func.ensures
 
-pub take_item-returns-in_err-take_world-in-Component : goal.take_item-returns-in_err-take_world-in-Component
-take_item-returns-in_err-take_world-in-Component t c = refused_item (near_keys c.args.near) c.args.types.now c.args.state.now (world_key c.in-Component.id ∷ []) (item_keys c.args.kind) c.from_residual-in_err-take_world-in-Component.result _ c.in_err-take_world-in-Component.field-0.0 (ap item_keys c.in-Component.is) c.in_err-take_world-in-Component.ensures c.from_residual-in_err-take_world-in-Component.ensures
+pub take_item-returns-in_err-take_world-in-Component-clause-taken : goal.take_item-returns-in_err-take_world-in-Component-clause-taken
+take_item-returns-in_err-take_world-in-Component-clause-taken t c = refused_item (near_keys c.args.near) c.args.types.now c.args.state.now (world_key c.in-Component.id ∷ []) (item_keys c.args.kind) c.from_residual-in_err-take_world-in-Component.result _ c.in_err-take_world-in-Component.field-0.0 (ap item_keys c.in-Component.is) c.in_err-take_world-in-Component.ensures c.from_residual-in_err-take_world-in-Component.ensures
 
-pub take_item-returns-in_err-take_module-in-Module : goal.take_item-returns-in_err-take_module-in-Module
-take_item-returns-in_err-take_module-in-Module t c = refused_item (near_keys c.args.near) c.args.types.now c.args.state.now (module_key c.in-Module.id ∷ []) (item_keys c.args.kind) c.from_residual-in_err-take_module-in-Module.result _ c.in_err-take_module-in-Module.field-0.0 (ap item_keys c.in-Module.is) c.in_err-take_module-in-Module.ensures c.from_residual-in_err-take_module-in-Module.ensures
+pub take_item-returns-in_err-take_module-in-Module-clause-taken : goal.take_item-returns-in_err-take_module-in-Module-clause-taken
+take_item-returns-in_err-take_module-in-Module-clause-taken t c = refused_item (near_keys c.args.near) c.args.types.now c.args.state.now (module_key c.in-Module.id ∷ []) (item_keys c.args.kind) c.from_residual-in_err-take_module-in-Module.result _ c.in_err-take_module-in-Module.field-0.0 (ap item_keys c.in-Module.is) c.in_err-take_module-in-Module.ensures c.from_residual-in_err-take_module-in-Module.ensures
 
-pub take_item-returns-in_err-take_value-in-Value : goal.take_item-returns-in_err-take_value-in-Value
-take_item-returns-in_err-take_value-in-Value t c = refused_item (near_keys c.args.near) c.args.types.now c.args.state.now (value_keys c.in-Value.ty) (item_keys c.args.kind) c.from_residual-in_err-take_value-in-Value.result _ c.in_err-take_value-in-Value.field-0.0 (ap item_keys c.in-Value.is) c.in_err-take_value-in-Value.ensures c.from_residual-in_err-take_value-in-Value.ensures
+pub take_item-returns-in_err-take_value-in-Value-clause-taken : goal.take_item-returns-in_err-take_value-in-Value-clause-taken
+take_item-returns-in_err-take_value-in-Value-clause-taken t c = refused_item (near_keys c.args.near) c.args.types.now c.args.state.now (value_keys c.in-Value.ty) (item_keys c.args.kind) c.from_residual-in_err-take_value-in-Value.result _ c.in_err-take_value-in-Value.field-0.0 (ap item_keys c.in-Value.is) c.in_err-take_value-in-Value.ensures c.from_residual-in_err-take_value-in-Value.ensures
 
 pub take_type-returns-in_err-take_resource-in-Resource : goal.take_type-returns-in_err-take_resource-in-Resource
 take_type-returns-in_err-take_resource-in-Resource t c = refused_item (near_keys c.args.near) c.args.types.now c.args.state.now (resource_key c.in-Resource.id ∷ []) (type_keys c.args.ty) c.from_residual.result _ c.in_err-take_resource-in-Resource.field-0.0 (ap type_keys c.in-Resource.is) c.in_err-take_resource-in-Resource.ensures c.from_residual.ensures
@@ -907,3 +913,86 @@ take_type-returns-in_err-take_world-in-World t c = refused_item (near_keys c.arg
 
 pub take_type-returns-in_err-take_module-in-Module : goal.take_type-returns-in_err-take_module-in-Module
 take_type-returns-in_err-take_module-in-Module t c = refused_item (near_keys c.args.near) c.args.types.now c.args.state.now (module_key c.in-Module.id ∷ []) (type_keys c.args.ty) c.from_residual-in_err-take_module-in-Module.result _ c.in_err-take_module-in-Module.field-0.0 (ap type_keys c.in-Module.is) c.in_err-take_module-in-Module.ensures c.from_residual-in_err-take_module-in-Module.ensures
+
+-- ---- interfaces as WIT gives them
+
+pub take_interface-returns-in-Some-clause-members : goal.take_interface-returns-in-Some-clause-members
+take_interface-returns-in-Some-clause-members t c taken wit has all = TakesMembers-none c.args.types.now c.args.state.now (ReachesByUses c.args.types.now c.args.id) taken has
+
+pub take_interface-returns-clause-members : goal.take_interface-returns-clause-members
+take_interface-returns-clause-members t c =
+    let f = c.args.types.now in
+    let u = c.take_uses.new.state in
+    let v = c.take_alike.new.state in
+    let w = c.take_externs.new.state in
+    let x = interface_content c.index-interface.result.now in
+    let es = named_keys item_keys x.exports in
+    interface_members f c.args.id x c.sound.ensures c.requires.source c.index-interface.ensures.entry c.put_interface.result c.args.state.now u w c.put_interface.new.state (named use_content c.in_ok-uses.uses.entries) c.requires.state c.in_ok-uses.ensures.taken.run c.in_ok-uses.ensures.taken.holds c.in_ok-uses.ensures.members
+    (Runs-trans (RemembersTruly class_of) f (state_of u) (state_of v) (state_of w) c.in_ok-take_alike.ensures.run c.in_ok-exports.ensures.run)
+    (λ known. OnlyGrows-trans f u v w (c.in_ok-take_alike.ensures.known known) (c.in_ok-exports.ensures.known (known_still f u v es c.in_ok-take_alike.ensures.run known)))
+    c.put_interface.ensures.members
+
+pub take_interface-returns-in_err-uses-clause-members : goal.take_interface-returns-in_err-uses-clause-members
+take_interface-returns-in_err-uses-clause-members t c taken wit has all =
+    let f = c.args.types.now in
+    let x = interface_content c.index-interface.result.now in
+    let P : Id → Type 0 = ReachesByUses f c.args.id in
+    let from = used_from f c.args.id x c.sound.ensures c.requires.source c.index-interface.ensures.entry in
+    passed_on c.from_residual.result _ (IsMemberRefusal f P taken) c.in_err-uses.field-0.0 c.from_residual.ensures
+    (member_refused_within f P (IsUsedBy f x.uses) taken c.in_err-uses.field-0.0 from (c.in_err-uses.ensures.members taken (wit_within f P (IsUsedBy f x.uses) from (used_closed f x.uses) wit) has all))
+
+pub take_interface-returns-in_err-take_alike-clause-members : goal.take_interface-returns-in_err-take_alike-clause-members
+take_interface-returns-in_err-take_alike-clause-members t c taken wit has all =
+    let f = c.args.types.now in
+    let x = interface_content c.index-interface.result.now in
+    let P : Id → Type 0 = ReachesByUses f c.args.id in
+    passed_on c.from_residual-in_err-take_alike.result _ (IsMemberRefusal f P taken) c.in_err-take_alike.field-0.0 c.from_residual-in_err-take_alike.ensures
+    (known_refused (near_keys c.in_ok-near.near) f c.take_uses.new.state (named_keys item_keys x.exports) c.in_err-take_alike.field-0.0 P taken c.in_err-take_alike.ensures
+    (content_known f c.args.id x c.sound.ensures c.requires.source c.index-interface.ensures.entry c.take_uses.new.state (named use_content c.in_ok-uses.uses.entries) wit c.in_ok-uses.ensures.taken.holds))
+
+pub take_interface-returns-in_err-exports-clause-members : goal.take_interface-returns-in_err-exports-clause-members
+take_interface-returns-in_err-exports-clause-members t c taken wit has all =
+    let f = c.args.types.now in
+    let u = c.take_uses.new.state in
+    let v = c.take_alike.new.state in
+    let x = interface_content c.index-interface.result.now in
+    let es = named_keys item_keys x.exports in
+    let P : Id → Type 0 = ReachesByUses f c.args.id in
+    passed_on c.from_residual-in_err-exports.result _ (IsMemberRefusal f P taken) c.in_err-exports.field-0.0 c.from_residual-in_err-exports.ensures
+    (known_refused (near_keys c.in_ok-near.near) f v es c.in_err-exports.field-0.0 P taken c.in_err-exports.ensures
+    (known_still f u v es c.in_ok-take_alike.ensures.run (content_known f c.args.id x c.sound.ensures c.requires.source c.index-interface.ensures.entry u (named use_content c.in_ok-uses.uses.entries) wit c.in_ok-uses.ensures.taken.holds)))
+
+pub take_uses-returns-clause-members : goal.take_uses-returns-clause-members
+take_uses-returns-clause-members t c = c.loop-i.invariant.members
+
+pub take_uses-returns-in_err-own-clause-members : goal.take_uses-returns-in_err-own-clause-members
+take_uses-returns-in_err-own-clause-members t c taken wit has all =
+    let f = c.args.types.now in
+    let P : Id → Type 0 = IsUsedBy f (named use_content c.args.uses.now.entries) in
+    let g = c.loop-i.invariant.members taken wit has all in
+    passed_on c.from_residual-in_err-own.result _ (IsMemberRefusal f P taken) c.in_err-own.field-0.0 c.from_residual-in_err-own.ensures
+    (member_refused_after f P taken g.more c.in_err-own.field-0.0 g.are_more (c.in_err-own.ensures.members g.more wit g.has (g.all f (λ e. refl) all)))
+
+pub take_used-returns-clause-members : goal.take_used-returns-clause-members
+take_used-returns-clause-members t c taken wit has all =
+    let f = c.args.types.now in
+    let us = named use_content c.args.uses.now.entries in
+    let p = c.used_at-interface.result in
+    let P : Id → Type 0 = IsUsedBy f us in
+    let w = used_named c.args.uses.now.entries c.args.index p c.used_at-interface.ensures in
+    let from : (i : Id) → ReachesByUses f p i → P i = λ i walk. record { name = w.0; content = w.1; among = contains_at us c.args.index (w.0, w.1) w.2; walk = subst (λ q. ReachesByUses f q i) (sym w.3) walk } in
+    MatchResult-weaker c.take_interface.result (c.take_interface.ensures.members taken (wit_within f P (ReachesByUses f p) from (reached_closed f p) wit) has all)
+    (λ r h. TakesMembers-within f c.args.state.now c.take_interface.new.state P (ReachesByUses f p) taken from h)
+    (λ e h. member_refused_within f P (ReachesByUses f p) taken e from h)
+
+pub take_used-returns-then-is_none-clause-members : goal.take_used-returns-then-is_none-clause-members
+take_used-returns-then-is_none-clause-members t c taken wit has all =
+    let w = used_named c.args.uses.now.entries c.args.index c.used_at-interface.result c.used_at-interface.ensures in
+    let says = c.in_ok-no_identifier.ensures w.0 w.1 w.2 in
+    member_refused_unidentified c.args.types.now _ taken c.in_ok-no_identifier.field-0 (λ r is. let same : Some (no_identifier w.0) ≡ Some r = sym says ∙ is in let reason : no_identifier w.0 ≡ r = cc in subst IsOfUnidentified reason tt)
+
+pub take_item-returns-in_ok-take_interface-in-Instance-clause-members : goal.take_item-returns-in_ok-take_interface-in-Instance-clause-members
+take_item-returns-in_ok-take_interface-in-Instance-clause-members t c i is =
+    let both : Instance c.in-Instance.id ≡ Instance i = sym c.in-Instance.is ∙ is in
+    let same : c.in-Instance.id ≡ i = cc in
+    λ taken wit has all. subst (λ j. TakesMembers c.args.types.now c.args.state.now c.take_interface.new.state (ReachesByUses c.args.types.now j) taken) same (c.in_ok-take_interface-in-Instance.ensures.members taken (subst (λ j. AreWit c.args.types.now (ReachesByUses c.args.types.now j)) (sym same) wit) has all)

@@ -7,6 +7,9 @@ use Rattle.wac_names.specs.Class.{class_of}
 use Rattle.wac_narrowing.specs.Taking.{IsTakenItem}
 use Rattle.wac_narrowing.specs.Values.{IsTakenValue, IfAny}
 use Rattle.wac_copies.proofs.Placed.{ArePlaced, AreSet}
+use Rattle.wac_call_lists.specs.Shared.{Taken}
+use Rattle.wac_call_lists.specs.WitList.{AreWit}
+use Rattle.wac_taking.specs.Members.{HasTakenIn, HasAllOf, TakesMembers, IsUsedBy}
 use Rattle.wac_taking.specs.Takes.{owners_keys, alias_at, near_keys, TakesBy, Takes, IsTakenUse}
 use Rattle.wac_taking.proofs.Alike.{AreFirstTaken}
 use Rattle.wac_taking.proofs.taking.+taking.Given as goal
@@ -105,6 +108,7 @@ abbrev pub invariant-take_uses-loop-i : goal.invariant-take_uses-loop-i
 invariant-take_uses-loop-i l = record {
   count : length l.taken.entries ≡ length l.uses.entries;
   takes : Takes l.types l.initial.state l.state (keys_height l.types (named_keys use_keys (named use_content l.uses.entries))) (named_keys use_keys (named use_content l.uses.entries)) (λ t. AreSet (IsTakenUse l.types t) l.i (named use_content l.uses.entries) (named use_content l.taken.entries));
+  members : (taken : Taken) → AreWit l.types (IsUsedBy l.types (named use_content l.uses.entries)) → HasTakenIn l.initial.state taken → HasAllOf l.types l.initial.state taken → TakesMembers l.types l.initial.state l.state (IsUsedBy l.types (named use_content l.uses.entries)) taken;
 }
 
 abbrev pub invariant-take_externs-loop-i : goal.invariant-take_externs-loop-i
