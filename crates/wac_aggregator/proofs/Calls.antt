@@ -12,7 +12,7 @@ use Rattle.wac_component.specs.Key.{Each, AllStand, item_keys, interface_key}
 use Rattle.wac_component.specs.Tree.{item_tree}
 use Rattle.wac_component.specs.declared.items.ItemKind.{ItemKind}
 use Rattle.wac_names.specs.Class.{Class, class_of}
-use Rattle.wac_narrowing.specs.Identified.{IsCovered}
+use Rattle.wac_narrowing.specs.Identified.{IsCovered, IsUnstopped}
 use Rattle.wac_narrowing.specs.State.{IsKept}
 use Rattle.wac_narrowing.specs.Taking.{IsTakenItem}
 use Rattle.wac_narrowing.proofs.Mapped.{taken_each}
@@ -28,6 +28,7 @@ use Rattle.wac_taking.proofs.GrowLemmas.{StepsOn-refl}
 use Rattle.wac_taking.proofs.MergeReasons.{met_sources}
 use Rattle.wac_taking.proofs.TakeLemmas.{near_none}
 use Rattle.wac_aggregator.specs.Advances.{added, noted, Advances, IsAdded, IsMerged}
+use Rattle.wac_aggregator.proofs.Unstopped.{met_unstopped}
 use Rattle.wac_aggregator.proofs.Trying.{import_open, own_open, taken_accounted}
 
 -- the import of which this is the item
@@ -63,6 +64,9 @@ module _ (call : Call) (a mid : Merging) (own : ItemKind) (may : MayTake call.ty
     fits = Fits-refl (item_tree mid.types own);
     existing = λ i at. absurd (let no : None ≡ Some i = sym none ∙ at in cc);
     alone = λ q. refl;
+    alone_tree = λ q. refl;
+    kept = λ i at. absurd (let no : None ≡ Some i = sym none ∙ at in cc);
+    unstopped = λ i at. absurd (let no : None ≡ Some i = sym none ∙ at in cc);
     greatest = λ i at. absurd (let no : None ≡ Some i = sym none ∙ at in cc);
     placed = added none h.none h.puts h.led;
     accounts = λ at trial all. (taken_accounted call a may mid own takes at trial all, own_open call a may mid own takes at trial all);
@@ -111,6 +115,15 @@ module _ (call : Call) (a mid : Merging) (own : ItemKind) (may : MayTake call.ty
           let same : was.0 ≡ i = let both : Some was.0 ≡ Some i = sym was.1 ∙ at in cc in
           subst (λ x. Fits (item_tree b.types h.import) (item_tree mid.types x)) (sym was.2 ∙ ap (λ (j : ImportContent). j.1) same) h.met.fits_first;
       alone = λ none. absurd (let no : None ≡ Some was.0 = sym none ∙ was.1 in cc);
+      alone_tree = λ none. absurd (let no : None ≡ Some was.0 = sym none ∙ was.1 in cc);
+      kept = λ i at.
+          let same : was.0 ≡ i = let both : Some was.0 ≡ Some i = sym was.1 ∙ at in cc in
+          let item : existing ≡ i.1 = sym was.2 ∙ ap (λ (j : ImportContent). j.1) same in
+          subst (λ x. Fits (item_tree mid.types x) (item_tree mid.types own) → h.import ≡ x) item h.met.kept;
+      unstopped = λ i at.
+          let same : was.0 ≡ i = let both : Some was.0 ≡ Some i = sym was.1 ∙ at in cc in
+          let item : existing ≡ i.1 = sym was.2 ∙ ap (λ (j : ImportContent). j.1) same in
+          subst (λ x. Each (IsUnstopped mid.types) (item_keys x) → Each (IsUnstopped mid.types) (item_keys own) → Each (IsUnstopped b.types) (item_keys h.import)) item (met_unstopped mid.types b.types existing own h.import (takes.run.kept may.kept).good.sound h.met);
       greatest = λ i at.
           let same : was.0 ≡ i = let both : Some was.0 ≡ Some i = sym was.1 ∙ at in cc in
           subst (λ x. (t : ItemTree) → Fits t (item_tree mid.types x) → Fits t (item_tree mid.types own) → Fits t (item_tree b.types h.import)) (sym was.2 ∙ ap (λ (j : ImportContent). j.1) same) h.met.greatest;
@@ -149,6 +162,9 @@ module _ (a : Merging) (told : Option (String Global)) where
     fits = h.fits;
     existing = h.existing;
     alone = h.alone;
+    alone_tree = h.alone_tree;
+    kept = h.kept;
+    unstopped = h.unstopped;
     greatest = h.greatest;
     placed = h.placed;
     accounts = h.accounts;

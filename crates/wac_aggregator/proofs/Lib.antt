@@ -10,3 +10,12 @@ pub mod Remembering
 pub mod Handing
 pub mod Plain
 pub mod Refusing
+pub mod Members
+pub mod Wit
+pub mod WitMoves
+pub mod WitNext
+pub mod WitRuns
+pub mod WitRefused
+pub mod WitNamed
+pub mod WitPlain
+pub mod Unstopped

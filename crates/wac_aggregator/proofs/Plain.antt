@@ -78,7 +78,7 @@ module _ (call : Call) (a b : Merging) (may : MayTake call.types a) (filed_a : A
       rw now (rw (track_import a (call_track call) filed_a) (by (import_of a.imports (call_track call)) refl))
     where
       by : (o : Option ImportContent) → import_of a.imports (call_track call) ≡ o → IsMetWith (option_map (λ (i : ImportContent). item_tree a.types i.1) o) (call_tree call) (Some (item_tree b.types h.import))
-      by None at = h.alone at ∙ own_same
+      by None at = h.alone_tree at ∙ own_same
       by (Some i) at =
           let same = (kept_tree (call_track call) i at).0 in (
             subst (Fits (item_tree b.types h.import)) same (h.existing i at),

@@ -3,7 +3,6 @@ use Rattle.std.proofs.Common.{◌≡◌, ◌⊎◌, inl, inr, Option, Some, None
 use Rattle.std.specs.Option.{option_map}
 use Rattle.wac_model.specs.Desc.{item_desc}
 use Rattle.wac_model.specs.ItemTree.{ItemTree}
-use Rattle.wac_model.specs.Text.{Text}
 use Rattle.wac_model.specs.Order.{Fits}
 use Rattle.wac_component.specs.Height.{keys_height}
 use Rattle.wac_component.specs.Key.{item_keys, interface_key}

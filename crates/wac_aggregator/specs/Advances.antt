@@ -9,7 +9,7 @@ use Rattle.wac_component.specs.Key.{Each, AllStand, item_keys}
 use Rattle.wac_component.specs.Tree.{item_tree}
 use Rattle.wac_component.specs.declared.items.ItemKind.{ItemKind}
 use Rattle.wac_names.specs.Class.{class_of}
-use Rattle.wac_narrowing.specs.Identified.{IsCovered}
+use Rattle.wac_narrowing.specs.Identified.{IsCovered, IsUnstopped}
 use Rattle.wac_narrowing.specs.Taking.{IsTakenItem}
 use Rattle.wac_call_lists.specs.Attempt.{Attempt, single_attempt}
 use Rattle.wac_call_lists.specs.Call.{Call, IsSoundCall, call_track, call_tree}
@@ -43,8 +43,12 @@ pub record Advances (call : Call) (a b : Merging) : Type 0 where
   pub covered : Each (IsCovered b.types (shared_keys taken.shared.entries)) (item_keys import)
   pub fits : Fits (item_tree b.types import) (item_tree taken.types own)
   pub existing : (i : ImportContent) → import_of a.imports (call_track call) ≡ Some i → Fits (item_tree b.types import) (item_tree taken.types i.1)
-  -- it is the item's where none stood, and else the greatest that fits so
-  pub alone : import_of a.imports (call_track call) ≡ None → item_tree b.types import ≡ item_tree taken.types own
+  -- it is the item's where none stood, and else the greatest that fits so: the import that stood, where that fits where the item is asked for
+  pub alone : import_of a.imports (call_track call) ≡ None → import ≡ own
+  pub alone_tree : import_of a.imports (call_track call) ≡ None → item_tree b.types import ≡ item_tree taken.types own
+  pub kept : (i : ImportContent) → import_of a.imports (call_track call) ≡ Some i → Fits (item_tree taken.types i.1) (item_tree taken.types own) → import ≡ i.1
+  -- no open walk stops from it at an interface with an identifier, where none does from what it is met of
+  pub unstopped : (i : ImportContent) → import_of a.imports (call_track call) ≡ Some i → Each (IsUnstopped taken.types) (item_keys i.1) → Each (IsUnstopped taken.types) (item_keys own) → Each (IsUnstopped b.types) (item_keys import)
   pub greatest : (i : ImportContent) → import_of a.imports (call_track call) ≡ Some i → (t : ItemTree) → Fits t (item_tree taken.types i.1) → Fits t (item_tree taken.types own) → Fits t (item_tree b.types import)
   pub placed : IsPlaced a.imports taken.imports b.imports call.name import
   -- while a call is tried whose item openly reaches this one's, all stays accounted for, and the import is open and comes from sources

@@ -4,3 +4,4 @@ pub mod Content
 pub mod HandedIn
 pub mod InOrder
 pub mod Served
+pub mod Wit

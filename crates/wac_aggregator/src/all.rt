@@ -5,8 +5,9 @@ ghost use Rattle.wac_component.specs.Key.{AllStand, item_keys};
 ghost use Rattle.wac_checker.specs.Cache.{without_number};
 ghost use Rattle.wac_checker.specs.Checker.{direction, depth, remembered};
 ghost use Rattle.wac_call_lists.specs.Aggregated.{IsAggregated, IsByTrack, track_imports};
-ghost use Rattle.wac_call_lists.specs.Answer.{accepted, refused, IsPlainAnswer};
+ghost use Rattle.wac_call_lists.specs.Answer.{accepted, refused, IsPlainAnswer, IsWitAnswer};
 ghost use Rattle.wac_call_lists.specs.PlainList.{IsPlainList};
+ghost use Rattle.wac_call_lists.specs.WitList.{IsWitList};
 ghost use Rattle.wac_refusals.specs.declared.error.AggregateError.TheVariants.{Memory};
 ghost use Rattle.wac_call_lists.specs.Call as listed;
 ghost use Rattle.wac_aggregator.specs.HandedIn.{handed_in};
@@ -40,6 +41,13 @@ pub struct Call<'a> {
 /// memory, exactly where the items of each track of names have a common lower bound, whatever the order of calls; each
 /// import is then the greatest of these.
 ///
+/// So is a list of interfaces as WIT packages give them: instances under their identifiers, whose interfaces, with each that
+/// these use, have identifiers, export functions, value types and resources alone, and use what owns their resources; and
+/// such items under names on other tracks. It is accepted, but for want of memory, exactly where the interfaces on each
+/// track have a common lower bound, and so the other items; where uses of one name, in interfaces on one track, are of one
+/// track and one name there; and where no track leads back to itself by uses. Each import is then the greatest lower bound
+/// of the interfaces on its track, or else of the items there.
+///
 /// The first refusal is answered with the number of its call, from 0 on. But for want of memory it comes only where there
 /// is reason, with a collection whose imports serve the calls before it; of what else that holds nothing is said.
 ///
@@ -55,6 +63,7 @@ pub fn aggregate_all(
     requires apart { (c : listed.Call) → Contains (handed_in calls.now) c → c.types.number ≢ number }
     ensures aggregated { IfOk result (λ a. IsAggregated (handed_in calls.now) (shown a)) }
     ensures plain { IsPlainList (handed_in calls.now) → MatchResult result (λ a. IsPlainAnswer (handed_in calls.now) (accepted (track_imports (shown a)))) (λ e. e.error ≢ Memory → IsPlainAnswer (handed_in calls.now) (refused e.at)) }
+    ensures wit { IsWitList (handed_in calls.now) → MatchResult result (λ a. IsWitAnswer (handed_in calls.now) (accepted (track_imports (shown a)))) (λ e. e.error ≢ Memory → IsWitAnswer (handed_in calls.now) (refused e.at)) }
     ensures reason { IfErr result (λ e. (c : listed.Call) → slice_get (handed_in calls.now) e.at ≡ Some c → HasReasonAfter number (take e.at (handed_in calls.now)) c e.error) }
     ensures by_track { IfOk result (λ a. IsByTrack (shown a)) }
     ensures number { IfOk result (λ a. a.types.number ≡ number) }

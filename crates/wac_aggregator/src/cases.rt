@@ -1,10 +1,11 @@
 //! The cases of items.
 
-ghost use Rattle.std.specs.Prelude.{◌≡◌, [], ◌∷◌, IfSome, false};
+ghost use Rattle.std.specs.Prelude.{◌≡◌, [], ◌∷◌, IfSome, false, true};
 ghost use Rattle.wac_component.specs.Collection.{Collection};
+ghost use Rattle.wac_component.specs.Id.{Id};
 ghost use Rattle.wac_component.specs.Key.{item_keys, interface_key};
 ghost use Rattle.wac_component.specs.Tree.{item_tree};
-ghost use Rattle.wac_component.specs.declared.items.ItemKind.TheVariants.{«Type» as OfType};
+ghost use Rattle.wac_component.specs.declared.items.ItemKind.TheVariants.{«Type» as OfType, Instance};
 ghost use Rattle.wac_call_lists.specs.Case.{case_of};
 
 use wac_component::{InterfaceId, ItemKind, Type};
@@ -17,6 +18,17 @@ pub(crate) fn interface_of(kind: &ItemKind) -> Option<InterfaceId>
         ItemKind::Instance(id) => Some(*id),
         ItemKind::Type(Type::Interface(id)) => Some(*id),
         _ => None,
+    }
+}
+
+/// Whether two items are instances of one interface of a collection.
+pub(crate) fn is_one_instance(a: ItemKind, b: ItemKind) -> bool
+    ensures only { result ≡ true → a ≡ b }
+    ensures found { (i : Id) → a ≡ Instance i → b ≡ Instance i → result ≡ true }
+{
+    match (&a, &b) {
+        (ItemKind::Instance(x), ItemKind::Instance(y)) => x == y,
+        _ => false,
     }
 }
 

@@ -3,16 +3,20 @@
 ghost use Rattle.std.specs.Prelude.{◌≡◌, ◌⊎◌, Some, None, IsSome, IfErr, MatchResult};
 ghost use Rattle.std.specs.Option.{option_map};
 ghost use Rattle.wac_model.specs.Desc.{item_desc};
+ghost use Rattle.wac_component.specs.Id.{Id};
 ghost use Rattle.wac_component.specs.Key.{AllStand, item_keys};
 ghost use Rattle.wac_component.specs.Tree.{item_tree};
 ghost use Rattle.wac_call_lists.specs.Case.{case_of};
+ghost use Rattle.wac_call_lists.specs.Entries.{ReachesByUses};
 ghost use Rattle.wac_call_lists.specs.Reason.{kinds, taken};
 ghost use Rattle.wac_imports.specs.Import.{import_of};
 ghost use Rattle.wac_names.specs.Class.{class_of};
 ghost use Rattle.wac_refusals.specs.declared.error.AggregateError.TheVariants.{Memory};
+ghost use Rattle.wac_taking.specs.Members.{AnswersMembers};
 ghost use Rattle.wac_taking.specs.Refused.{said};
 ghost use Rattle.wac_taking.specs.Takes.{MayTake};
 ghost use Rattle.wac_aggregator.specs.Advances.{Advances, IsAdded, IsRefusedCall};
+ghost use Rattle.wac_aggregator.specs.Wit.{MayHandIn};
 
 use super::cases::{interface_of, same_case};
 use super::noting::note_import;
@@ -31,7 +35,8 @@ pub(crate) fn advance(
 ) -> Result<(), AggregateError>
     requires source { AllStand types.now (item_keys kind) }
     requires state { MayTake types.now state.old }
-    ensures { MatchResult result (λ u. Advances (record { name = name.now; types = types.now; kind = kind }) state.old state.new) (IsRefusedCall (record { name = name.now; types = types.now; kind = kind }) state.old) }
+    ensures advances { MatchResult result (λ u. Advances (record { name = name.now; types = types.now; kind = kind }) state.old state.new) (IsRefusedCall (record { name = name.now; types = types.now; kind = kind }) state.old) }
+    ensures members { (i : Id) → MayHandIn (record { name = name.now; types = types.now; kind = kind }) state.old i → AnswersMembers result types.now state.old state.new (ReachesByUses types.now i) }
 {
     match note_handed_in(state, types, &kind) {
         Ok(()) => import(state, name, types, kind),
@@ -67,7 +72,8 @@ fn import(
 ) -> Result<(), AggregateError>
     requires source { AllStand types.now (item_keys kind) }
     requires state { MayTake types.now state.old }
-    ensures { MatchResult result (λ u. Advances (record { name = name.now; types = types.now; kind = kind }) state.old state.new) (IsRefusedCall (record { name = name.now; types = types.now; kind = kind }) state.old) }
+    ensures advances { MatchResult result (λ u. Advances (record { name = name.now; types = types.now; kind = kind }) state.old state.new) (IsRefusedCall (record { name = name.now; types = types.now; kind = kind }) state.old) }
+    ensures members { (i : Id) → MayHandIn (record { name = name.now; types = types.now; kind = kind }) state.old i → AnswersMembers result types.now state.old state.new (ReachesByUses types.now i) }
 {
     let class = NameClass::of(state.alloc(), name)?;
     match state.imports.kind_of(&class) {
@@ -88,7 +94,8 @@ fn add_import(
     requires state { MayTake types.now state.old }
     requires of { class ≡ class_of name.now }
     requires new { import_of state.old.imports class ≡ None }
-    ensures { MatchResult result (λ u. Advances (record { name = name.now; types = types.now; kind = kind }) state.old state.new) (IsRefusedCall (record { name = name.now; types = types.now; kind = kind }) state.old) }
+    ensures advances { MatchResult result (λ u. Advances (record { name = name.now; types = types.now; kind = kind }) state.old state.new) (IsRefusedCall (record { name = name.now; types = types.now; kind = kind }) state.old) }
+    ensures members { (i : Id) → MayHandIn (record { name = name.now; types = types.now; kind = kind }) state.old i → AnswersMembers result types.now state.old state.new (ReachesByUses types.now i) }
 {
     match take_item(state, types, kind, None) {
         Ok(own) => put_import(state, class, name, own),
@@ -127,7 +134,8 @@ fn merge_import(
     requires state { MayTake types.now state.old }
     requires of { class ≡ class_of name.now }
     requires found { option_map (λ i. i.1) (import_of state.old.imports class) ≡ Some existing }
-    ensures { MatchResult result (λ u. Advances (record { name = name.now; types = types.now; kind = kind }) state.old state.new) (IsRefusedCall (record { name = name.now; types = types.now; kind = kind }) state.old) }
+    ensures advances { MatchResult result (λ u. Advances (record { name = name.now; types = types.now; kind = kind }) state.old state.new) (IsRefusedCall (record { name = name.now; types = types.now; kind = kind }) state.old) }
+    ensures members { (i : Id) → MayHandIn (record { name = name.now; types = types.now; kind = kind }) state.old i → AnswersMembers result types.now state.old state.new (ReachesByUses types.now i) }
 {
     match check_case(&state.types, &existing, types, &kind) {
         Ok(()) => merge_taken(state, class, name, existing, types, kind),
@@ -148,7 +156,8 @@ fn merge_taken(
     requires state { MayTake types.now state.old }
     requires of { class ≡ class_of name.now }
     requires found { option_map (λ i. i.1) (import_of state.old.imports class) ≡ Some existing }
-    ensures { MatchResult result (λ u. Advances (record { name = name.now; types = types.now; kind = kind }) state.old state.new) (IsRefusedCall (record { name = name.now; types = types.now; kind = kind }) state.old) }
+    ensures advances { MatchResult result (λ u. Advances (record { name = name.now; types = types.now; kind = kind }) state.old state.new) (IsRefusedCall (record { name = name.now; types = types.now; kind = kind }) state.old) }
+    ensures members { (i : Id) → MayHandIn (record { name = name.now; types = types.now; kind = kind }) state.old i → AnswersMembers result types.now state.old state.new (ReachesByUses types.now i) }
 {
     let near = interface_of(&existing);
     match take_item(state, types, kind, near) {

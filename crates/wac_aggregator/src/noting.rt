@@ -1,13 +1,17 @@
 //! An import that is merged with what was taken in for it.
 
-ghost use Rattle.std.specs.Prelude.{◌≡◌, Some, IsSome, IfOk, MatchResult};
+ghost use Rattle.std.specs.Prelude.{◌≡◌, Some, IsSome, IfErr, IfOk, MatchResult};
+ghost use Rattle.wac_component.specs.Id.{Id};
 ghost use Rattle.wac_component.specs.Key.{AllStand, item_keys};
+ghost use Rattle.wac_component.specs.declared.items.ItemKind.TheVariants.{Instance};
 ghost use Rattle.wac_imports.specs.Import.{ImportContent, import_of, IsNoted};
 ghost use Rattle.wac_names.specs.Class.{class_of};
+ghost use Rattle.wac_refusals.specs.declared.error.AggregateError.TheVariants.{Memory};
 ghost use Rattle.wac_taking.specs.Growing.{IsMetWith};
 ghost use Rattle.wac_taking.specs.Refused.{IsMergeRefusal};
 ghost use Rattle.wac_aggregator.specs.Advances.{IsMerged};
 
+use super::cases::is_one_instance;
 use std::alloc::AllocError;
 use wac_clashes::mismatch;
 use wac_component::ItemKind;
@@ -27,7 +31,8 @@ pub(crate) fn note_import(
     requires own { AllStand state.old.types (item_keys own) }
     requires of { class ≡ class_of name.now }
     requires found { IsSome (import_of state.old.imports class) }
-    ensures { MatchResult result (λ u. IsMerged state.old state.new name.now existing own) (IsMergeRefusal state.old.types existing own) }
+    ensures merged { MatchResult result (λ u. IsMerged state.old state.new name.now existing own) (IsMergeRefusal state.old.types existing own) }
+    ensures itself { (i : Id) → existing ≡ Instance i → own ≡ Instance i → IfErr result (λ e. e ≡ Memory) }
 {
     match merge_items(state, existing, own) {
         Ok(met) => Ok(note(state, class, name, met)?),
@@ -35,7 +40,8 @@ pub(crate) fn note_import(
     }
 }
 
-// The meet of an import and of what was taken in for it. Two interfaces or two worlds may not disagree in what they use.
+// The meet of an import and of what was taken in for it: the import itself, where both are instances of one interface. Two interfaces or two worlds
+// may not disagree in what they use.
 fn merge_items(
     state: &mut Merging,
     existing: ItemKind,
@@ -45,7 +51,12 @@ fn merge_items(
     requires own { AllStand state.old.types (item_keys own) }
     ensures same { state.new ≡ record state.old { types = state.new.types } }
     ensures met { MatchResult result (IsMetWith state.old.types state.new.types existing own) (IsMergeRefusal state.old.types existing own) }
+    ensures itself { (i : Id) → existing ≡ Instance i → own ≡ Instance i → IfErr result (λ e. e ≡ Memory) }
 {
+    if is_one_instance(existing, own) {
+        state.types.sound();
+        return Ok(existing);
+    }
     let alloc = state.alloc();
     check_uses_of(alloc, &state.types, existing, own)?;
     match meet_own(alloc, &mut state.types, existing, own)? {

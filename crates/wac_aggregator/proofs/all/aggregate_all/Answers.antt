@@ -17,6 +17,11 @@ use Rattle.wac_aggregator.proofs.Advancing.{by_track}
 use Rattle.wac_aggregator.proofs.Front.{none_served, all_aggregated}
 use Rattle.wac_aggregator.proofs.Handing.{refused_reason}
 use Rattle.wac_aggregator.proofs.Listing.{Contains-at, called_at, may_try, advances_in_order, advances_number, may_take, one_more}
+use Rattle.std.proofs.lemmas.List.Elements.{All-nil}
+use Rattle.wac_call_lists.specs.Call.{IsSoundCall, AreSoundCalls}
+use Rattle.wac_aggregator.specs.Wit.{IsWitAfter}
+use Rattle.wac_aggregator.proofs.Wit.{wit_start, unstopped_start}
+use Rattle.wac_aggregator.proofs.WitRuns.{one_more_sound, one_more_wit, wit_accepted, one_refused}
 use Rattle.wac_aggregator.proofs.all.aggregate_all.Goals as goal
 
 pub loop-at-init : goal.loop-at-init
@@ -27,6 +32,8 @@ loop-at-init c =
       number = ap (λ (t : Collection). t.number) start.empty;
       runs = λ p. run_starts (handed_in c.args.calls.now) c.no_imports-state.result start.imports;
       served = none_served (handed_in c.args.calls.now) c.no_imports-state.result start.taken start.copies (λ q. ap (λ (is : ImportsContent). import_of is q) start.imports) start.shared;
+      sound = All-nil IsSoundCall;
+      wit = λ w. (wit_start (handed_in c.args.calls.now) c.no_imports-state.result c.args.number start, unstopped_start c.no_imports-state.result c.args.number start);
     }
 
 pub advance-requires-clause-source : goal.advance-requires-clause-source
@@ -50,10 +57,12 @@ loop-at-preserved c =
     let before = c.loop-at.invariant in
     let may = may_take calls c.args.number c.requires.one c.requires.apart (take c.loop-at.at calls) call c.loop-at.state among before.number before.order before.served in
     record {
-      order = advances_in_order call c.loop-at.state c.advance.new.state may (may_try call c.loop-at.state c.sound.ensures (c.requires.source call among) before.order) before.order.imports c.filed.ensures c.in_default.ensures;
-      number = advances_number call c.loop-at.state c.advance.new.state may before.order.imports c.filed.ensures c.in_default.ensures ∙ before.number;
-      runs = λ p. rw add-one (run_on calls c.loop-at.at call at (track_imports (shown (content_of c.loop-at.state))) (track_imports (shown (content_of c.advance.new.state))) (plain_step call c.loop-at.state c.advance.new.state may before.order.imports c.filed.ensures c.in_default.ensures (All-contains (λ (d : Call). IsPlain d.types d.kind) calls call p among)) (before.runs p));
-      served = rw add-one (one_more calls c.args.number c.requires.one c.requires.apart c.loop-at.at call c.loop-at.state c.advance.new.state at (c.requires.source call among) c.filed.ensures before.number before.order before.served c.in_default.ensures);
+      order = advances_in_order call c.loop-at.state c.advance.new.state may (may_try call c.loop-at.state c.sound.ensures (c.requires.source call among) before.order) before.order.imports c.filed.ensures c.in_default.ensures.advances;
+      number = advances_number call c.loop-at.state c.advance.new.state may before.order.imports c.filed.ensures c.in_default.ensures.advances ∙ before.number;
+      runs = λ p. rw add-one (run_on calls c.loop-at.at call at (track_imports (shown (content_of c.loop-at.state))) (track_imports (shown (content_of c.advance.new.state))) (plain_step call c.loop-at.state c.advance.new.state may before.order.imports c.filed.ensures c.in_default.ensures.advances (All-contains (λ (d : Call). IsPlain d.types d.kind) calls call p among)) (before.runs p));
+      served = rw add-one (one_more calls c.args.number c.requires.one c.requires.apart c.loop-at.at call c.loop-at.state c.advance.new.state at (c.requires.source call among) c.filed.ensures before.number before.order before.served c.in_default.ensures.advances);
+      sound = rw add-one (one_more_sound calls c.loop-at.at call at before.sound (record { sound = c.sound.ensures; stands = c.requires.source call among }));
+      wit = λ w. rw add-one (one_more_wit calls c.loop-at.at call at w c.loop-at.state c.advance.new.state (λ d m. c.requires.one call d among m) may (record { sound = c.sound.ensures; stands = c.requires.source call among }) before.order.imports c.filed.ensures before.served c.in_default.ensures.advances c.in_default.ensures.members (before.wit w));
     }
 
 pub returns-clause-aggregated : goal.returns-clause-aggregated
@@ -71,7 +80,7 @@ returns-in-Err-clause-plain c = λ p other.
     let call = called c.index-calls-at.result in
     let at = called_at c.args.calls.now c.loop-at.at c.index-calls-at.result c.loop-at-test.true c.index-calls-at.is in
     let plain = All-contains (λ (d : Call). IsPlain d.types d.kind) calls call p (Contains-at calls c.loop-at.at call at) in
-    plain_runs_answer calls (refused c.loop-at.at) p (run_stops calls c.loop-at.at call at (track_imports (shown (content_of c.loop-at.state))) (plain_refusal call c.loop-at.state c.loop-at.invariant.order.imports ((c.in-Err.ensures other).plain plain)) (c.loop-at.invariant.runs p))
+    plain_runs_answer calls (refused c.loop-at.at) p (run_stops calls c.loop-at.at call at (track_imports (shown (content_of c.loop-at.state))) (plain_refusal call c.loop-at.state c.loop-at.invariant.order.imports ((c.in-Err.ensures.advances other).plain plain)) (c.loop-at.invariant.runs p))
 
 pub returns-clause-plain : goal.returns-clause-plain
 returns-clause-plain c = λ p.
@@ -91,5 +100,22 @@ returns-in-Err-clause-reason c = λ d is.
       number_is = before.number;
       aggregated = all_aggregated calls (take c.loop-at.at calls) c.loop-at.state before.order.imports before.served;
       by_track = by_track c.loop-at.state before.order.imports;
-      reason = refused_reason call c.loop-at.state before.order.imports (may_try call c.loop-at.state c.sound.ensures (c.requires.source call (Contains-at calls c.loop-at.at call at)) before.order) c.in-Err.error c.in-Err.ensures;
+      reason = refused_reason call c.loop-at.state before.order.imports (may_try call c.loop-at.state c.sound.ensures (c.requires.source call (Contains-at calls c.loop-at.at call at)) before.order) c.in-Err.error c.in-Err.ensures.advances;
     }
+
+pub returns-clause-wit : goal.returns-clause-wit
+returns-clause-wit c = λ w.
+    let calls = handed_in c.args.calls.now in
+    let whole = take_all c.loop-at.at calls (simp length-map (omega arith)) in
+    wit_accepted calls c.loop-at.state w (subst AreSoundCalls whole c.loop-at.invariant.sound) c.loop-at.invariant.order.imports (subst (λ front. AreServed calls front c.loop-at.state) whole c.loop-at.invariant.served) (subst (λ front. IsWitAfter calls front c.loop-at.state) whole (c.loop-at.invariant.wit w).0)
+
+pub returns-in-Err-clause-wit : goal.returns-in-Err-clause-wit
+returns-in-Err-clause-wit c = λ w ne.
+    let calls = handed_in c.args.calls.now in
+    let call = called c.index-calls-at.result in
+    let at = called_at c.args.calls.now c.loop-at.at c.index-calls-at.result c.loop-at-test.true c.index-calls-at.is in
+    let among = Contains-at calls c.loop-at.at call at in
+    let before = c.loop-at.invariant in
+    let sound = c.requires.source call among in
+    one_refused calls c.loop-at.at call at w c.loop-at.state before.sound (record { sound = c.sound.ensures; stands = sound }) (λ d m. c.requires.one call d among m) before.order.imports before.served (before.wit w).0 c.in-Err.error ne
+    ((c.in-Err.ensures.advances ne).reason (may_try call c.loop-at.state c.sound.ensures sound before.order)) (c.in-Err.ensures.advances ne).plain c.in-Err.ensures.members

@@ -4,6 +4,7 @@ use Rattle.wac_component.proofs.Extended.{AllStand-Extends}
 use Rattle.wac_taking.specs.Growing.{IsMetIfAny}
 use Rattle.wac_taking.proofs.MergeReasons.{says_mismatch, apart_before}
 use Rattle.wac_taking.proofs.Refusals.{passed_on}
+use Rattle.wac_aggregator.proofs.Members.{met_itself}
 use Rattle.wac_aggregator.proofs.noting.merge_items.Goals as goal
 
 pub returns-in-Some-clause-met : goal.returns-in-Some-clause-met
@@ -32,3 +33,6 @@ returns-in_ok-mismatch-in-None-clause-met c = λ ne.
 
 pub returns-in_err-check_uses_of-clause-met : goal.returns-in_err-check_uses_of-clause-met
 returns-in_err-check_uses_of-clause-met c = passed_on c.from_residual.result _ _ c.in_err-check_uses_of.field-0.0 c.from_residual.ensures (λ ne. inl (c.in_err-check_uses_of.ensures ne))
+
+pub returns-then-is_one_instance-clause-met : goal.returns-then-is_one_instance-clause-met
+returns-then-is_one_instance-clause-met c = met_itself c.args.state.now.types c.args.existing c.args.own c.sound.ensures c.requires.existing (c.is_one_instance.ensures.only c.if-is_one_instance.true)

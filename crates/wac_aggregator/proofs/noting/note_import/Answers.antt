@@ -6,8 +6,8 @@ use Rattle.wac_aggregator.proofs.noting.note_import.Goals as goal
 pub note-requires : goal.note-requires
 note-requires c = record { of = c.requires.of; found = still_found c.args.state.now c.merge_items.new.state c.merge_items.new.state c.merge_items.ensures.same refl c.args.class c.requires.found }
 
-pub returns-in_ok-note-in-Ok : goal.returns-in_ok-note-in-Ok
-returns-in_ok-note-in-Ok c =
+pub returns-in_ok-note-in-Ok-clause-merged : goal.returns-in_ok-note-in-Ok-clause-merged
+returns-in_ok-note-in-Ok-clause-merged c =
     let m = c.merge_items.new.state in
     let b = c.note.new.state in
     is_merged c.args.state.now m b c.merge_items.ensures.same c.note.ensures.same c.args.name.now c.args.existing c.args.own c.in-Ok.met c.in-Ok.ensures.met

@@ -19,12 +19,12 @@ returns-in_err-advance-clause-forgotten c = c.forget.ensures.remembered ∙ ap (
 pub invariant_of-result : goal.invariant_of-result
 invariant_of-result c =
     let call : Call = record { name = c.args.name.now; types = c.args.types.now; kind = c.args.kind } in
-    call_in_order call c.self.inside.state c.direction-state.result c.args.self c.self.view_is c.self.invariant c.requires.apart c.requires.remembered c.advance.new.state c.filed.ensures c.in_ok-advance.ensures c.sound.ensures c.requires.source
+    call_in_order call c.self.inside.state c.direction-state.result c.args.self c.self.view_is c.self.invariant c.requires.apart c.requires.remembered c.advance.new.state c.filed.ensures c.in_ok-advance.ensures.advances c.sound.ensures c.requires.source
 
 pub returns-clause-step : goal.returns-clause-step
 returns-clause-step c =
     let call : Call = record { name = c.args.name.now; types = c.args.types.now; kind = c.args.kind } in
-    call_step call c.self.inside.state c.direction-state.result c.args.self c.self.view_is c.self.invariant c.requires.apart c.requires.remembered c.advance.new.state c.filed.ensures c.in_ok-advance.ensures
+    call_step call c.self.inside.state c.direction-state.result c.args.self c.self.view_is c.self.invariant c.requires.apart c.requires.remembered c.advance.new.state c.filed.ensures c.in_ok-advance.ensures.advances
 
 pub returns-clause-by_track : goal.returns-clause-by_track
 returns-clause-by_track c = by_track c.advance.new.state c.filed.ensures
@@ -32,24 +32,24 @@ returns-clause-by_track c = by_track c.advance.new.state c.filed.ensures
 pub returns-clause-truly : goal.returns-clause-truly
 returns-clause-truly c =
     let call : Call = record { name = c.args.name.now; types = c.args.types.now; kind = c.args.kind } in
-    call_truly call c.self.inside.state c.direction-state.result c.args.self c.self.view_is c.self.invariant c.requires.apart c.requires.remembered c.advance.new.state c.filed.ensures c.in_ok-advance.ensures
+    call_truly call c.self.inside.state c.direction-state.result c.args.self c.self.view_is c.self.invariant c.requires.apart c.requires.remembered c.advance.new.state c.filed.ensures c.in_ok-advance.ensures.advances
 
 pub returns-clause-number : goal.returns-clause-number
 returns-clause-number c =
     let call : Call = record { name = c.args.name.now; types = c.args.types.now; kind = c.args.kind } in
-    call_number call c.self.inside.state c.direction-state.result c.args.self c.self.view_is c.self.invariant c.requires.apart c.requires.remembered c.advance.new.state c.filed.ensures c.in_ok-advance.ensures
+    call_number call c.self.inside.state c.direction-state.result c.args.self c.self.view_is c.self.invariant c.requires.apart c.requires.remembered c.advance.new.state c.filed.ensures c.in_ok-advance.ensures.advances
 
 pub returns-clause-plain : goal.returns-clause-plain
 returns-clause-plain c =
     let call : Call = record { name = c.args.name.now; types = c.args.types.now; kind = c.args.kind } in
-    call_plain call c.self.inside.state c.direction-state.result c.args.self c.self.view_is c.self.invariant c.requires.apart c.requires.remembered c.advance.new.state c.filed.ensures c.in_ok-advance.ensures
+    call_plain call c.self.inside.state c.direction-state.result c.args.self c.self.view_is c.self.invariant c.requires.apart c.requires.remembered c.advance.new.state c.filed.ensures c.in_ok-advance.ensures.advances
 
 pub returns-in_err-advance-clause-plain : goal.returns-in_err-advance-clause-plain
 returns-in_err-advance-clause-plain c =
     let call : Call = record { name = c.args.name.now; types = c.args.types.now; kind = c.args.kind } in
-    passed_on c.from_residual.result _ _ c.in_err-advance.field-0.0 c.from_residual.ensures (call_refused call c.self.inside.state c.direction-state.result c.args.self c.self.view_is c.self.invariant c.requires.apart c.requires.remembered c.in_err-advance.field-0.0 c.in_err-advance.ensures)
+    passed_on c.from_residual.result _ _ c.in_err-advance.field-0.0 c.from_residual.ensures (call_refused call c.self.inside.state c.direction-state.result c.args.self c.self.view_is c.self.invariant c.requires.apart c.requires.remembered c.in_err-advance.field-0.0 c.in_err-advance.ensures.advances)
 
 pub returns-in_err-advance-clause-reason : goal.returns-in_err-advance-clause-reason
 returns-in_err-advance-clause-reason c =
     let call : Call = record { name = c.args.name.now; types = c.args.types.now; kind = c.args.kind } in
-    error_passed_on c.from_residual.result _ c.in_err-advance.field-0.0 c.from_residual.ensures (call_reason call c.self.inside.state c.direction-state.result c.args.self c.self.view_is c.self.invariant c.requires.apart c.requires.remembered c.in_err-advance.field-0.0 c.sound.ensures c.requires.source c.in_err-advance.ensures)
+    error_passed_on c.from_residual.result _ c.in_err-advance.field-0.0 c.from_residual.ensures (call_reason call c.self.inside.state c.direction-state.result c.args.self c.self.view_is c.self.invariant c.requires.apart c.requires.remembered c.in_err-advance.field-0.0 c.sound.ensures c.requires.source c.in_err-advance.ensures.advances)
