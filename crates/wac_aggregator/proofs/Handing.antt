@@ -21,7 +21,8 @@ use Rattle.wac_refusals.specs.declared.error.AggregateError.TheVariants.{Memory}
 use Rattle.wac_imports.specs.Import.{AreFiled}
 use Rattle.wac_imports.specs.Left.{listed}
 use Rattle.wac_imports.proofs.Listed.{of_Contains}
-use Rattle.wac_taking.specs.Refused.{said, HasReason}
+use Rattle.wac_uses.specs.Said.{said}
+use Rattle.wac_taking.specs.Refused.{HasReason}
 use Rattle.wac_taking.specs.Takes.{MayTake}
 use Rattle.wac_taking.specs.declared.state.Merging.{Merging}
 use Rattle.wac_aggregator.specs.Advances.{attempt_at, Advances, IsRefusedCall, MayTry}

@@ -3,19 +3,16 @@ use Rattle.std.proofs.Common.{◌≡◌, [], ◌∷◌, List, Option, Some, None
 use Rattle.std.proofs.lemmas.Result.{MatchResult-weaker}
 use Rattle.std.specs.Result.{MatchResult, IfErr}
 use Rattle.std.specs.Option.{option_map}
-use Rattle.wac_model.specs.ItemTree.{ItemTree, Items, item, interface, composite}
-use Rattle.wac_model.specs.Order.{Fits, composites}
 use Rattle.wac_model.proofs.ItemOrder.{Fits-refl}
 use Rattle.wac_component.specs.Collection.{Collection}
 use Rattle.wac_component.specs.Height.{keys_height}
 use Rattle.wac_component.specs.Id.{Id}
-use Rattle.wac_component.specs.Key.{Key, AllStand, item_keys, interface_key}
+use Rattle.wac_component.specs.Key.{AllStand, item_keys, interface_key}
 use Rattle.wac_component.specs.Reach.{IsAmong}
 use Rattle.wac_component.specs.Sound.{IsSound}
 use Rattle.wac_component.specs.Tree.{item_tree}
 use Rattle.wac_component.specs.declared.items.ItemKind.{ItemKind}
-use Rattle.wac_component.specs.declared.items.ItemKind.TheVariants.{«Type» as OfType, Func, Instance, Component, Module, Value}
-use Rattle.wac_component.specs.declared.items.Type.TheVariants.{Resource as TypeResource, Func as TypeFunc, Value as TypeValue, Interface as TypeInterface, World as TypeWorld, Module as TypeModule}
+use Rattle.wac_component.specs.declared.items.ItemKind.TheVariants.{Instance}
 use Rattle.wac_component.proofs.Extended.{Extends-refl}
 use Rattle.wac_merge.specs.Built.{OnlyBuilds, first}
 use Rattle.wac_names.specs.Class.{Class, class_of}
@@ -24,7 +21,7 @@ use Rattle.wac_call_lists.specs.Shared.{Taken}
 use Rattle.wac_call_lists.proofs.TakenIn.{sharing_goes_on}
 use Rattle.wac_imports.specs.Import.{ImportContent, import_of}
 use Rattle.wac_narrowing.specs.State.{IsKept}
-use Rattle.wac_narrowing.specs.Taking.{IsTakenKey, IsTakenItem, AreTakenKeys, one_key}
+use Rattle.wac_narrowing.specs.Taking.{IsTakenKey, IsTakenItem, AreTakenKeys}
 use Rattle.wac_narrowing.specs.Traced.{Arrows}
 use Rattle.wac_narrowing.proofs.Tracing.{traced_added}
 use Rattle.wac_taking.specs.Growing.{StepsOn, IsMetWith}
@@ -32,7 +29,7 @@ use Rattle.wac_call_lists.specs.Reason.{Refusal}
 use Rattle.wac_refusals.specs.declared.error.AggregateError.{AggregateError}
 use Rattle.wac_refusals.specs.declared.error.AggregateError.TheVariants.{Memory}
 use Rattle.wac_taking.specs.Members.{HasTakenIn, TakesMembers, IsOfMerging, IsMemberRefusal, AnswersMembers, roots_of}
-use Rattle.wac_taking.specs.Refused.{said}
+use Rattle.wac_uses.specs.Said.{said}
 use Rattle.wac_taking.specs.Takes.{shared_in, shared_keys, state_of, MayTake, Takes}
 use Rattle.wac_taking.specs.declared.state.Merging.{Merging}
 use Rattle.wac_taking.proofs.GrowLemmas.{built_met}
@@ -40,6 +37,7 @@ use Rattle.wac_taking.proofs.Identifiers.{identifier_of}
 use Rattle.wac_taking.proofs.TakeLemmas.{MayTake-Takes, lookup-shared, shared_stands}
 use Rattle.wac_aggregator.specs.Wit.{MayHandIn}
 use Rattle.wac_aggregator.proofs.Calls.{import_with}
+use Rattle.wac_aggregator.proofs.Instances.{instance_fits, instance_of, first_key}
 
 -- the meet of an item with itself is itself
 pub met_itself : (c : Collection) (a b : ItemKind) → IsSound c → AllStand c (item_keys a) → a ≡ b → IsMetWith c c a b a
@@ -54,30 +52,6 @@ met_itself c a b sound stand same =
 pub match_with : {X E : Type 0} (r : Result X E) (P P' : X → Type 0) (Q R Q' : E → Type 0) → MatchResult r P Q → IfErr r R → ((x : X) → P x → P' x) → ((e : E) → Q e → R e → Q' e) → MatchResult r P' Q'
 match_with (Ok x) P P' Q R Q' m i f g = f x m
 match_with (Err e) P P' Q R Q' m i f g = g e m i
-
--- an item with the tree of an interface is an instance of one
-abbrev IsInstanceTree : ItemTree → Type 0
-IsInstanceTree (composite item interface i e) = Unit {0}
-IsInstanceTree t = ⊥
-
-instance_fits : {a : ItemTree} {i e : Items} → Fits a (composite item interface i e) → IsInstanceTree a
-instance_fits (composites p q) = tt
-
-instance_of : (c : Collection) (x : ItemKind) → IsInstanceTree (item_tree c x) → (r : Id) × (x ≡ Instance r)
-instance_of c (Instance r) h = (r, refl)
-instance_of c (Component p) h = absurd h
-instance_of c (OfType (TypeInterface p)) h = absurd h
-instance_of c (OfType (TypeWorld p)) h = absurd h
-instance_of c (OfType (TypeResource p)) h = absurd h
-instance_of c (OfType (TypeFunc p)) h = absurd h
-instance_of c (OfType (TypeValue p)) h = absurd h
-instance_of c (OfType (TypeModule p)) h = absurd h
-instance_of c (Func p) h = absurd h
-instance_of c (Module p) h = absurd h
-instance_of c (Value p) h = absurd h
-
-one_taken : (f : Collection) (s : Merging) (theirs own : Key) → AreTakenKeys class_of f (state_of s) (theirs ∷ []) (own ∷ []) → IsTakenKey class_of f (state_of s) theirs own
-one_taken f s theirs own (one_key h rest) = h
 
 -- what was taken in is so where entries are only added, whatever is imported
 pub members_onward : (f : Collection) (a mid b : Merging) (P : Id → Type 0) (taken : Taken) → IsKept (state_of mid) → StepsOn mid.types b.types → b ≡ record mid { types = b.types; imports = b.imports } → TakesMembers f a mid P taken → TakesMembers f a b P taken
@@ -128,7 +102,7 @@ module _ (call : Call) (a mid : Merging) (own : ItemKind) (may : MayTake call.ty
   the_instance = instance_of mid.types own (instance_fits of_instance.fits)
 
   taken_for : IsTakenKey class_of call.types (state_of mid) (interface_key i) (interface_key the_instance.0)
-  taken_for = one_taken call.types mid (interface_key i) (interface_key the_instance.0) (subst (λ x. AreTakenKeys class_of call.types (state_of mid) (interface_key i ∷ []) (item_keys x)) the_instance.1 of_instance.keys)
+  taken_for = first_key call.types (state_of mid) (interface_key i) (interface_key the_instance.0) (subst (λ x. AreTakenKeys class_of call.types (state_of mid) (interface_key i ∷ []) (item_keys x)) the_instance.1 of_instance.keys)
 
   -- an entry that is shared, whose identifier is on a track, is found there
   shared_there : (s : Id) (m : Class) → IsAmong (interface_key s) (shared_keys mid.shared.entries) → ((t : Class) → shared_in mid.shared.entries t ≡ Some s → t ≡ m) → shared_in mid.shared.entries m ≡ Some s

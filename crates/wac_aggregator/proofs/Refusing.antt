@@ -19,14 +19,16 @@ use Rattle.wac_call_lists.proofs.WitReasons.{fits_case}
 use Rattle.wac_imports.specs.Import.{ImportContent, ImportsContent, import_of}
 use Rattle.wac_refusals.specs.declared.error.AggregateError.{AggregateError}
 use Rattle.wac_refusals.specs.declared.error.AggregateError.TheVariants.{Memory}
-use Rattle.wac_taking.specs.Refused.{said, HasReason, IsRefused, IsMergeRefusal, UsesDiffer, SaysMismatch}
+use Rattle.wac_uses.specs.Differ.{UsesDiffer}
+use Rattle.wac_uses.specs.Said.{said}
+use Rattle.wac_taking.specs.Refused.{HasReason, IsRefused, IsMergeRefusal, SaysMismatch}
 use Rattle.wac_taking.specs.Takes.{state_of, IsOwnersImport, MayTake, Takes}
 use Rattle.wac_taking.specs.declared.state.Merging.{Merging}
 use Rattle.wac_taking.proofs.Identifiers.{has_identifier}
 use Rattle.wac_taking.proofs.MergeReasons.{one_reason, entries_refused}
 use Rattle.wac_taking.proofs.Plain.{plain_quiet}
 use Rattle.wac_taking.proofs.TakeLemmas.{near_none, only_grows}
-use Rattle.wac_taking.proofs.UseLemmas.{plain_no_uses}
+use Rattle.wac_taking.proofs.PlainUses.{plain_no_uses}
 use Rattle.wac_aggregator.specs.Advances.{attempt_at, HasNoMeet, IsRefusedCall, MayTry}
 use Rattle.wac_aggregator.proofs.Calls.{import_with, at_still, existing_stands}
 use Rattle.wac_aggregator.proofs.Trying.{call_trial, call_accounted, import_open, own_open, taken_accounted}

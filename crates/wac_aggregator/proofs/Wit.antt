@@ -34,7 +34,6 @@ use Rattle.wac_taking.proofs.Members.{wit_within, reached_closed}
 use Rattle.wac_aggregator.specs.InOrder.{IsStart}
 use Rattle.wac_aggregator.specs.Served.{AreServed}
 use Rattle.wac_aggregator.specs.Wit.{trees_of, AreInstances, IsWitAfter, MayHandIn}
-use Rattle.wac_aggregator.proofs.WitMoves.{AreUnstopped}
 
 -- ---- before the first call
 
@@ -61,14 +60,15 @@ wit_start calls a number start = record {
   members = λ c i. (λ m. absurd (no_member c i m), λ m. absurd (omega (arith, m.1)));
   all = λ g one i is named some. absurd (not_some (memo_of a.taken (interface_key i)) (start.taken (interface_key i)) some);
   instances = λ t some. absurd (some (ap (λ (ss : List (Class × Id)). shared_in ss t) start.shared));
-  plain = λ t i at. absurd (let no : None ≡ Some i = sym (ap (λ (is : ImportsContent). import_of is t) start.imports) ∙ at in cc);
+  plain = λ t i at. absurd (none_imported t i at);
+  unstopped = λ t i at. absurd (none_imported t i at);
 }
   where
+    none_imported : (t : Class) (i : ImportContent) → import_of a.imports t ≡ Some i → ⊥
+    none_imported t i at = let no : None ≡ Some i = sym (ap (λ (is : ImportsContent). import_of is t) start.imports) ∙ at in cc
+
     none : {k : Key} → IsAmong k (shared_keys a.shared.entries) → ⊥
     none {k} m = no_key (subst (λ (ss : List (Class × Id)). IsAmong k (shared_keys ss)) start.shared m)
-
-pub unstopped_start : (a : Merging) (number : ℕ) → IsStart a number → AreUnstopped a
-unstopped_start a number start t i at = absurd (let no : None ≡ Some i = sym (ap (λ (is : ImportsContent). import_of is t) start.imports) ∙ at in cc)
 
 -- ---- a track with a shared entry has no plain items: else the entry would be the meet of nothing
 

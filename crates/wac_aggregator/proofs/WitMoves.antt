@@ -27,6 +27,7 @@ use Rattle.wac_taking.specs.Takes.{shared_in, shared_keys, state_of, MayTake, Is
 use Rattle.wac_taking.specs.declared.state.Merging.{Merging}
 use Rattle.wac_taking.proofs.Identifiers.{has_identifier}
 use Rattle.wac_taking.proofs.TakeLemmas.{lookup-shared, shared_stands}
+use Rattle.wac_aggregator.specs.Wit.{AreUnstopped}
 use Rattle.wac_aggregator.specs.Advances.{Advances}
 use Rattle.wac_aggregator.proofs.Advancing.{placing, at_of, taken_kept, rest, run}
 use Rattle.wac_aggregator.proofs.Leading.{placed_here, placed_other}
@@ -63,14 +64,6 @@ taken_unstopped f s _ _ (one_key {i = i} {is = is} {js = js} k others) q =
     (λ t n stops. (let o = (k.remembered.plain (quiet_unidentified f i q.0)).stops t n stops in q.0 o.at o.name o.walk o.identified), taken_unstopped f s is js others q.1)
 
 -- ---- the tracks but the call's own, once the call was made
-
--- from no import on a track without shared entry does an open walk stop
-abbrev pub AreUnstopped : Merging → Type 0
-AreUnstopped a = (t : Class) (i : ImportContent) → import_of a.imports t ≡ Some i → shared_in a.shared.entries t ≡ None → Each (IsUnstopped a.types) (item_keys i.1)
-
--- where none stops from what is met, none does from the call's import
-abbrev pub KeepsUnstopped : (call : Call) (a b : Merging) → Advances call a b → Type 0
-KeepsUnstopped call a b h = (i : ImportContent) → import_of a.imports (call_track call) ≡ Some i → Each (IsUnstopped h.taken.types) (item_keys i.1) → Each (IsUnstopped h.taken.types) (item_keys h.own) → Each (IsUnstopped b.types) (item_keys h.import)
 
 module _ (call : Call) (a b : Merging) (may : MayTake call.types a) (filed_a : AreFiled a.imports) (filed_b : AreFiled b.imports) (h : Advances call a b) (before after : Taken) (was : HasTakenIn a before) (has : HasTakenIn b after) where
   kept_then : IsKept (state_of h.taken)

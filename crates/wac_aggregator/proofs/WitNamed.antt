@@ -1,23 +1,18 @@
 -- A named instance that is accepted leaves the state of a WIT list.
 use Rattle.std.proofs.Common.{◌≡◌, ◌≢◌, inl, inr, Bool, true, false, List, [], ◌∷◌, ◌++◌, Option, Some, None, IsSome, Contains, refl, ap, sym, ◌∙◌, subst}
 use Rattle.wac_model.specs.Text.{Text}
-use Rattle.wac_model.specs.ItemTree.{ItemTree, item, interface, composite, Items}
-use Rattle.wac_model.specs.Order.{Fits, composites}
+use Rattle.wac_model.specs.ItemTree.{ItemTree}
+use Rattle.wac_model.specs.Order.{Fits}
 use Rattle.wac_model.proofs.ItemOrder.{Fits-refl}
 use Rattle.wac_component.specs.Collection.{Collection}
 use Rattle.wac_component.specs.Id.{Id}
 use Rattle.wac_component.specs.Implicit.{identifier, HasIdentifier}
-use Rattle.wac_component.specs.Key.{Key, AllStand, item_keys, interface_key}
-use Rattle.wac_component.specs.Open.{open_next, OpenReaches, stay, step}
-use Rattle.wac_component.specs.Reach.{IsAmong}
+use Rattle.wac_component.specs.Key.{AllStand, item_keys, interface_key}
 use Rattle.wac_component.specs.Tree.{item_tree}
-use Rattle.wac_component.specs.declared.items.ItemKind.{ItemKind}
-use Rattle.wac_component.specs.declared.items.ItemKind.TheVariants.{«Type» as OfType, Func, Instance, Component, Module, Value}
-use Rattle.wac_component.specs.declared.items.Type.TheVariants.{Resource as TypeResource, Func as TypeFunc, Value as TypeValue, Interface as TypeInterface, World as TypeWorld, Module as TypeModule}
+use Rattle.wac_component.specs.declared.items.ItemKind.TheVariants.{Instance}
 use Rattle.wac_component.proofs.Walks.{walks_stand}
 use Rattle.wac_names.specs.Class.{Class, class_eq, class_of}
-use Rattle.wac_narrowing.specs.State.{State}
-use Rattle.wac_narrowing.specs.Taking.{AreTakenKeys, one_key, IsTakenKey, IsTakenItem}
+use Rattle.wac_narrowing.specs.Taking.{AreTakenKeys, IsTakenKey, IsTakenItem}
 use Rattle.wac_call_lists.specs.Call.{Call, IsSoundCall, call_track}
 use Rattle.wac_call_lists.specs.Entries.{ReachesByUses}
 use Rattle.wac_call_lists.specs.TreeSets.{IsMeetOf}
@@ -26,7 +21,6 @@ use Rattle.wac_call_lists.specs.WitRun.{AreMembers}
 use Rattle.wac_call_lists.proofs.Among.{among_front, wit_list_fewer}
 use Rattle.wac_call_lists.proofs.Members.{named_not_plain, reaches_by_uses}
 use Rattle.wac_call_lists.proofs.MoreMembers.{members_of_more}
-use Rattle.wac_call_lists.proofs.Read.{use_opens}
 use Rattle.wac_call_lists.proofs.Sets.{meet_moves}
 use Rattle.wac_copies.specs.Memo.{memo_of}
 use Rattle.wac_imports.specs.Import.{ImportContent, import_of, AreFiled}
@@ -34,42 +28,13 @@ use Rattle.wac_taking.specs.Members.{TakesMembers}
 use Rattle.wac_taking.specs.Takes.{shared_in, state_of, MayTake}
 use Rattle.wac_taking.specs.declared.state.Merging.{Merging}
 use Rattle.wac_taking.proofs.Identifiers.{has_identifier, identifier_of}
+use Rattle.wac_taking.proofs.Members.{openly_by_uses}
 use Rattle.wac_aggregator.specs.Advances.{Advances}
 use Rattle.wac_aggregator.specs.Served.{IsOneOf, AreServed}
-use Rattle.wac_aggregator.specs.Wit.{AreInstances, IsWitAfter}
+use Rattle.wac_aggregator.specs.Wit.{AreInstances, AreUnstopped, IsWitAfter}
+use Rattle.wac_aggregator.proofs.Instances.{instance_fits, instance_of, first_key}
 use Rattle.wac_aggregator.proofs.Wit.{named_wit, taken_members, no_plain, unshared_plain, may_hand_in, plain_cases, plain_before}
-use Rattle.wac_aggregator.proofs.WitMoves.{AreUnstopped, found_on, still_shared, none_before, on_other, on_own, kept_tree, unstopped_after}
-
--- ---- instances
-
--- what fits where an instance is asked for is one
-abbrev IsInstanceTree : ItemTree → Type 0
-IsInstanceTree (composite item interface i e) = Unit {0}
-IsInstanceTree t = ⊥
-
-fits_instance : {a : ItemTree} {i e : Items} → Fits a (composite item interface i e) → IsInstanceTree a
-fits_instance (composites p q) = tt
-
-instance_of : (c : Collection) (x : ItemKind) → IsInstanceTree (item_tree c x) → (p : Id) × (x ≡ Instance p)
-instance_of c (Instance p) h = (p, refl)
-instance_of c (Component p) h = absurd h
-instance_of c (OfType (TypeInterface p)) h = absurd h
-instance_of c (OfType (TypeWorld p)) h = absurd h
-instance_of c (OfType (TypeResource p)) h = absurd h
-instance_of c (OfType (TypeFunc p)) h = absurd h
-instance_of c (OfType (TypeValue p)) h = absurd h
-instance_of c (OfType (TypeModule p)) h = absurd h
-instance_of c (Func p) h = absurd h
-instance_of c (Module p) h = absurd h
-instance_of c (Value p) h = absurd h
-
-first_key : (f : Collection) (s : State) (i j : Key) → AreTakenKeys class_of f s (i ∷ []) (j ∷ []) → IsTakenKey class_of f s i j
-first_key f s i j (one_key h others) = h
-
--- what is reached by uses is openly reached
-openly_by_uses : (c : Collection) (i j : Id) → ReachesByUses c i j → OpenReaches c (interface_key i) (interface_key j)
-openly_by_uses c i j ReachesByUses.stay = stay
-openly_by_uses c i j (ReachesByUses.step {j = o} u w) = step (subst (λ x. IsAmong (interface_key x) (open_next c (interface_key i))) u.is_of (use_opens c (interface_key i) u.name u.content u.has)) (openly_by_uses c o j w)
+use Rattle.wac_aggregator.proofs.WitMoves.{found_on, still_shared, none_before, on_other, on_own, kept_tree, unstopped_after}
 
 with_name : (c : Collection) (j : Id) → HasIdentifier c j → (n : Text) × (identifier c j ≡ Some n)
 with_name c j h = by (identifier c j) refl h
@@ -83,7 +48,7 @@ one_instance : (call : Call) (i j : Id) → IsNamedInstance call i → IsNamedIn
 one_instance call i j m n = let both : Instance j ≡ Instance i = sym n.instance ∙ m.instance in cc
 
 module _ (calls front : List Call) (call : Call) (wit : IsWitList (front ++ call ∷ [])) (a b : Merging) (among : Contains calls call) (one : IsOneOf calls call.types) (may : MayTake call.types a) (sound : IsSoundCall call) (filed_a : AreFiled a.imports) (filed_b : AreFiled b.imports)
-    (served : AreServed calls front a) (w : IsWitAfter calls front a) (unstopped : AreUnstopped a) (h : Advances call a b) where
+    (served : AreServed calls front a) (w : IsWitAfter calls front a) (h : Advances call a b) where
   abbrev longer : List Call
   longer = front ++ call ∷ []
 
@@ -101,7 +66,7 @@ module _ (calls front : List Call) (call : Call) (wit : IsWitList (front ++ call
     taken_item = subst (λ x. IsTakenItem class_of f (state_of h.taken) x h.own) n.instance h.takes.holds
 
     own_instance : (p : Id) × (h.own ≡ Instance p)
-    own_instance = instance_of h.taken.types h.own (fits_instance taken_item.fits)
+    own_instance = instance_of h.taken.types h.own (instance_fits taken_item.fits)
 
     taken_key : IsTakenKey class_of f (state_of h.taken) (interface_key i) (interface_key own_instance.0)
     taken_key = first_key f (state_of h.taken) (interface_key i) (interface_key own_instance.0) (subst (λ x. AreTakenKeys class_of f (state_of h.taken) (interface_key i ∷ []) (item_keys x)) own_instance.1 taken_item.keys)
@@ -170,7 +135,7 @@ module _ (calls front : List Call) (call : Call) (wit : IsWitList (front ++ call
         old : import_of a.imports t ≡ Some j → IsMeetOf (item_tree b.types j.1) (IsPlainTree longer t)
         old stood =
             let was = none_before call a b may filed_a filed_b h w.taken g.more w.has g.has t none in
-            subst (λ x. IsMeetOf x (IsPlainTree longer t)) (sym (kept_tree call a b may filed_a filed_b h w.taken g.more w.has g.has unstopped t j stood was))
+            subst (λ x. IsMeetOf x (IsPlainTree longer t)) (sym (kept_tree call a b may filed_a filed_b h w.taken g.more w.has g.has w.unstopped t j stood was))
             (meet_moves (IsPlainTree front t) (IsPlainTree longer t) (plain_before front call t) only_front (item_tree a.types j.1) (w.plain t j stood was))
 
         by : (x : Bool) → class_eq c t ≡ x → IsMeetOf (item_tree b.types j.1) (IsPlainTree longer t)
@@ -180,8 +145,8 @@ module _ (calls front : List Call) (call : Call) (wit : IsWitList (front ++ call
           | inr r ↦ absurd (let no : None ≡ Some r.0 = sym none ∙ r.1 in cc)
         ]
 
-    pub named_unstopped : AreUnstopped b
-    named_unstopped = unstopped_after call a b may filed_a filed_b h w.taken g.more w.has g.has unstopped (λ none. absurd (let no : None ≡ Some own_instance.0 = sym none ∙ own_shared in cc))
+    named_unstopped : AreUnstopped b
+    named_unstopped = unstopped_after call a b may filed_a filed_b h w.taken g.more w.has g.has w.unstopped (λ none. absurd (let no : None ≡ Some own_instance.0 = sym none ∙ own_shared in cc))
 
     pub named_next : IsWitAfter calls longer b
     named_next = record {
@@ -191,6 +156,7 @@ module _ (calls front : List Call) (call : Call) (wit : IsWitList (front ++ call
       all = λ e is. g.all e (is call among) (w.all e is);
       instances = λ t some. by t (shared_in b.shared.entries t) refl some;
       plain = named_plain;
+      unstopped = named_unstopped;
     }
       where
         by : (t : Class) (o : Option Id) → shared_in b.shared.entries t ≡ o → shared_in b.shared.entries t ≢ None → AreInstances b t

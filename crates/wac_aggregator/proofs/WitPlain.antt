@@ -36,15 +36,15 @@ use Rattle.wac_component.proofs.Extended.{Extends-trans}
 use Rattle.wac_aggregator.specs.Advances.{Advances}
 use Rattle.wac_aggregator.specs.Content.{shown, content_of}
 use Rattle.wac_aggregator.specs.Served.{IsOneOf, AreServed}
-use Rattle.wac_aggregator.specs.Wit.{trees_of, AreInstances, IsWitAfter}
+use Rattle.wac_aggregator.specs.Wit.{AreInstances, AreUnstopped, IsWitAfter, trees_of}
 use Rattle.wac_aggregator.proofs.Advancing.{placing, taken_kept, rest, run}
 use Rattle.wac_aggregator.proofs.Leading.{placed_here}
 use Rattle.wac_aggregator.proofs.Plain.{track_import, plain_step}
 use Rattle.wac_aggregator.proofs.Wit.{no_plain, import_due, plain_cases, plain_before}
-use Rattle.wac_aggregator.proofs.WitMoves.{AreUnstopped, KeepsUnstopped, still_unstopped, taken_unstopped, on_other, on_own, stood_stands, unstopped_after}
+use Rattle.wac_aggregator.proofs.WitMoves.{still_unstopped, taken_unstopped, on_other, on_own, stood_stands, unstopped_after}
 
 module _ (calls front : List Call) (call : Call) (wit : IsWitList (front ++ call ∷ [])) (a b : Merging) (among : Contains calls call) (one : IsOneOf calls call.types) (may : MayTake call.types a) (sound : IsSoundCall call) (filed_a : AreFiled a.imports) (filed_b : AreFiled b.imports)
-    (served : AreServed calls front a) (w : IsWitAfter calls front a) (unstopped : AreUnstopped a) (h : Advances call a b) where
+    (served : AreServed calls front a) (w : IsWitAfter calls front a) (h : Advances call a b) where
   abbrev longer : List Call
   longer = front ++ call ∷ []
 
@@ -151,8 +151,8 @@ module _ (calls front : List Call) (call : Call) (wit : IsWitList (front ++ call
           | inr r ↦ absurd (let no : None ≡ Some r.0 = sym none ∙ r.1 in cc)
         ]
 
-    pub plain_unstopped : KeepsUnstopped call a b h → AreUnstopped b
-    plain_unstopped meets = unstopped_after call a b may filed_a filed_b h w.taken g.more w.has g.has unstopped (λ none. by none (import_of a.imports c) refl)
+    plain_unstopped : AreUnstopped b
+    plain_unstopped = unstopped_after call a b may filed_a filed_b h w.taken g.more w.has g.has w.unstopped (λ none. by none (import_of a.imports c) refl)
       where
         own_unstopped : Each (IsUnstopped h.taken.types) (item_keys h.own)
         own_unstopped = taken_unstopped f (state_of h.taken) (item_keys call.kind) (item_keys h.own) h.takes.holds.keys (plain_quiet f (item_keys call.kind) p.plain)
@@ -160,8 +160,8 @@ module _ (calls front : List Call) (call : Call) (wit : IsWitList (front ++ call
         by : shared_in b.shared.entries c ≡ None → (o : Option ImportContent) → import_of a.imports c ≡ o → Each (IsUnstopped b.types) (item_keys h.import)
         by none None at = subst (λ x. Each (IsUnstopped b.types) (item_keys x)) (sym (h.alone at))
             (still_unstopped h.taken.types b.types (shared_keys h.taken.shared.entries) (shared_keys b.shared.entries) ((rest call a b may filed_a filed_b h).stops (taken_kept call a b may filed_a filed_b h)) (item_keys h.own) h.takes.holds.stands own_unstopped)
-        by none (Some j) at = meets j at
-            (still_unstopped a.types h.taken.types (shared_keys a.shared.entries) (shared_keys h.taken.shared.entries) (h.takes.run.stops may.kept) (item_keys j.1) (stood_stands call a b may filed_a filed_b h w.taken g.more w.has g.has c j at) (unstopped c j at (none_then c none)))
+        by none (Some j) at = h.unstopped j at
+            (still_unstopped a.types h.taken.types (shared_keys a.shared.entries) (shared_keys h.taken.shared.entries) (h.takes.run.stops may.kept) (item_keys j.1) (stood_stands call a b may filed_a filed_b h w.taken g.more w.has g.has c j at) (w.unstopped c j at (none_then c none)))
             own_unstopped
 
     pub plain_next : IsWitAfter calls longer b
@@ -172,6 +172,7 @@ module _ (calls front : List Call) (call : Call) (wit : IsWitList (front ++ call
       all = λ e is. g.all e (is call among) (w.all e is);
       instances = λ t some. by t (shared_in b.shared.entries t) refl some;
       plain = plain_plain;
+      unstopped = plain_unstopped;
     }
       where
         by : (t : Class) (o : Option Id) → shared_in b.shared.entries t ≡ o → shared_in b.shared.entries t ≢ None → AreInstances b t

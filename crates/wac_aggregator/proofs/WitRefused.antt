@@ -27,9 +27,9 @@ use Rattle.wac_call_lists.proofs.ByUses.{by_uses, member_by_uses, wit_members}
 use Rattle.wac_call_lists.proofs.Members.{Leads-trans, members_stand, named_member, walk_leads, wit_item}
 use Rattle.wac_imports.specs.Import.{ImportContent, AreFiled}
 use Rattle.wac_refusals.specs.declared.error.AggregateError.{AggregateError}
-use Rattle.wac_refusals.specs.declared.error.AggregateError.TheVariants.{Kinds, Mismatch, UsedInterface, UsedName, NoIdentifier, OwnerWithoutIdentifier, Taken as WasTaken, Cycle, Memory}
 use Rattle.wac_taking.specs.Members.{HasTakenIn, HasAllOf, roots_of, Hinders, at_entry, in_cycle, IsNotTaken, IsOfMerging, IsMemberRefusal}
-use Rattle.wac_taking.specs.Refused.{said, HasReason}
+use Rattle.wac_uses.specs.Said.{said}
+use Rattle.wac_taking.specs.Refused.{HasReason}
 use Rattle.wac_taking.specs.declared.state.Merging.{Merging}
 use Rattle.wac_taking.proofs.Identifiers.{is_interface, has_identifier}
 use Rattle.wac_aggregator.specs.Advances.{attempt_at, HasNoMeet}
@@ -74,18 +74,6 @@ module _ (calls : List Call) (some : Taken) (wit : IsWitList calls) (sound : Are
   arrows_lead s t (traced.on {b = u} x rest) = Leads-trans (arrow_leads s u x) (arrows_lead u t rest)
 
 -- ---- refusals
-
--- a refusal says why, unless there is no memory
-pub says_why : (e : AggregateError) → e ≢ Memory → (r : Refusal) × (said e ≡ Some r)
-says_why (Kinds existing found) other = (_, refl)
-says_why (Mismatch frames error) other = (_, refl)
-says_why (UsedInterface used expected found) other = (_, refl)
-says_why (UsedName used) other = (_, refl)
-says_why (NoIdentifier used) other = (_, refl)
-says_why (OwnerWithoutIdentifier resource) other = (_, refl)
-says_why (WasTaken name) other = (_, refl)
-says_why (Cycle interface) other = (_, refl)
-says_why Memory other = absurd (other refl)
 
 -- what is refused of a named instance
 abbrev pub RefusesNamed : Call → Merging → AggregateError → Type 0

@@ -14,6 +14,7 @@ use Rattle.wac_call_lists.proofs.WitStates.{state_compatible, not_refused, wit_r
 use Rattle.wac_imports.specs.Import.{AreFiled}
 use Rattle.wac_refusals.specs.declared.error.AggregateError.{AggregateError}
 use Rattle.wac_refusals.specs.declared.error.AggregateError.TheVariants.{Memory}
+use Rattle.wac_uses.proofs.Saying.{says_why}
 use Rattle.wac_taking.specs.Refused.{HasReason}
 use Rattle.wac_taking.specs.Takes.{MayTake, shared_in}
 use Rattle.wac_taking.specs.declared.state.Merging.{Merging}
@@ -24,9 +25,8 @@ use Rattle.wac_aggregator.specs.Wit.{IsWitAfter, trees_of}
 use Rattle.wac_aggregator.proofs.Listing.{take-next, Contains-at}
 use Rattle.wac_aggregator.proofs.Plain.{track_import}
 use Rattle.wac_aggregator.proofs.Wit.{wit_state}
-use Rattle.wac_aggregator.proofs.WitMoves.{AreUnstopped}
-use Rattle.wac_aggregator.proofs.WitNext.{TakesInNamed, wit_next, unstopped_next}
-use Rattle.wac_aggregator.proofs.WitRefused.{RefusesNamed, says_why, wit_refused}
+use Rattle.wac_aggregator.proofs.WitNext.{TakesInNamed, wit_next}
+use Rattle.wac_aggregator.proofs.WitRefused.{RefusesNamed, wit_refused}
 
 -- all were accepted
 pub wit_accepted : (calls : List Call) (a : Merging) → IsWitList calls → AreSoundCalls calls → AreFiled a.imports → AreServed calls calls a → IsWitAfter calls calls a → IsWitAnswer calls (accepted (track_imports (shown (content_of a))))
@@ -59,12 +59,10 @@ pub one_more_sound : (calls : List Call) (at : ℕ) (call : Call) → slice_get 
 one_more_sound calls at call is h one = subst AreSoundCalls (sym (take-next calls at call is)) (All-append IsSoundCall (take at calls) (call ∷ []) h (All-cons IsSoundCall call [] one (All-nil IsSoundCall)))
 
 pub one_more_wit : (calls : List Call) (at : ℕ) (call : Call) (is : slice_get calls at ≡ Some call) (wit : IsWitList calls) (a b : Merging) → IsOneOf calls call.types → MayTake call.types a → IsSoundCall call → AreFiled a.imports → AreFiled b.imports → AreServed calls (take at calls) a → Advances call a b → TakesInNamed call a b
-    → IsWitAfter calls (take at calls) a × AreUnstopped a → IsWitAfter calls (take (suc at) calls) b × AreUnstopped b
+    → IsWitAfter calls (take at calls) a → IsWitAfter calls (take (suc at) calls) b
 one_more_wit calls at call is wit a b one may sound filed_a filed_b served h take_in w =
-    let among = Contains-at calls at call is in (
-      subst (λ front. IsWitAfter calls front b) (sym (take-next calls at call is)) (wit_next calls (take at calls) call (so_far_wit calls at call is wit) a b among one may sound filed_a filed_b served w.0 w.1 h take_in),
-      unstopped_next calls (take at calls) call (so_far_wit calls at call is wit) a b among one may sound filed_a filed_b served w.0 w.1 h take_in h.unstopped,
-    )
+    subst (λ front. IsWitAfter calls front b) (sym (take-next calls at call is))
+    (wit_next calls (take at calls) call (so_far_wit calls at call is wit) a b (Contains-at calls at call is) one may sound filed_a filed_b served w h take_in)
 
 -- the call at an index is refused
 pub one_refused : (calls : List Call) (at : ℕ) (call : Call) (is : slice_get calls at ≡ Some call) (wit : IsWitList calls) (a : Merging) → AreSoundCalls (take at calls) → IsSoundCall call → IsOneOf calls call.types → AreFiled a.imports → AreServed calls (take at calls) a → IsWitAfter calls (take at calls) a

@@ -17,7 +17,8 @@ use wac_clashes::mismatch;
 use wac_component::ItemKind;
 use wac_names::NameClass;
 use wac_refusals::AggregateError;
-use wac_taking::{Merging, check_uses_of, meet_own};
+use wac_taking::{Merging, meet_own};
+use wac_uses::check_uses_of;
 
 /// Merges an item that was taken in into the import of a class.
 pub(crate) fn note_import(

@@ -32,7 +32,8 @@ filter_from {A} p (y ∷ xs) x m = by (λ n. filter_from p xs x n) (p y) refl m
     ]
     by onward false is n = later (onward n)
 
-filter_to : {A : Type 0} (p : A → Bool) (xs : List A) (x : A) → Contains xs x → p x ≡ true → Contains (filter p xs) x
+-- what passes a test is left by it
+pub filter_to : {A : Type 0} (p : A → Bool) (xs : List A) (x : A) → Contains xs x → p x ≡ true → Contains (filter p xs) x
 filter_to p [] x m is = absurd (omega (arith, m.1))
 filter_to {A} p (y ∷ xs) x m is = by (λ l. filter_to p xs x l is) (p y) refl (Contains-cases x y xs m)
   where

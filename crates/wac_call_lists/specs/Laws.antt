@@ -4,6 +4,7 @@ use Rattle.std.specs.Map.{keys_of}
 use Rattle.std.specs.Str.{bytes_eq}
 use Rattle.wac_model.specs.Text.{Text, lookup}
 use Rattle.wac_model.specs.ItemTree.{ItemTree, item, composite, interface, no_items}
+use Rattle.wac_model.specs.Order.{Fits}
 use Rattle.wac_bounds.specs.Bounds.{IsMeet}
 use Rattle.wac_component.specs.Id.{Id}
 use Rattle.wac_component.specs.Collection.{Collection}
@@ -16,10 +17,10 @@ use Rattle.wac_component.specs.declared.items.ItemKind.{ItemKind}
 use Rattle.wac_component.specs.declared.items.ItemKind.TheVariants.{Instance}
 use Rattle.wac_component.specs.Entries.{exports_at}
 use Rattle.wac_names.specs.Class.{Class, class_of}
-use Rattle.wac_call_lists.specs.Aggregated.{Aggregated, import_of, track_imports, AreSteps, IsByTrack, AllAreServed}
-use Rattle.wac_call_lists.specs.Answer.{Imports, Answer, refused, IsAccepted, AreMeets, IsPlainAnswer, IsWitAnswer, AreSameAnswers}
+use Rattle.wac_call_lists.specs.Aggregated.{Aggregated, import_of, track_imports, AreSteps, IsAggregated, IsByTrack, AllAreServed}
+use Rattle.wac_call_lists.specs.Answer.{Imports, Answer, accepted, refused, IsAccepted, AreMeets, IsPlainAnswer, IsWitAnswer, AreSameAnswers}
 use Rattle.wac_call_lists.specs.Attempt.{Attempt, IsSource, Touches, later_attempt}
-use Rattle.wac_call_lists.specs.Call.{Call, AreSoundCalls, call_track, IsItemOn}
+use Rattle.wac_call_lists.specs.Call.{Call, AreSoundCalls, call_track, call_tree, IsItemOn}
 use Rattle.wac_call_lists.specs.Compatible.{Leads, IsCompatibleWitList}
 use Rattle.wac_call_lists.specs.Due.{IsDue, AreImportNames}
 use Rattle.wac_call_lists.specs.Entries.{ReachesByUses}
@@ -29,7 +30,7 @@ use Rattle.wac_call_lists.specs.PlainRun.{IsPlainRun, no_imports}
 use Rattle.wac_call_lists.specs.Reason.{Refusal, TrackLeads, IsReason}
 use Rattle.wac_call_lists.specs.Shared.{Taken, SharedEntries, AreShared, CannotTake}
 use Rattle.wac_call_lists.specs.TakingIn.{TakesIn, IsAdded, IsGrown, none_shared}
-use Rattle.wac_call_lists.specs.TreeSets.{HaveNoLowerBound}
+use Rattle.wac_call_lists.specs.TreeSets.{HaveNoLowerBound, IsMeetOf}
 use Rattle.wac_call_lists.specs.WitList.{IsNamedInstance, IsLeafItem, IsWitList, IsMember, IsTreeOn}
 use Rattle.wac_call_lists.specs.WitReason.{IsWitReason}
 use Rattle.wac_call_lists.specs.WitRun.{AreMembers, AreWitImports, IsWitRun}
@@ -146,3 +147,16 @@ pub record AnswersAreExact : Type 0 where
   pub wit : (calls : List Call) (a : Answer) → IsWitAnswer calls a → IsAccepted a ↔ IsCompatibleWitList calls
   pub one_plain_call : (calls : List Call) (m n : ℕ) → IsPlainAnswer calls (refused m) → IsPlainAnswer calls (refused n) → m ≡ n
   pub one_wit_call : (calls : List Call) (m n : ℕ) → IsWitAnswer calls (refused m) → IsWitAnswer calls (refused n) → m ≡ n
+
+-- after every accepted list the import at the canonical name of each name that was handed in is a subtype of every item
+-- that was handed in on that name's track; a list of plain items, or of WIT interfaces, is accepted exactly where its
+-- tracks are compatible; and each import is then the greatest lower bound of its track, whatever the order of calls
+pub record ImportsAreGreatestBounds : Type 0 where
+  pub serves : (calls : List Call) (a : Aggregated) → IsAggregated calls a
+      → (c d : Call) → Contains calls c → Contains calls d → call_track d ≡ call_track c → (import : ItemKind) × (import_of a c.name ≡ Some import) × Fits (item_tree a.types import) (call_tree d)
+  pub accepts : (calls : List Call) (answer : Answer) → IsPlainList calls ⊎ IsWitList calls → (IsWitList calls → IsWitAnswer calls answer)
+      → IsAccepted answer ↔ IsCompatibleWitList calls
+  pub greatest : (calls : List Call) (a : Aggregated) → IsPlainList calls ⊎ IsWitList calls → (IsWitList calls → IsWitAnswer calls (accepted (track_imports a))) → IsByTrack a
+      → (name : Text) (import : ItemKind) → import_of a name ≡ Some import → IsMeetOf (item_tree a.types import) (IsTreeOn calls (class_of name))
+  pub any_order : (calls others : List Call) (answer other : Answer) → IsPlainList calls ⊎ IsWitList calls → IsPermutation calls others → (IsWitList calls → IsWitAnswer calls answer) → (IsWitList others → IsWitAnswer others other)
+      → AreSameAnswers answer other

@@ -1,6 +1,14 @@
 //! Laws of call lists. Each is the contract of a function that does nothing.
 
-ghost use Rattle.wac_call_lists.specs.Laws.{AnswersAreExact, ClashingExportsHaveNoBound, CompatibleListsAreAccepted, GrowthTakesIn, LeafInstancesFollowLeaves, MeetsAreUnions, MembersAreLeafMaps, MembersOfMore, NamedImportsAreDue, NamesLeadToTracks, PlainAnswersInAnyOrder, PlainListsAreWitLists, PlainRunsAnswer, PlainRunsExist, RefusedMembersAreIncompatible, SharingGoesOn, SourcesGrow, StepsServeAll, WitAnswersInAnyOrder, WitImportsAreMeets, WitReasonsAreReasons, WitRunsAnswer};
+ghost use Rattle.wac_call_lists.specs.Laws.{AnswersAreExact, ClashingExportsHaveNoBound, CompatibleListsAreAccepted, GrowthTakesIn, ImportsAreGreatestBounds, LeafInstancesFollowLeaves, MeetsAreUnions, MembersAreLeafMaps, MembersOfMore, NamedImportsAreDue, NamesLeadToTracks, PlainAnswersInAnyOrder, PlainListsAreWitLists, PlainRunsAnswer, PlainRunsExist, RefusedMembersAreIncompatible, SharingGoesOn, SourcesGrow, StepsServeAll, WitAnswersInAnyOrder, WitImportsAreMeets, WitReasonsAreReasons, WitRunsAnswer};
+
+/// After every accepted list the import at the canonical name of each name that was handed in is a subtype
+/// of every item that was handed in on that name's track. A list of plain items, or of WIT interfaces, is
+/// accepted exactly where its tracks are compatible. Each import is then the greatest lower bound of its
+/// track, whatever the order of calls.
+pub fn imports_are_greatest_bounds()
+    ensures { ImportsAreGreatestBounds }
+{}
 
 /// Plain items that are met one after another are accepted exactly where the items of each track
 /// have a common lower bound. Each import is the meet of its track, and the refused call is the first

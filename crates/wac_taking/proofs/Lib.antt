@@ -12,7 +12,7 @@ pub mod Alike
 pub mod Identifiers
 pub mod Plain
 pub mod Refusals
-pub mod UseLemmas
+pub mod PlainUses
 pub mod MemberParts
 pub mod MemberPuts
 pub mod Members

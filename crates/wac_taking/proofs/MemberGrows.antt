@@ -1,5 +1,5 @@
 -- A shared entry grows by an interface as WIT gives them, or can't.
-use Rattle.std.proofs.Common.{◌≡◌, ◌≢◌, ◌⊎◌, inl, inr, refl, ap, sym, subst, ◌∙◌, arith, Contains, Bool, true, false, cond, not, filter, is_some, List, [], ◌∷◌, Option, Some, None, slice_get}
+use Rattle.std.proofs.Common.{◌≡◌, ◌≢◌, ◌⊎◌, inl, inr, refl, ap, sym, subst, ◌∙◌, Contains, not, filter, is_some, List, [], ◌∷◌, Option, Some, None, slice_get}
 use Rattle.std.specs.List.{IsDistinct}
 use Rattle.std.specs.Map.{keys_of}
 use Rattle.std.specs.Option.{option_map, option_map_or, option_or}
@@ -19,7 +19,7 @@ use Rattle.wac_component.specs.Replacing.{NamesReach}
 use Rattle.wac_component.specs.Sound.{IsSound}
 use Rattle.wac_component.specs.Tree.{item_tree}
 use Rattle.wac_component.specs.declared.items.ItemKind.{ItemKind}
-use Rattle.wac_component.proofs.Among.{Contains-first, Contains-later, Contains-cases, each_found}
+use Rattle.wac_component.proofs.Among.{each_found}
 use Rattle.wac_component.proofs.Keys.{Each-right}
 use Rattle.wac_component.proofs.Reading.{interface_at}
 use Rattle.wac_component.proofs.Replacing.{Puts-replaced, IsSound-replaced, Replaces-replaced}
@@ -30,7 +30,6 @@ use Rattle.wac_merge.specs.Built.{uses_of_both}
 use Rattle.wac_merge.specs.Items.{Externs, AreFound}
 use Rattle.wac_names.specs.Class.{class_of}
 use Rattle.wac_call_lists.specs.Entries.{IsIdentifiedOn, ReachesByUses, stay}
-use Rattle.wac_call_lists.specs.Reason.{Refusal}
 use Rattle.wac_call_lists.specs.Shared.{Taken, AreShared, IsUseOf, CannotTake, no_bound, interfaces_clash, names_clash}
 use Rattle.wac_call_lists.specs.TakingIn.{IsNewUse, IsGrown}
 use Rattle.wac_call_lists.specs.TreeSets.{HaveNoLowerBound}
@@ -49,9 +48,12 @@ use Rattle.wac_refusals.specs.declared.error.AggregateError.{AggregateError}
 use Rattle.wac_refusals.specs.declared.error.AggregateError.TheVariants.{Memory}
 use Rattle.wac_taking.specs.Growing.{AreMetWith}
 use Rattle.wac_taking.specs.Members.{HasTakenIn, TakesMembers, at_entry, in_cycle, IsNotTaken, IsMemberRefusal, roots_of}
-use Rattle.wac_taking.specs.Refused.{said, SaysUsesDiffer, of_interfaces, of_names, AreRefusedLists, HasApartLeaves, AreRefusedItems}
+use Rattle.wac_uses.specs.Differ.{SaysUsesDiffer, of_interfaces, of_names, AreRefusedLists}
+use Rattle.wac_alike.proofs.Answering.{filter_to}
+use Rattle.wac_uses.proofs.Saying.{not_memory}
+use Rattle.wac_taking.specs.Refused.{HasApartLeaves, AreRefusedItems}
 use Rattle.wac_taking.specs.Takes.{MayTake, MayPut, shared_in, shared_keys, state_of}
-use Rattle.wac_taking.specs.Uses.{AreOfOne, UsesAgree}
+use Rattle.wac_uses.specs.Uses.{AreOfOne, UsesAgree}
 use Rattle.wac_taking.specs.declared.state.Merging.{Merging}
 use Rattle.wac_taking.proofs.Identifiers.{has_identifier}
 use Rattle.wac_taking.proofs.MemberParts.{IsLeafTree, AreLeaves, leaf_tree, leaf_is, leaf_fits, taken_leaves, taken_trees, used_of, used_by, AreMore-put, TakesMembers-put}
@@ -60,17 +62,6 @@ use Rattle.wac_taking.proofs.Members.{AreMore-refl}
 use Rattle.wac_taking.proofs.TakeLemmas.{lookup-shared, shared_stands}
 
 -- ---- lists of named values
-
--- what passes a test is left by it
-filter_to : {A : Type 0} (p : A → Bool) (xs : List A) (x : A) → Contains xs x → p x ≡ true → Contains (filter p xs) x
-filter_to p [] x m is = absurd (omega (arith, m.1))
-filter_to {A} p (y ∷ xs) x m is = by (λ l. filter_to p xs x l is) (p y) refl (Contains-cases x y xs m)
-  where
-    by : (Contains xs x → Contains (filter p xs) x) → (b : Bool) → p y ≡ b → (y ≡ x) ⊎ Contains xs x → Contains (cond b (y ∷ filter p xs) (filter p xs)) x
-    by onward true at (inl same) = subst (λ (z : A). Contains (y ∷ filter p xs) z) same (Contains-first y (filter p xs))
-    by onward true at (inr l) = Contains-later x y (filter p xs) (onward l)
-    by onward false at (inl same) = absurd (let e : p y ≡ true = subst (λ (z : A). p z ≡ true) (sym same) is in cc)
-    by onward false at (inr l) = onward l
 
 -- under distinct names, what is in the list is found
 pub found_use : (us : List (Text × UseContent)) → IsDistinct bytes_eq (keys_of us) → (n : Text) (v : UseContent) → Contains us (n, v) → lookup bytes_eq us n ≡ Some v
@@ -122,9 +113,6 @@ met_leaves c d es ts ms found h g meets = All-weaker (λ (e : Text × ItemKind).
         (subst (λ (o : Option ItemKind). IsMeetIn (Serves Fits) (option_map (item_tree c) (lookup bytes_eq es n)) (option_map (item_tree c) (lookup bytes_eq ts n)) (Some (option_map (item_tree d) o))) is (meets n))
 
 -- ---- what stands before
-
-no_memory : (r : AggregateError) (x : Refusal) → said r ≡ Some x → r ≢ Memory
-no_memory r x is same = let none : said r ≡ None = ap said same in absurd (cc)
 
 module _ (f : Collection) (a : Merging) (may : MayTake f a) (p e : Id) (name : Text) (us : List (Text × UseContent)) (es : Externs) (put : MayPut f a p us es) (identified : identifier_at f (interface_key p) ≡ Some name) (shared : shared_in a.shared.entries (class_of name) ≡ Some e)
     (taken : Taken) (wit : AreWit f (ReachesByUses f p)) (has : HasTakenIn a taken) (old : InterfaceContent) (was : slice_get a.types.interfaces e.index ≡ Some old) where
@@ -186,7 +174,7 @@ module _ (f : Collection) (a : Merging) (may : MayTake f a) (p e : Id) (name : T
 
   -- its uses differ from those of the entry
   pub member_uses_refused : IsDistinct bytes_eq (keys_of old.uses) → (r : AggregateError) → AreRefusedLists a.types old.uses us r → IsMemberRefusal f (ReachesByUses f p) taken r
-  member_uses_refused distinct r h x says merging = not_taken (uses_cannot distinct r (h (no_memory r x says)))
+  member_uses_refused distinct r h x says merging = not_taken (uses_cannot distinct r (h (not_memory r x says)))
 
   items_cannot : AreFound es → HasApartLeaves a.types old.exports es → CannotTake a.types (shared_in a.shared.entries) f p
   items_cannot found k = at (lookup bytes_eq (exports_at f (interface_key p)) k.name) refl (sym (new_trees k.name) ∙ ap (option_map (item_tree a.types)) (found_item es found k.name k.second k.is_second))
@@ -201,7 +189,7 @@ module _ (f : Collection) (a : Merging) (may : MayTake f a) (p e : Id) (name : T
 
   -- its exports can't be met with those of the entry
   pub member_items_refused : AreFound es → (r : AggregateError) → AreRefusedItems a.types old.exports es r → IsMemberRefusal f (ReachesByUses f p) taken r
-  member_items_refused found r h x says merging = not_taken (items_cannot found ((h (no_memory r x says)).leaves new_leaves))
+  member_items_refused found r h x says merging = not_taken (items_cannot found ((h (not_memory r x says)).leaves new_leaves))
 
   -- ---- growth
 
@@ -302,8 +290,8 @@ module _ (f : Collection) (a : Merging) (may : MayTake f a) (p e : Id) (name : T
     }
 
     pub member_cycle_refused : (r : AggregateError) → (r ≢ Memory → NamesReach d (interface_keys new) (interface_key e)) → IsMemberRefusal f (ReachesByUses f p) taken r
-    member_cycle_refused r h x says merging = in_circle (h (no_memory r x says))
+    member_cycle_refused r h x says merging = in_circle (h (not_memory r x says))
 
 -- want of memory isn't a refusal of two that can't be merged
 pub memory_apart : (f : Collection) (P : Id → Type 0) (taken : Taken) → IsMemberRefusal f P taken Memory
-memory_apart f P taken x says merging = absurd (no_memory Memory x says refl)
+memory_apart f P taken x says merging = absurd (not_memory Memory x says refl)

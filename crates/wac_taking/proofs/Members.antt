@@ -1,5 +1,5 @@
 -- Interfaces as WIT gives them are taken in one after another.
-use Rattle.std.proofs.Common.{◌≡◌, ◌≢◌, inl, inr, is_some, Result, [], arith, IsSome, Contains, List, Option, Some, None, refl, ap, sym, subst, ◌∙◌, slice_get}
+use Rattle.std.proofs.Common.{◌≡◌, inl, inr, is_some, Result, [], arith, IsSome, Contains, List, Option, Some, None, refl, ap, sym, subst, ◌∙◌, slice_get}
 use Rattle.std.proofs.lemmas.Result.{MatchResult-weaker}
 use Rattle.wac_model.specs.Text.{Text}
 use Rattle.wac_component.specs.Collection.{Collection, UseContent, InterfaceContent}
@@ -33,9 +33,10 @@ use Rattle.wac_narrowing.specs.Traced.{Arrows}
 use Rattle.wac_narrowing.proofs.Tracing.{traced_added}
 use Rattle.wac_reasons.proofs.Moving.{identifier_is}
 use Rattle.wac_refusals.specs.declared.error.AggregateError.{AggregateError}
-use Rattle.wac_refusals.specs.declared.error.AggregateError.TheVariants.{Memory}
 use Rattle.wac_taking.specs.Members.{HasTakenIn, HasAllOf, roots_of, AreMore, TakesMembers, Hinders, at_entry, in_cycle, IsOfMerging, IsMemberRefusal, AnswersMembers, IsUsedBy}
-use Rattle.wac_taking.specs.Refused.{said, IsOfUnidentified, IsRefusedBy}
+use Rattle.wac_uses.specs.Said.{said}
+use Rattle.wac_uses.proofs.Saying.{not_memory}
+use Rattle.wac_taking.specs.Refused.{IsOfUnidentified, IsRefusedBy}
 use Rattle.wac_taking.specs.Takes.{AreKnown, OnlyGrows, IsTakenUse, MayTake, shared_in, shared_keys, state_of}
 use Rattle.wac_taking.specs.declared.state.Merging.{Merging}
 use Rattle.wac_taking.proofs.Identifiers.{is_interface}
@@ -149,6 +150,11 @@ member_refused_unidentified f P taken e h r says merging = absurd (apart r (h r 
 
 -- ---- what exports lead to
 
+-- what is reached by uses is openly reached
+pub openly_by_uses : (f : Collection) (i j : Id) → ReachesByUses f i j → OpenReaches f (interface_key i) (interface_key j)
+openly_by_uses f i j ReachesByUses.stay = stay
+openly_by_uses f i j (ReachesByUses.step {j = o} u v) = step (subst (λ x. IsAmong (interface_key x) (open_next f (interface_key i))) u.is_of (use_opens f (interface_key i) u.name u.content u.has)) (openly_by_uses f o j v)
+
 -- once the interfaces that one uses were taken in, so is each with an identifier to which its exports openly lead
 pub exports_known : (f : Collection) (b : Merging) (p : Id) (ks : List Key) → IsSound f → Stands f (interface_key p) → ((k : Key) → IsAmong k ks → IsAmong k (next f (interface_key p))) → AreWit f (ReachesByUses f p)
     → ((j : Id) → Uses f p j → ((o : Key) × (memo_of b.taken (interface_key j) ≡ Some o)) × IsClosedIn f (memo_of b.taken) (interface_key j)) → AreKnown f b ks
@@ -157,17 +163,9 @@ exports_known f b p ks sound stands parts wit used t n w is =
     let walk : Reaches f w.0 (interface_key t.id) = subst (Reaches f w.0) at (opens_reach f w.0 t w.2) in
     by_walk (by_uses f (ReachesByUses f p) wit p t.id ReachesByUses.stay (reach.step (parts w.0 w.1) walk)) at walk
   where
-    onward : {j q : Id} → ReachesByUses f j q → OpenReaches f (interface_key j) (interface_key q)
-    onward ReachesByUses.stay = stay
-    onward (ReachesByUses.step {i = i} u v) = step (subst (λ x. IsAmong (interface_key x) (open_next f (interface_key i))) u.is_of (use_opens f (interface_key i) u.name u.content u.has)) (onward v)
-
     by_walk : {q : Id} → ReachesByUses f p q → t ≡ interface_key q → Reaches f w.0 (interface_key q) → (o : Key) × (memo_of b.taken t ≡ Some o)
     by_walk ReachesByUses.stay at walk = absurd (no_walk_returns f sound (interface_key p) w.0 stands (parts w.0 w.1) walk)
-    by_walk (ReachesByUses.step {j = j} u v) at walk = (used j u).1 t n (subst (OpenReaches f (interface_key j)) (sym at) (onward v)) is
-
--- what refuses exports then is the want of an identifier
-not_memory : (e : AggregateError) (r : Refusal) → said e ≡ Some r → e ≢ Memory
-not_memory e r says memory = let none : None ≡ Some r = ap said (sym memory) ∙ says in cc
+    by_walk (ReachesByUses.step {j = j} u v) at walk = (used j u).1 t n (subst (OpenReaches f (interface_key j)) (sym at) (openly_by_uses f j _ v)) is
 
 pub known_refused : (near : List Key) (f : Collection) (a : Merging) (ks : List Key) (e : AggregateError) (P : Id → Type 0) (taken : Taken) → IsRefusedBy near f a ks e → AreKnown f a ks → IsMemberRefusal f P taken e
 known_refused near f a ks e P taken h known = member_refused_unidentified f P taken e (λ r says. (h (not_memory e r says)).known known r says)

@@ -38,10 +38,13 @@ use Rattle.wac_component.proofs.Among.{Contains-first, each_found}
 use Rattle.wac_call_lists.specs.WitList.{IsLeafItem}
 use Rattle.wac_call_lists.proofs.ByUses.{leaf_item, leaf_uses}
 use Rattle.wac_merge.specs.Items.{Externs, extern_keys}
-use Rattle.wac_taking.proofs.UseLemmas.{second_uses}
-use Rattle.wac_taking.proofs.GrowLemmas.{below_both, one_alone}
+use Rattle.wac_uses.proofs.UseLemmas.{second_uses}
+use Rattle.wac_uses.proofs.UseLists.{one_alone}
+use Rattle.wac_taking.proofs.GrowLemmas.{below_both}
 use Rattle.wac_taking.specs.Growing.{IsMetWith, AreMetWith, AreApartIn, with_own, StaysAlong}
-use Rattle.wac_taking.specs.Refused.{said, HasReason, SaysUsesDiffer, of_interfaces, of_names, UsesDiffer, SaysMismatch, HasApartLeaves}
+use Rattle.wac_uses.specs.Differ.{SaysUsesDiffer, of_interfaces, of_names, UsesDiffer}
+use Rattle.wac_uses.specs.Said.{said}
+use Rattle.wac_taking.specs.Refused.{HasReason, SaysMismatch, HasApartLeaves}
 
 -- what is open and comes from sources, and what is open, and comes from sources
 module _ (at : Attempt) (s : State) where

@@ -1,6 +1,6 @@
 -- Why what is to be taken in is refused: what refuses a part refuses the whole.
-use Rattle.std.proofs.Common.{◌≡◌, ℕ, List, [], ◌∷◌, Some, None, Result, Ok, Err, IsErr, Contains, slice_get, refl, ap, sym, subst, ◌∙◌}
-use Rattle.std.specs.Result.{IfErr, IsErrAnd, MatchResult}
+use Rattle.std.proofs.Common.{◌≡◌, ℕ, List, [], ◌∷◌, Some, None, Result, IsErr, Contains, slice_get, refl, ap, sym, subst, ◌∙◌}
+use Rattle.std.specs.Result.{IsErrAnd, MatchResult}
 use Rattle.wac_model.specs.Text.{Text}
 use Rattle.wac_component.specs.Collection.{Collection, UseContent, ResourceContent}
 use Rattle.wac_component.specs.Entries.{uses_at, owner_at}
@@ -16,7 +16,9 @@ use Rattle.wac_call_lists.specs.Reason.{no_identifier, owner_without_identifier,
 use Rattle.wac_narrowing.specs.State.{State}
 use Rattle.wac_reasons.specs.Trial.{IsAccounted}
 use Rattle.wac_refusals.specs.declared.error.AggregateError.{AggregateError}
-use Rattle.wac_taking.specs.Refused.{said, IsOfUnidentified, IsRefusedBy, IsRefused, AreRefusedUses}
+use Rattle.wac_uses.specs.Said.{said}
+use Rattle.wac_uses.proofs.Passing.{passed_on}
+use Rattle.wac_taking.specs.Refused.{IsOfUnidentified, IsRefusedBy, IsRefused, AreRefusedUses}
 use Rattle.wac_taking.specs.Takes.{state_of, AreNear, MayTake, AreWithin, OpenlyFrom, TakesBy}
 use Rattle.wac_taking.specs.declared.state.Merging.{Merging}
 use Rattle.wac_taking.proofs.Plain.{plain_within, contains_at}
@@ -52,15 +54,6 @@ module _ (f : Collection) where
   -- whatever is near
   pub refused_apart : {near : List Key} (a : Merging) (ks : List Key) (e : AggregateError) → IsRefused f a ks e → IsRefusedBy near f a ks e
   refused_apart {near} a ks e h = refused_near [] near a ks e (λ at all by. near_none at a) h
-
--- an error that is passed on
-pub passed_on : {X : Type 0} (r : Result X AggregateError) (P : X → Type 0) (Q : AggregateError → Type 0) (e : AggregateError) → IsErr r × IsErrAnd r (λ y. y ≡ e) → Q e → MatchResult r P Q
-passed_on (Ok x) P Q e h q = absurd h.1
-passed_on (Err y) P Q e h q = subst Q (sym h.1) q
-
-pub error_passed_on : {X : Type 0} (r : Result X AggregateError) (Q : AggregateError → Type 0) (e : AggregateError) → IsErr r × IsErrAnd r (λ y. y ≡ e) → Q e → IfErr r Q
-error_passed_on (Ok x) Q e h q = tt
-error_passed_on (Err y) Q e h q = subst Q (sym h.1) q
 
 -- what refuses a part, passed on
 pub refused_part : {X : Type 0} {near : List Key} (f : Collection) (a : Merging) (ks js : List Key) (r : Result X AggregateError) (P : X → Type 0) (e : AggregateError) → AreWithin f ks js → IsRefusedBy near f a ks e → IsErr r × IsErrAnd r (λ y. y ≡ e) → MatchResult r P (IsRefusedBy near f a js)

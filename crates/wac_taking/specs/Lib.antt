@@ -1,5 +1,4 @@
 pub mod Takes
 pub mod Growing
 pub mod Refused
-pub mod Uses
 pub mod Members

@@ -1,40 +1,27 @@
 -- Why what is to be taken in is refused.
-use Rattle.std.specs.Prelude.{◌≡◌, ◌≢◌, ◌⊎◌, ℕ, All, List, [], ◌∷◌, Contains, Option, Some, None, slice_get, string_bytes}
+use Rattle.std.specs.Prelude.{◌≡◌, ◌≢◌, ◌⊎◌, ℕ, All, List, [], ◌∷◌, Contains, Some, slice_get}
 use Rattle.std.specs.Str.{bytes_eq}
 use Rattle.wac_model.specs.Text.{Text, lookup}
 use Rattle.wac_component.specs.Collection.{Collection, UseContent}
 use Rattle.wac_component.specs.Entries.{uses_at}
-use Rattle.wac_component.specs.Implicit.{identifier}
 use Rattle.wac_component.specs.Key.{Key, item_keys}
-use Rattle.wac_component.specs.Reach.{IsAmong}
 use Rattle.wac_component.specs.Tree.{item_tree}
 use Rattle.wac_component.specs.declared.items.ItemKind.{ItemKind}
 use Rattle.wac_call_lists.specs.Attempt.{Attempt, Touches}
 use Rattle.wac_call_lists.specs.PlainList.{ArePlain}
-use Rattle.wac_call_lists.specs.Reason.{Refusal, kinds, mismatch, used_interface, used_name, no_identifier, owner_without_identifier, taken, cycle, IsReason}
+use Rattle.wac_call_lists.specs.Reason.{Refusal, mismatch, no_identifier, owner_without_identifier, IsReason}
 use Rattle.wac_call_lists.specs.TreeSets.{HaveNoLowerBound}
 use Rattle.wac_call_lists.specs.WitList.{IsLeafItem}
 use Rattle.wac_merge.specs.Items.{Externs}
-use Rattle.wac_names.specs.Class.{class_of}
 use Rattle.wac_narrowing.specs.State.{State, IsKept}
 use Rattle.wac_reasons.specs.Trial.{IsTrial, IsAccounted, AreOpenItems}
 use Rattle.wac_refusals.specs.declared.error.AggregateError.{AggregateError}
-use Rattle.wac_refusals.specs.declared.error.AggregateError.TheVariants.{Kinds, Mismatch, UsedInterface, UsedName, NoIdentifier, OwnerWithoutIdentifier, Taken, Cycle, Memory}
+use Rattle.wac_refusals.specs.declared.error.AggregateError.TheVariants.{Memory}
+use Rattle.wac_uses.specs.Said.{said}
+use Rattle.wac_uses.specs.Differ.{UsesDiffer}
 use Rattle.wac_taking.specs.Growing.{with_own, AreAllOpen}
 use Rattle.wac_taking.specs.Takes.{AreKnown, AreNear, state_of}
 use Rattle.wac_taking.specs.declared.state.Merging.{Merging}
-
--- what is refused, unless there is no memory
-abbrev pub said : AggregateError → Option Refusal
-said (Kinds existing found) = Some (kinds existing.now found.now)
-said (Mismatch frames error) = Some mismatch
-said (UsedInterface used expected found) = Some (used_interface (string_bytes used) (string_bytes expected) (string_bytes found))
-said (UsedName used) = Some (used_name (string_bytes used))
-said (NoIdentifier used) = Some (no_identifier (string_bytes used))
-said (OwnerWithoutIdentifier resource) = Some (owner_without_identifier (string_bytes resource))
-said (Taken name) = Some (taken (string_bytes name))
-said (Cycle interface) = Some (cycle (string_bytes interface))
-said Memory = None
 
 -- there is reason for the refusal
 abbrev pub HasReason : Attempt → AggregateError → Type 0
@@ -67,27 +54,6 @@ AreRefusedUses f a us e = (k : Key) → uses_at f k ≡ us → IsRefused f a (k 
 -- the use at an index is of an interface without identifier, it says
 abbrev pub SaysOfUse : List (Text × UseContent) → ℕ → AggregateError → Type 0
 SaysOfUse us i e = (name : Text) (u : UseContent) → slice_get us i ≡ Some (name, u) → said e ≡ Some (no_identifier name)
-
--- uses of one name in the two lists are of interfaces on different tracks, or of different names in these, it says
-pub data SaysUsesDiffer (c : Collection) (us vs : List (Text × UseContent)) (e : AggregateError) : Type 0 where
-  of_interfaces : (name expected found : Text) (u v : UseContent) → Contains us (name, u) → Contains vs (name, v) → identifier c u.interface ≡ Some expected → identifier c v.interface ≡ Some found → class_of expected ≢ class_of found → said e ≡ Some (used_interface name expected found) → SaysUsesDiffer c us vs e
-  of_names : (name : Text) (u v : UseContent) → Contains us (name, u) → Contains vs (name, v) → u.name ≢ v.name → said e ≡ Some (used_name name) → SaysUsesDiffer c us vs e
-
--- such lists are refused, unless there is no memory
-abbrev pub AreRefusedLists : Collection → List (Text × UseContent) → List (Text × UseContent) → AggregateError → Type 0
-AreRefusedLists c us vs e = e ≢ Memory → SaysUsesDiffer c us vs e
-
--- the uses of an entry at one of the first ids, and of one at one of the others, differ so
-pub record UsesDiffer (c : Collection) (ks js : List Key) (e : AggregateError) : Type 0 where
-  pub first : Key
-  pub second : Key
-  pub among_first : IsAmong first ks
-  pub among_second : IsAmong second js
-  pub differ : SaysUsesDiffer c (uses_at c first) (uses_at c second) e
-
--- such entries are refused, unless there is no memory
-abbrev pub IsUsesRefusal : Collection → List Key → List Key → AggregateError → Type 0
-IsUsesRefusal c ks js e = e ≢ Memory → UsesDiffer c ks js e
 
 -- two items have no common lower bound, it says
 pub record SaysMismatch (c : Collection) (a b : ItemKind) (e : AggregateError) : Type 0 where

@@ -1,7 +1,6 @@
 //! Shared entries that grow.
 
-ghost use Rattle.std.specs.Prelude.{◌≡◌, ◌≢◌, [], ◌∷◌, Some, IfErr, MatchResult, OnOk, length, slice_set, string_bytes};
-ghost use Rattle.wac_component.specs.Collection.{InterfaceContent};
+ghost use Rattle.std.specs.Prelude.{◌≡◌, ◌≢◌, [], ◌∷◌, Some, IfErr, MatchResult, OnOk, string_bytes};
 ghost use Rattle.wac_component.specs.Content.{named, use_content, interface_content};
 ghost use Rattle.wac_component.specs.Entries.{identifier_at};
 ghost use Rattle.wac_component.specs.Height.{height};
@@ -16,12 +15,12 @@ ghost use Rattle.wac_narrowing.specs.Narrows.{grown};
 ghost use Rattle.wac_narrowing.specs.Taking.{IsTakenKey};
 ghost use Rattle.wac_taking.specs.Growing.{IsMetWith, AreMetWith};
 ghost use Rattle.wac_taking.specs.Members.{AnswersMembers};
-ghost use Rattle.wac_taking.specs.Refused.{said, IsRefused, IsMergeRefusal, AreRefusedItems};
+ghost use Rattle.wac_uses.specs.Said.{said};
+ghost use Rattle.wac_taking.specs.Refused.{IsRefused, IsMergeRefusal, AreRefusedItems};
 ghost use Rattle.wac_taking.specs.Takes.{MayTake, MayPut, Takes, shared_in};
 
 use super::meeting::meet_own;
 use super::state::Merging;
-use super::uses::{check_uses, check_uses_of};
 use indexmap::IndexMap;
 use std::alloc::{AllocError, Global};
 use wac_clashes::mismatch;
@@ -32,6 +31,7 @@ use wac_merge::{extern_named, put_extern};
 use wac_mismatch::SubtypeCheck;
 use wac_names::are_semver_compatible;
 use wac_refusals::{AggregateError, MergeFrame};
+use wac_uses::{check_uses, check_uses_of};
 
 // Where exports are met, for what is told of those that have no meet: the direction, and the identifier of the interface,
 // unless it is on the track of the item that was handed in.

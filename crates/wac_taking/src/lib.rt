@@ -8,9 +8,7 @@ mod near;
 mod owners;
 mod state;
 mod taking;
-mod uses;
 
 pub use meeting::meet_own;
 pub use state::Merging;
 pub use taking::take_item;
-pub use uses::check_uses_of;

@@ -1,6 +1,6 @@
 //! The meet of two own items.
 
-ghost use Rattle.std.specs.Prelude.{◌∷◌, [], IfOk};
+ghost use Rattle.std.specs.Prelude.{IfOk};
 ghost use Rattle.wac_component.specs.Key.{AllStand, item_keys};
 ghost use Rattle.wac_taking.specs.Growing.{IsMetIfAny};
 

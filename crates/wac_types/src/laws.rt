@@ -2,6 +2,7 @@
 //! nothing.
 
 pub use wac_bounds::laws as bounds;
+pub use wac_call_lists::laws as lists;
 pub use wac_checker::laws as checks;
 pub use wac_component::laws as collections;
 pub use wac_mismatch::laws as mismatches;

@@ -20,7 +20,7 @@ use Rattle.wac_aggregator.proofs.Listing.{Contains-at, called_at, may_try, advan
 use Rattle.std.proofs.lemmas.List.Elements.{All-nil}
 use Rattle.wac_call_lists.specs.Call.{IsSoundCall, AreSoundCalls}
 use Rattle.wac_aggregator.specs.Wit.{IsWitAfter}
-use Rattle.wac_aggregator.proofs.Wit.{wit_start, unstopped_start}
+use Rattle.wac_aggregator.proofs.Wit.{wit_start}
 use Rattle.wac_aggregator.proofs.WitRuns.{one_more_sound, one_more_wit, wit_accepted, one_refused}
 use Rattle.wac_aggregator.proofs.all.aggregate_all.Goals as goal
 
@@ -33,7 +33,7 @@ loop-at-init c =
       runs = λ p. run_starts (handed_in c.args.calls.now) c.no_imports-state.result start.imports;
       served = none_served (handed_in c.args.calls.now) c.no_imports-state.result start.taken start.copies (λ q. ap (λ (is : ImportsContent). import_of is q) start.imports) start.shared;
       sound = All-nil IsSoundCall;
-      wit = λ w. (wit_start (handed_in c.args.calls.now) c.no_imports-state.result c.args.number start, unstopped_start c.no_imports-state.result c.args.number start);
+      wit = λ w. wit_start (handed_in c.args.calls.now) c.no_imports-state.result c.args.number start;
     }
 
 pub advance-requires-clause-source : goal.advance-requires-clause-source
@@ -107,7 +107,7 @@ pub returns-clause-wit : goal.returns-clause-wit
 returns-clause-wit c = λ w.
     let calls = handed_in c.args.calls.now in
     let whole = take_all c.loop-at.at calls (simp length-map (omega arith)) in
-    wit_accepted calls c.loop-at.state w (subst AreSoundCalls whole c.loop-at.invariant.sound) c.loop-at.invariant.order.imports (subst (λ front. AreServed calls front c.loop-at.state) whole c.loop-at.invariant.served) (subst (λ front. IsWitAfter calls front c.loop-at.state) whole (c.loop-at.invariant.wit w).0)
+    wit_accepted calls c.loop-at.state w (subst AreSoundCalls whole c.loop-at.invariant.sound) c.loop-at.invariant.order.imports (subst (λ front. AreServed calls front c.loop-at.state) whole c.loop-at.invariant.served) (subst (λ front. IsWitAfter calls front c.loop-at.state) whole (c.loop-at.invariant.wit w))
 
 pub returns-in-Err-clause-wit : goal.returns-in-Err-clause-wit
 returns-in-Err-clause-wit c = λ w ne.
@@ -117,5 +117,5 @@ returns-in-Err-clause-wit c = λ w ne.
     let among = Contains-at calls c.loop-at.at call at in
     let before = c.loop-at.invariant in
     let sound = c.requires.source call among in
-    one_refused calls c.loop-at.at call at w c.loop-at.state before.sound (record { sound = c.sound.ensures; stands = sound }) (λ d m. c.requires.one call d among m) before.order.imports before.served (before.wit w).0 c.in-Err.error ne
+    one_refused calls c.loop-at.at call at w c.loop-at.state before.sound (record { sound = c.sound.ensures; stands = sound }) (λ d m. c.requires.one call d among m) before.order.imports before.served (before.wit w) c.in-Err.error ne
     ((c.in-Err.ensures.advances ne).reason (may_try call c.loop-at.state c.sound.ensures sound before.order)) (c.in-Err.ensures.advances ne).plain c.in-Err.ensures.members

@@ -9,7 +9,6 @@ use Rattle.wac_aggregator.specs.HandedIn.{handed_in}
 use Rattle.wac_aggregator.specs.InOrder.{IsInOrder}
 use Rattle.wac_aggregator.specs.Served.{AreServed}
 use Rattle.wac_aggregator.specs.Wit.{IsWitAfter}
-use Rattle.wac_aggregator.proofs.WitMoves.{AreUnstopped}
 use Rattle.wac_call_lists.specs.WitList.{IsWitList}
 use Rattle.wac_aggregator.proofs.all.aggregate_all.Given as goal
 
@@ -20,5 +19,5 @@ invariant-loop-at l = record {
   runs : IsPlainList (handed_in l.calls) → (x : Answer) → IsPlainRun l.at (track_imports (shown (content_of l.state))) (drop l.at (handed_in l.calls)) x → IsPlainRun 0 no_imports (handed_in l.calls) x;
   served : AreServed (handed_in l.calls) (take l.at (handed_in l.calls)) l.state;
   sound : AreSoundCalls (take l.at (handed_in l.calls));
-  wit : IsWitList (handed_in l.calls) → IsWitAfter (handed_in l.calls) (take l.at (handed_in l.calls)) l.state × AreUnstopped l.state;
+  wit : IsWitList (handed_in l.calls) → IsWitAfter (handed_in l.calls) (take l.at (handed_in l.calls)) l.state;
 }

@@ -1,8 +1,8 @@
 use Rattle.std.proofs.Common.{map}
 use Rattle.std.specs.Map.Iter.{deref_pair}
 use Rattle.wac_component.specs.Content.{named, use_content}
-use Rattle.wac_taking.specs.Uses.{UsesAgree}
-use Rattle.wac_taking.proofs.uses.check_uses.Given as goal
+use Rattle.wac_uses.specs.Uses.{UsesAgree}
+use Rattle.wac_uses.proofs.uses.check_uses.Given as goal
 
 abbrev pub invariant-loop-name : goal.invariant-loop-name
 invariant-loop-name l = record {

@@ -1,11 +1,14 @@
 //! Uses of one name.
 
-ghost use Rattle.std.specs.Prelude.{◌≡◌, [], ◌∷◌, Some, IfErr, IfOk, MatchResult, string_bytes};
+ghost use Rattle.std.specs.Prelude.{◌≡◌, [], ◌∷◌, Some, IfOk, MatchResult, string_bytes};
 ghost use Rattle.wac_component.specs.Content.{named, use_content};
+ghost use Rattle.wac_component.specs.Entries.{uses_at};
 ghost use Rattle.wac_component.specs.Key.{Stands, AllStand, item_keys, type_keys, interface_key, world_key, named_keys, use_keys};
+ghost use Rattle.wac_component.specs.declared.items.ItemKind.TheVariants.{«Type» as OfType};
 ghost use Rattle.wac_call_lists.specs.Reason.{used_interface as of_interfaces, used_name as of_name};
-ghost use Rattle.wac_taking.specs.Refused.{said, IsUsesRefusal, AreRefusedLists};
-ghost use Rattle.wac_taking.specs.Uses.{AreOnOneTrack, AreOfOne, UsesAgree};
+ghost use Rattle.wac_uses.specs.Differ.{IsUsesRefusal, AreRefusedLists};
+ghost use Rattle.wac_uses.specs.Said.{said};
+ghost use Rattle.wac_uses.specs.Uses.{AreOnOneTrack, AreOfOne, UsesAgree, ItemsAgree};
 
 use indexmap::IndexMap;
 use std::alloc::{AllocError, Global};
@@ -14,7 +17,7 @@ use wac_names::are_semver_compatible;
 use wac_refusals::AggregateError;
 
 /// Refuses two interfaces, or two worlds, that use one name of interfaces on different tracks (`UsedInterface`), or of
-/// other names there (`UsedName`). What stands in them isn't looked at.
+/// other names there (`UsedName`); two items of other cases are let pass. What stands in them isn't looked at.
 pub fn check_uses_of(
     alloc: Global,
     types: &Types,
@@ -23,7 +26,7 @@ pub fn check_uses_of(
 ) -> Result<(), AggregateError>
     requires existing { AllStand types.now (item_keys existing) }
     requires new { AllStand types.now (item_keys new) }
-    ensures { IfErr result (IsUsesRefusal types.now (item_keys existing) (item_keys new)) }
+    ensures { MatchResult result (λ u. ItemsAgree types.now existing new) (IsUsesRefusal types.now (item_keys existing) (item_keys new)) }
 {
     match (&existing, &new) {
         (ItemKind::Instance(a), ItemKind::Instance(b)) => check_interfaces(alloc, types, *a, *b),
@@ -42,7 +45,7 @@ fn check_types(
 ) -> Result<(), AggregateError>
     requires existing { AllStand types.now (type_keys existing) }
     requires new { AllStand types.now (type_keys new) }
-    ensures { IfErr result (IsUsesRefusal types.now (type_keys existing) (type_keys new)) }
+    ensures { MatchResult result (λ u. ItemsAgree types.now (OfType existing) (OfType new)) (IsUsesRefusal types.now (type_keys existing) (type_keys new)) }
 {
     match (&existing, &new) {
         (Type::Interface(a), Type::Interface(b)) => check_interfaces(alloc, types, *a, *b),
@@ -60,7 +63,7 @@ fn check_interfaces(
 ) -> Result<(), AggregateError>
     requires existing { Stands types.now (interface_key existing) }
     requires new { Stands types.now (interface_key new) }
-    ensures { IfErr result (IsUsesRefusal types.now (interface_key existing ∷ []) (interface_key new ∷ [])) }
+    ensures { MatchResult result (λ u. UsesAgree types.now (uses_at types.now (interface_key existing)) (uses_at types.now (interface_key new))) (IsUsesRefusal types.now (interface_key existing ∷ []) (interface_key new ∷ [])) }
 {
     check_uses(alloc, types, &types[existing].uses, &types[new].uses)
 }
@@ -74,13 +77,14 @@ fn check_worlds(
 ) -> Result<(), AggregateError>
     requires existing { Stands types.now (world_key existing) }
     requires new { Stands types.now (world_key new) }
-    ensures { IfErr result (IsUsesRefusal types.now (world_key existing ∷ []) (world_key new ∷ [])) }
+    ensures { MatchResult result (λ u. UsesAgree types.now (uses_at types.now (world_key existing)) (uses_at types.now (world_key new))) (IsUsesRefusal types.now (world_key existing ∷ []) (world_key new ∷ [])) }
 {
     check_uses(alloc, types, &types[existing].uses, &types[new].uses)
 }
 
-// Refuses uses of one name of which one can't stand for the other.
-pub(crate) fn check_uses(
+/// Refuses uses of one name of interfaces on different tracks (`UsedInterface`), or of other names there (`UsedName`);
+/// where none are, each use of the second map may stand with that of its name in the first.
+pub fn check_uses(
     alloc: Global,
     types: &Types,
     existing: &IndexMap<String, UsedType>,

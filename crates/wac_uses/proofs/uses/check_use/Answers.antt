@@ -5,8 +5,8 @@ use Rattle.std.specs.Str.{bytes_eq}
 use Rattle.std.specs.String.{string_eq}
 use Rattle.wac_component.specs.Content.{use_content}
 use Rattle.wac_component.proofs.Among.{Contains-first}
-use Rattle.wac_taking.specs.Refused.{of_names}
-use Rattle.wac_taking.proofs.uses.check_use.Goals as goal
+use Rattle.wac_uses.specs.Differ.{of_names}
+use Rattle.wac_uses.proofs.uses.check_use.Goals as goal
 
 -- names that aren't equal show other texts
 names_apart : (a b : Option (String Global)) → not (option_eq string_eq a b) ≡ true → option_map string_bytes a ≡ option_map string_bytes b → ⊥

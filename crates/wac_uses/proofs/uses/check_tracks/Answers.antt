@@ -6,8 +6,8 @@ use Rattle.wac_component.specs.Content.{use_content}
 use Rattle.wac_component.proofs.Among.{Contains-first}
 use Rattle.wac_names.specs.Class.{class_of}
 use Rattle.wac_names.proofs.Classes.{classes_tell}
-use Rattle.wac_taking.specs.Refused.{of_interfaces}
-use Rattle.wac_taking.proofs.uses.check_tracks.Goals as goal
+use Rattle.wac_uses.specs.Differ.{of_interfaces}
+use Rattle.wac_uses.proofs.uses.check_tracks.Goals as goal
 
 -- an identifier that is there is what is read
 read : (o : Option (String Global)) (x : String Global) (t : Option Text) (m : Text) → o ≡ Some x → t ≡ option_map string_bytes o → t ≡ Some m → m ≡ string_bytes x

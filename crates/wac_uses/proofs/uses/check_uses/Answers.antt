@@ -1,13 +1,13 @@
 use Rattle.std.proofs.Common.{[], ◌∷◌, map, string_bytes, sym, subst}
 use Rattle.std.proofs.lemmas.Map.Iter.{iter_end}
-use Rattle.wac_taking.specs.Uses.{AreOfOne, UsesAgree}
+use Rattle.wac_uses.specs.Uses.{AreOfOne, UsesAgree}
 use Rattle.std.specs.Map.Iter.{deref_pair}
 use Rattle.wac_component.specs.Content.{named, use_content}
 use Rattle.wac_component.specs.Key.{Stands}
-use Rattle.wac_taking.proofs.GrowLemmas.{each_looked, each_yielded, looked_use, yielded_use, one_in}
-use Rattle.wac_taking.proofs.Refusals.{passed_on}
-use Rattle.wac_taking.proofs.UseLemmas.{agree_none, agree_then, is_found, not_found, done_uses, lists_refused}
-use Rattle.wac_taking.proofs.uses.check_uses.Goals as goal
+use Rattle.wac_uses.proofs.UseLists.{each_looked, each_yielded, looked_use, yielded_use, one_in}
+use Rattle.wac_uses.proofs.Passing.{passed_on}
+use Rattle.wac_uses.proofs.UseLemmas.{agree_none, agree_then, is_found, not_found, done_uses, lists_refused}
+use Rattle.wac_uses.proofs.uses.check_uses.Goals as goal
 
 pub check_use-requires-clause-existing : goal.check_use-requires-clause-existing
 check_use-requires-clause-existing c = each_looked (Stands c.args.types.now) _ c.args.existing.now.entries c.in-Some-get.other.now (sym (rw c.in-Some-get.is at c.get.ensures.value)) c.requires.existing

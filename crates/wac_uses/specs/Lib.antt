@@ -1,0 +1,3 @@
+pub mod Said
+pub mod Differ
+pub mod Uses
