@@ -1,0 +1,21 @@
+-- Calls that hand in what the components of a graph import.
+use Rattle.std.proofs.Common.{◌≡◌, ◌≢◌, inl, inr, List, [], ◌∷◌, ◌++◌, Some, None, Contains, ap, sym, subst, ◌∙◌}
+use Rattle.std.proofs.lemmas.List.Elements.{Contains-push_cases}
+use Rattle.wac_call_lists.specs.Call.{Call}
+use Rattle.wac_composition.specs.Calls.{collection_at, IsCallOf, AreCallsOf}
+use Rattle.wac_composition.specs.declared.graph.Graph.{Graph}
+
+-- one call more
+pub AreCallsOf-push : (g : Graph) (calls : List Call) (call : Call) → AreCallsOf g calls → IsCallOf g call → AreCallsOf g (calls ++ call ∷ [])
+AreCallsOf-push g calls call before new c m = elim (Contains-push_cases calls call c m) [
+  | inl old ↦ before c old
+  | inr is ↦ subst (IsCallOf g) is new
+]
+
+-- no call is of the collection of the merged imports
+pub AreCallsOf-apart : (g : Graph) (calls : List Call) → AreCallsOf g calls → (c : Call) → Contains calls c → c.types.number ≢ 4
+AreCallsOf-apart g calls h c m same = let no : None ≡ Some c.types = ap (collection_at g) (sym same) ∙ (h c m).found in cc
+
+-- equal numbers mean one collection
+pub AreCallsOf-one : (g : Graph) (calls : List Call) → AreCallsOf g calls → (c d : Call) → Contains calls c → Contains calls d → c.types.number ≡ d.types.number → c.types ≡ d.types
+AreCallsOf-one g calls h c d m n same = let both : Some c.types ≡ Some d.types = sym (h c m).found ∙ ap (collection_at g) same ∙ (h d n).found in cc

@@ -1,0 +1,10 @@
+use Rattle.std.proofs.Common.{ap, ◌∙◌, [], ◌∷◌}
+use Rattle.std.proofs.lemmas.List.{map-append}
+use Rattle.wac_aggregator.specs.HandedIn.{called, handed_in}
+use Rattle.wac_aggregator.specs.declared.all.Call.{Call}
+use Rattle.wac_composition.proofs.merging.push_call.Goals as goal
+
+pub returns-in-Ok : goal.returns-in-Ok
+returns-in-Ok c =
+    let call : Call = record { name = c.args.name; types = c.args.types; kind = c.args.kind } in
+    ap handed_in c.in-Ok.ensures.items ∙ map-append called c.args.calls.now.items (call ∷ [])

@@ -1,0 +1,18 @@
+-- Calls that hand in what the components of a graph import.
+use Rattle.std.specs.Prelude.{◌≡◌, ℕ, List, Option, Some, None, Contains, cond, nat_eq}
+use Rattle.wac_types.specs.Collection.{Collection}
+use Rattle.wac_types.specs.Key.{AllStand, item_keys}
+use Rattle.wac_call_lists.specs.Call.{Call}
+use Rattle.wac_composition.specs.declared.graph.Graph.{Graph}
+
+-- the collection of a component, by its number
+abbrev pub collection_at : Graph → ℕ → Option Collection
+collection_at g n = cond (nat_eq n 1) (Some g.middleware.types) (cond (nat_eq n 2) (Some g.handler.types) (cond (nat_eq n 3) (Some g.client.types) None))
+
+-- the call is of the collection of a component, and its item stands there
+pub record IsCallOf (g : Graph) (c : Call) : Type 0 where
+  pub found : collection_at g c.types.number ≡ Some c.types
+  pub stands : AllStand c.types (item_keys c.kind)
+
+abbrev pub AreCallsOf : Graph → List Call → Type 0
+AreCallsOf g calls = (c : Call) → Contains calls c → IsCallOf g c
