@@ -2,11 +2,9 @@
 
 use super::showing::debugs;
 use std::fmt::Debug;
-use std::process::Abort;
 use std::slice;
 use std::test::Fail;
 use wac_script_entries::built;
-use wac_types::{Type, Types};
 
 // An entry of each sort, others that name those, and defined types of each kind.
 const LINES: &str = "def list u8
@@ -86,27 +84,4 @@ fn entries_are_listed_in_order_and_cloned(rt: HostRuntime) -> Result<(), Fail> {
     assert!(&rt; lists(types.worlds(), WORLDS));
     assert!(&rt; lists(types.modules(), MODULES));
     Ok(())
-}
-
-// Asserts what is found by the ids of entries, and that another collection contains none of them.
-fn check_found<R: Abort>(rt: &R, types: &Types, empty: &Types) -> Result<(), Fail> {
-    let (Some(file), Some(func)) = (types.resource_at(0), types.func_type_at(1)) else {
-        return Err(Fail::new("an entry isn't there"));
-    };
-    let Some(module) = types.module_type_at(1) else {
-        return Err(Fail::new("the core module isn't there"));
-    };
-    assert_eq!(rt; types[file].name.as_str(), "file");
-    assert!(rt; types[func].is_async);
-    assert!(rt; types[module].exports.contains_key("x"));
-    // the number alone isn't enough
-    assert!(rt; !empty.contains(Type::Func(func)));
-    Ok(())
-}
-
-#[test]
-fn entries_are_found_by_id(rt: HostRuntime) -> Result<(), Fail> {
-    let types = built(rt.alloc(), 7, LINES)?;
-    let empty = Types::new(rt.alloc(), 7);
-    check_found(&rt, &types, &empty)
 }

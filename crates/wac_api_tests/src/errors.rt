@@ -1,4 +1,4 @@
-//! Refusals as values: their frames, their fault, and their texts.
+//! A refusal as a value: its frames, its fault, and its texts.
 
 use super::finding::defined;
 use super::showing::{debugs, shows};
@@ -6,9 +6,7 @@ use std::alloc::Global;
 use std::collections::HashSet;
 use std::test::Fail;
 use wac_script_entries::built;
-use wac_types::{
-    Fault, Frame, ItemKind, NameError, SubtypeChecker, SubtypeError, TargetError, Types, ValueType,
-};
+use wac_types::{ItemKind, SubtypeChecker, SubtypeError, Types, ValueType};
 
 const LISTS: &str = "def option u8
 def list d0
@@ -47,29 +45,4 @@ fn frames_lead_from_the_outermost_place_to_the_fault(rt: HostRuntime) -> Result<
         "Mismatch { frames: [ListElement, Option], fault: Kind { expected: \"s8\", found: \"u8\" } }";
     assert!(&rt; debugs(&error, shown));
     Ok(())
-}
-
-#[test]
-fn without_frames_an_error_shows_its_fault(rt: HostRuntime) {
-    let error = SubtypeError::Mismatch {
-        frames: Vec::new(rt.alloc()),
-        fault: Fault::Payload { expected: true },
-    };
-    assert!(&rt; error.fault() != Some(&Fault::Payload { expected: false }));
-    assert!(&rt; shows(&error, "expected a type payload, found none"));
-}
-
-#[test]
-fn frames_of_two_kinds_differ(rt: HostRuntime) {
-    let (field, case) = (String::new(rt.alloc()), String::new(rt.alloc()));
-    assert!(&rt; Frame::Field(field) != Frame::Case(case));
-}
-
-#[test]
-fn without_memory_an_error_says_so_and_has_neither_frames_nor_fault(rt: HostRuntime) {
-    let error = SubtypeError::Memory;
-    assert!(&rt; error.frames().is_empty() && error.fault().is_none());
-    assert!(&rt; shows(&error, "out of memory"));
-    assert!(&rt; shows(&NameError::Memory, "out of memory"));
-    assert!(&rt; shows(&TargetError::Memory, "out of memory"));
 }

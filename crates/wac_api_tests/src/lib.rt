@@ -2,8 +2,6 @@
 #![tactic(auto)]
 
 #[cfg(test)]
-mod checking;
-#[cfg(test)]
 mod collections;
 #[cfg(test)]
 mod errors;
@@ -11,8 +9,6 @@ mod errors;
 mod finding;
 #[cfg(test)]
 mod first_use;
-#[cfg(test)]
-mod ids;
 #[cfg(test)]
 mod name_maps;
 #[cfg(test)]

@@ -1,7 +1,6 @@
 //! Maps of names over interners of a caller's own: two maps of one interner, what is lent, and clones; and how
 //! versions of names are ordered.
 
-use super::showing::{debugs, shows};
 use std::alloc::Global;
 use std::cmp::Ordering;
 use std::process::Abort;
@@ -85,26 +84,6 @@ fn values_are_listed_in_order_written_in_place_and_cloned(rt: HostRuntime) -> Re
     let mut map = NameMap::new(rt.alloc());
     fill(&mut map, &mut Numbers::new(rt.alloc()))?;
     check_clone(&rt, &mut map)
-}
-
-// Whether the name `b`, which is there, is refused and handed back.
-fn is_handed_back(map: &mut Map, cx: &mut Numbers) -> bool {
-    let answer = map.insert("b", cx, false, 4);
-    match &answer {
-        Ok(_) => false,
-        Err(error) => debugs(&answer, "Err(Twice { name: \"b\" })")
-            && shows(error, "map entry `b` defined twice"),
-    }
-}
-
-#[test]
-fn a_name_that_is_there_is_handed_back_in_the_error(rt: HostRuntime) -> Result<(), Fail> {
-    let mut cx = Numbers::new(rt.alloc());
-    let mut map = NameMap::new(rt.alloc());
-    fill(&mut map, &mut cx)?;
-    assert!(&rt; is_handed_back(&mut map, &mut cx));
-    assert_eq!(&rt; value(&map, &cx, "b"), Some(2));
-    Ok(())
 }
 
 // Two names, and how their versions are ordered, where they are on one track.

@@ -1,11 +1,9 @@
-//! What a package and its keys hold and show, hashed, owned and borrowed.
+//! What a package and its key hold and show, and their clones.
 
 use super::finding::world;
-use super::showing::{debugs, shows};
+use super::showing::debugs;
 use semver::Version;
-use std::alloc::{AllocError, Global};
-use std::collections::HashSet;
-use std::process::Abort;
+use std::alloc::Global;
 use std::test::Fail;
 use wac_script_entries::built;
 use wac_types::{BorrowedKey, BorrowedPackageKey, Package, PackageKey, same_key};
@@ -66,88 +64,16 @@ fn the_bytes_of_a_package_are_not_shown(rt: HostRuntime) -> Result<(), Fail> {
     Ok(())
 }
 
-// Whether both keys of a package are the same.
-fn has_one_key(alloc: Global, package: &Package) -> bool {
-    match PackageKey::new(alloc, package) {
-        Ok(owned) => same_key(&owned, &BorrowedPackageKey::new(package))
-            && package.key() == owned.borrowed_key(),
-        Err(_) => false,
-    }
+// Whether a key is that of a package, owned and borrowed.
+fn is_key_of(key: &PackageKey, package: &Package) -> bool {
+    same_key(key, &BorrowedPackageKey::new(package)) && package.key() == key.borrowed_key()
 }
 
 #[test]
-fn keys_of_a_package_have_its_name_and_version(rt: HostRuntime) -> Result<(), Fail> {
-    let package = package_of_two(rt.alloc())?;
-    assert!(&rt; has_one_key(rt.alloc(), &package));
-    Ok(())
-}
-
-// The key of a package of this name and version.
-fn key(alloc: Global, name: &str, version: Option<&Version>) -> Result<PackageKey, AllocError> {
-    BorrowedPackageKey::from_name_and_version(name, version).into_owned(alloc)
-}
-
-#[test]
-fn an_equal_key_is_found_in_a_set(rt: HostRuntime) -> Result<(), Fail> {
-    let two = Version::new(0, 2, 0);
-    let mut keys = HashSet::new(rt.alloc());
-    keys.insert(key(rt.alloc(), "wasi:http", Some(&two))?)?;
-    assert!(&rt; keys.contains(&key(rt.alloc(), "wasi:http", Some(&two))?));
-    assert!(&rt; !keys.contains(&key(rt.alloc(), "wasi:http", None)?));
-    Ok(())
-}
-
-#[test]
-fn an_equal_borrowed_key_is_found_in_a_set(rt: HostRuntime) -> Result<(), Fail> {
-    let two = Version::new(0, 2, 0);
-    let same = BorrowedPackageKey::from_name_and_version("wasi:http", Some(&two));
-    let other = BorrowedPackageKey::from_name_and_version("wasi:io", Some(&two));
-    let mut keys = HashSet::new(rt.alloc());
-    keys.insert(same)?;
-    assert!(&rt; keys.contains(&same) && !keys.contains(&other));
-    Ok(())
-}
-
-fn assert_same<R: Abort>(rt: &R, a: &dyn BorrowedKey, b: &dyn BorrowedKey, wanted: bool) {
-    assert_eq!(rt; same_key(a, b), wanted);
-    assert_eq!(rt; same_key(b, a), wanted);
-}
-
-// Asserts that an owned key is the same as its clone, and whether it is the same as a borrowed key.
-fn compare<R: Abort>(
-    rt: &R,
-    alloc: Global,
-    borrowed: &BorrowedPackageKey,
-    name: &str,
-    version: Option<&Version>,
-    wanted: bool,
-) -> Result<(), Fail> {
-    let owned = key(alloc, name, version)?;
-    assert_same(rt, &owned, borrowed, wanted);
-    assert_same(rt, &owned, &owned.clone()?, true);
-    Ok(())
-}
-
-#[test]
-fn owned_and_borrowed_keys_of_one_name_and_version_are_the_same(
-    rt: HostRuntime,
-) -> Result<(), Fail> {
-    let two = Version::new(0, 2, 0);
-    let borrowed = BorrowedPackageKey::from_name_and_version("wasi:http", Some(&two));
-    compare(&rt, rt.alloc(), &borrowed, "wasi:http", Some(&two), true)?;
-    compare(&rt, rt.alloc(), &borrowed, "wasi:http", None, false)?;
-    compare(&rt, rt.alloc(), &borrowed, "wasi:io", Some(&two), false)
-}
-
-#[test]
-fn keys_show_their_name_and_version(rt: HostRuntime) -> Result<(), Fail> {
-    let two = Version::new(0, 2, 0);
-    let owned = key(rt.alloc(), "wasi:http", Some(&two))?.clone()?;
-    assert!(&rt; owned.name() == "wasi:http" && owned.version() == Some(&two));
-    let borrowed = owned.borrowed_key();
-    assert!(&rt; borrowed.name == "wasi:http" && borrowed.version == Some(&two));
-    let plain = key(rt.alloc(), "a", None)?;
-    assert!(&rt; shows(&owned, "wasi:http@0.2.0") && shows(&borrowed, "wasi:http@0.2.0"));
-    assert!(&rt; shows(&plain, "a") && debugs(&plain, "PackageKey { name: \"a\", version: None }"));
+fn a_key_of_a_package_and_its_clone_have_its_name_and_version(rt: HostRuntime) -> Result<(), Fail> {
+    let package = package(rt.alloc(), None)?;
+    let key = PackageKey::new(rt.alloc(), &package)?;
+    assert!(&rt; is_key_of(&key, &package) && is_key_of(&key.clone()?, &package));
+    assert!(&rt; debugs(&key, "PackageKey { name: \"a:b\", version: None }"));
     Ok(())
 }
