@@ -1,5 +1,5 @@
 -- Calls that hand in what the components of a graph import.
-use Rattle.std.proofs.Common.{◌≡◌, ◌≢◌, inl, inr, List, [], ◌∷◌, ◌++◌, Some, None, Contains, ap, sym, subst, ◌∙◌}
+use Rattle.std.proofs.Common.{◌≡◌, ◌≢◌, inl, inr, refl, List, [], ◌∷◌, ◌++◌, Some, None, Contains, ap, sym, subst, ◌∙◌}
 use Rattle.std.proofs.lemmas.List.Elements.{Contains-push_cases}
 use Rattle.wac_call_lists.specs.Call.{Call}
 use Rattle.wac_composition.specs.Calls.{collection_at, IsCallOf, AreCallsOf}
@@ -19,3 +19,13 @@ AreCallsOf-apart g calls h c m same = let no : None ≡ Some c.types = ap (colle
 -- equal numbers mean one collection
 pub AreCallsOf-one : (g : Graph) (calls : List Call) → AreCallsOf g calls → (c d : Call) → Contains calls c → Contains calls d → c.types.number ≡ d.types.number → c.types ≡ d.types
 AreCallsOf-one g calls h c d m n same = let both : Some c.types ≡ Some d.types = sym (h c m).found ∙ ap (collection_at g) same ∙ (h d n).found in cc
+
+-- each component's collection is found by its number
+pub middleware_found : (g : Graph) → collection_at g g.middleware.types.number ≡ Some g.middleware.types
+middleware_found g = rw g.numbered.middleware_is refl
+
+pub handler_found : (g : Graph) → collection_at g g.handler.types.number ≡ Some g.handler.types
+handler_found g = rw g.numbered.handler_is refl
+
+pub client_found : (g : Graph) → collection_at g g.client.types.number ≡ Some g.client.types
+client_found g = rw g.numbered.client_is refl

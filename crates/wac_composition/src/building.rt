@@ -2,18 +2,13 @@
 
 ghost use Rattle.std.specs.Prelude.{◌≡◌};
 
+use super::failure::Failure;
 use indexmap::IndexMap;
 use std::alloc::Global;
-use std::io;
 use wac_types::{
     FuncType, Interface, InterfaceId, ItemKind, Resource, ResourceAlias, ResourceId, Types,
     UsedType, ValueType,
 };
-
-/// The error where something is named that isn't there.
-pub(crate) fn missing() -> io::Error {
-    io::Error::from(io::ErrorKind::NotFound)
-}
 
 /// Adds a function of one parameter.
 pub(crate) fn add_func(
@@ -21,7 +16,7 @@ pub(crate) fn add_func(
     types: &mut Types,
     param: (&str, ValueType),
     result_type: Option<ValueType>,
-) -> io::Result<ItemKind>
+) -> Result<ItemKind, Failure>
     ensures { types.new.number ≡ types.old.number }
 {
     let (name, ty) = param;
@@ -33,7 +28,7 @@ pub(crate) fn add_func(
         is_async: false,
     };
     if !types.can_add_func_type(&func) {
-        return Err(missing());
+        return Err(Failure::Missing);
     }
     Ok(ItemKind::Func(types.add_func_type(func)?))
 }
@@ -44,13 +39,13 @@ pub(crate) fn add_resource(
     types: &mut Types,
     name: &str,
     alias: Option<ResourceAlias>,
-) -> io::Result<ResourceId>
+) -> Result<ResourceId, Failure>
     ensures { types.new.number ≡ types.old.number }
 {
     let name = String::from_str(alloc, name)?;
     let resource = Resource { name, alias };
     if !types.can_add_resource(&resource) {
-        return Err(missing());
+        return Err(Failure::Missing);
     }
     Ok(types.add_resource(resource)?)
 }
@@ -62,7 +57,7 @@ pub(crate) fn add_interface(
     id: &str,
     uses: &[(&str, InterfaceId)],
     exports: &[(&str, ItemKind)],
-) -> io::Result<InterfaceId>
+) -> Result<InterfaceId, Failure>
     ensures { types.new.number ≡ types.old.number }
 {
     let mut interface = Interface::new(alloc);
@@ -80,7 +75,7 @@ pub(crate) fn add_interface(
             .insert(String::from_str(alloc, name)?, *item)?;
     }
     if !types.can_add_interface(&interface) {
-        return Err(missing());
+        return Err(Failure::Missing);
     }
     Ok(types.add_interface(interface)?)
 }

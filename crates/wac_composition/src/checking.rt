@@ -1,31 +1,30 @@
 //! Whether one item fits where another is asked for.
 
-use super::building::missing;
-use std::alloc::{AllocError, Global};
+use super::failure::Failure;
+use std::alloc::Global;
 use std::collections::HashSet;
-use std::io;
-use std::io::Write;
 use wac_types::{ItemKind, SubtypeChecker, SubtypeError, Types};
 
-/// Prints whether an item of one collection fits where one of another is asked for, or the path to where it doesn't.
-pub(crate) fn print_answer<W: Write>(
+/// Puts last whether an item of one collection fits where one of another is asked for, or the path to where it doesn't.
+pub(crate) fn push_answer(
     alloc: Global,
-    out: &mut W,
+    text: &mut String,
     a: &ItemKind,
     at: &Types,
     b: &ItemKind,
     bt: &Types,
-) -> io::Result<()> {
+) -> Result<(), Failure> {
     if at.number() == bt.number() || !at.contains_item(*a) || !bt.contains_item(*b) {
-        return Err(missing());
+        return Err(Failure::Missing);
     }
     let mut cache = HashSet::new(alloc);
     match SubtypeChecker::new(&mut cache).is_subtype(alloc, *a, at, *b, bt) {
-        Ok(()) => writeln!(out, "fits"),
-        Err(SubtypeError::Memory) => Err(io::Error::from(AllocError)),
+        Ok(()) => text.push_str("fits\n")?,
+        Err(SubtypeError::Memory) => return Err(Failure::Memory),
         Err(error) => {
             let path = error.path();
-            writeln!(out, "doesn't fit: {path}")
+            writeln!(text, "doesn't fit: {path}")?;
         }
     }
+    Ok(())
 }

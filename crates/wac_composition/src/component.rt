@@ -3,10 +3,9 @@
 ghost use Rattle.std.specs.Prelude.{◌≡◌, IfOk};
 ghost use Rattle.wac_types.specs.Key.{Stands, interface_key, world_key};
 
-use super::building::missing;
+use super::failure::Failure;
 use indexmap::IndexMap;
 use std::alloc::Global;
-use std::io;
 use wac_types::{Interface, InterfaceId, ItemKind, Types, World, WorldId};
 
 /// A component: its name, and its world in a collection of its own.
@@ -26,7 +25,7 @@ impl Component {
         mut types: Types,
         imports: &[&str],
         exports: &[&str],
-    ) -> io::Result<Component>
+    ) -> Result<Component, Failure>
         ensures { IfOk result (λ c. c.types.number ≡ types.number) }
     {
         let world = add_world(alloc, &mut types, imports, exports)?;
@@ -50,7 +49,7 @@ pub(crate) fn add_world(
     types: &mut Types,
     imports: &[&str],
     exports: &[&str],
-) -> io::Result<WorldId>
+) -> Result<WorldId, Failure>
     ensures stands { IfOk result (λ id. Stands types.new (world_key id)) }
     ensures number { types.new.number ≡ types.old.number }
 {
@@ -61,7 +60,7 @@ pub(crate) fn add_world(
         exports: instances(alloc, types, exports)?,
     };
     if !types.can_add_world(&world) {
-        return Err(missing());
+        return Err(Failure::Missing);
     }
     Ok(types.add_world(world)?)
 }
@@ -70,7 +69,7 @@ fn instances(
     alloc: Global,
     types: &Types,
     names: &[&str],
-) -> io::Result<IndexMap<String, ItemKind>> {
+) -> Result<IndexMap<String, ItemKind>, Failure> {
     let mut map = IndexMap::new(alloc);
     for name in names {
         let id = interface_named(types, name)?;
@@ -80,18 +79,18 @@ fn instances(
 }
 
 /// The interface with this identifier.
-pub(crate) fn interface_named(types: &Types, name: &str) -> io::Result<InterfaceId>
+pub(crate) fn interface_named(types: &Types, name: &str) -> Result<InterfaceId, Failure>
     ensures { IfOk result (λ id. Stands types.now (interface_key id)) }
 {
     for index in 0..types.interfaces().len() {
         let Some(id) = types.interface_at(index) else {
-            return Err(missing());
+            return Err(Failure::Missing);
         };
         if is_named(&types[id], name) {
             return Ok(id);
         }
     }
-    Err(missing())
+    Err(Failure::Missing)
 }
 
 fn is_named(interface: &Interface, name: &str) -> bool {

@@ -1,69 +1,71 @@
-//! The steps of a composition, each with what is printed of it.
+//! The steps of a composition, each with what is said of it.
 
-use super::building::missing;
-use super::checking::print_answer;
+use super::checking::push_answer;
 use super::component::Component;
+use super::failure::Failure;
 use super::graph::Graph;
 use super::merging::{import_named, remaining};
-use super::targets::print_targets;
-use std::alloc::Global;
+use super::targets::push_targets;
+use std::alloc::{AllocError, Global};
 use std::collections::HashSet;
-use std::io;
-use std::io::Write;
 use wac_types::{
     AggregateAllError, AggregateError, ItemKind, PrimitiveType, SubtypeChecker, Type,
     TypeAggregator, Types, aggregate_all, are_semver_compatible,
 };
 
 /// Composes the three components, whose client has texts of this type.
-pub(crate) fn compose<W: Write>(alloc: Global, out: &mut W, text: PrimitiveType) -> io::Result<()> {
-    let graph = Graph::new(alloc, text)?;
-    print_links(alloc, out, &graph.handler, &graph.middleware)?;
-    print_links(alloc, out, &graph.client, &graph.handler)?;
-    merge(alloc, out, &graph)
+pub(crate) fn compose(
+    alloc: Global,
+    text: &mut String,
+    client_text: PrimitiveType,
+) -> Result<(), Failure> {
+    let graph = Graph::new(alloc, client_text)?;
+    push_links(alloc, text, &graph.handler, &graph.middleware)?;
+    push_links(alloc, text, &graph.client, &graph.handler)?;
+    merge(alloc, text, &graph)
 }
 
 // Merges what remains to be imported.
-fn merge<W: Write>(alloc: Global, out: &mut W, graph: &Graph) -> io::Result<()> {
+fn merge(alloc: Global, text: &mut String, graph: &Graph) -> Result<(), Failure> {
     let calls = remaining(alloc, graph)?;
     let mut cache = HashSet::new(alloc);
     let mut checker = SubtypeChecker::new(&mut cache);
     // the collection of the merged imports has a number of its own
     match aggregate_all(alloc, 4, &calls, &mut checker) {
-        Ok(merged) => print_merged(alloc, out, &merged, graph),
-        Err(refusal) => print_refusal(out, calls[refusal.at].name, &refusal),
+        Ok(merged) => push_merged(alloc, text, &merged, graph),
+        Err(refusal) => Ok(push_refusal(text, calls[refusal.at].name, &refusal)?),
     }
 }
 
 // What the composed component imports, what each component has of that, and the worlds that it may be made for.
-fn print_merged<W: Write>(
+fn push_merged(
     alloc: Global,
-    out: &mut W,
+    text: &mut String,
     merged: &TypeAggregator,
     graph: &Graph,
-) -> io::Result<()> {
+) -> Result<(), Failure> {
     for (name, kind) in merged.imports() {
-        print_import(out, merged.types(), name, kind)?;
+        push_import(text, merged.types(), name, kind)?;
     }
-    print_served(alloc, out, merged, &graph.middleware)?;
-    print_served(alloc, out, merged, &graph.handler)?;
-    print_served(alloc, out, merged, &graph.client)?;
-    print_targets(alloc, out, merged, &graph.middleware)
+    push_served(alloc, text, merged, &graph.middleware)?;
+    push_served(alloc, text, merged, &graph.handler)?;
+    push_served(alloc, text, merged, &graph.client)?;
+    push_targets(alloc, text, merged, &graph.middleware)
 }
 
 // Each export of one component that gives another what it imports.
-fn print_links<W: Write>(
+fn push_links(
     alloc: Global,
-    out: &mut W,
+    text: &mut String,
     giver: &Component,
     asker: &Component,
-) -> io::Result<()> {
+) -> Result<(), Failure> {
     let (from, to) = (giver.name, asker.name);
     for (export, given) in giver.exports() {
         for (import, wanted) in asker.imports() {
             if are_semver_compatible(alloc, export, import)? {
-                write!(out, "  {to} imports {import}, {from} exports {export}: ")?;
-                print_answer(alloc, out, given, &giver.types, wanted, &asker.types)?;
+                write!(text, "  {to} imports {import}, {from} exports {export}: ")?;
+                push_answer(alloc, text, given, &giver.types, wanted, &asker.types)?;
             }
         }
     }
@@ -71,54 +73,66 @@ fn print_links<W: Write>(
 }
 
 // Which call was refused, the steps to the two items that have no common lower bound, and the path from there.
-fn print_refusal<W: Write>(out: &mut W, name: &str, refusal: &AggregateAllError) -> io::Result<()> {
+fn push_refusal(
+    text: &mut String,
+    name: &str,
+    refusal: &AggregateAllError,
+) -> Result<(), AllocError> {
     let at = refusal.at;
-    write!(out, "  call {at}, {name}, isn't merged: ")?;
+    write!(text, "  call {at}, {name}, isn't merged: ")?;
     match &refusal.error {
         AggregateError::Mismatch { frames, error } => {
             for frame in frames {
-                write!(out, "{frame} / ")?;
+                write!(text, "{frame} / ")?;
             }
             let path = error.path();
-            writeln!(out, "{path}")
+            writeln!(text, "{path}")
         }
-        error => writeln!(out, "{error}"),
+        error => writeln!(text, "{error}"),
     }
 }
 
 // A merged import, and the names of what it exports.
-fn print_import<W: Write>(
-    out: &mut W,
+fn push_import(
+    text: &mut String,
     types: &Types,
     name: &str,
     kind: ItemKind,
-) -> io::Result<()> {
+) -> Result<(), Failure> {
     let ItemKind::Instance(id) = kind else {
-        return Err(missing());
+        return Err(Failure::Missing);
     };
     if !types.contains(Type::Interface(id)) {
-        return Err(missing());
+        return Err(Failure::Missing);
     }
-    write!(out, "  merged import {name} exports:")?;
+    write!(text, "  merged import {name} exports:")?;
     for export in types[id].exports.keys() {
-        write!(out, " {export}")?;
+        write!(text, " {export}")?;
     }
-    writeln!(out)
+    text.push_str("\n")?;
+    Ok(())
 }
 
 // Of each name that a component imports, the merged import to which it leads, if no other component gives it.
-fn print_served<W: Write>(
+fn push_served(
     alloc: Global,
-    out: &mut W,
+    text: &mut String,
     merged: &TypeAggregator,
     component: &Component,
-) -> io::Result<()> {
+) -> Result<(), Failure> {
     let to = component.name;
     for (import, wanted) in component.imports() {
         let name = merged.canonical_import_name(import);
         if let Some(given) = import_named(merged, name) {
-            write!(out, "  {to} imports {import}, merged into {name}: ")?;
-            print_answer(alloc, out, &given, merged.types(), wanted, &component.types)?;
+            write!(text, "  {to} imports {import}, merged into {name}: ")?;
+            push_answer(
+                alloc,
+                text,
+                &given,
+                merged.types(),
+                wanted,
+                &component.types,
+            )?;
         }
     }
     Ok(())

@@ -4,9 +4,9 @@
 ghost use Rattle.wac_composition.specs.Numbers.{AreNumbered};
 
 use super::component::Component;
+use super::failure::Failure;
 use super::packages::packages;
 use std::alloc::Global;
-use std::io;
 use wac_types::PrimitiveType;
 
 /// Three components, whose collections have numbers of their own.
@@ -23,7 +23,7 @@ pub(crate) struct Graph {
 
 impl Graph {
     /// The graph whose client has texts of this type.
-    pub(crate) fn new(alloc: Global, text: PrimitiveType) -> io::Result<Graph> {
+    pub(crate) fn new(alloc: Global, text: PrimitiveType) -> Result<Graph, Failure> {
         Ok(Graph {
             middleware: Component::new(
                 alloc,

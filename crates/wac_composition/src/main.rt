@@ -5,21 +5,32 @@ mod building;
 mod checking;
 mod component;
 mod composition;
+mod failure;
 mod graph;
 mod merging;
 mod packages;
 mod targets;
 
 use composition::compose;
+use failure::Failure;
+use std::alloc::{AllocError, Global};
 use std::io;
-use std::io::Write;
 use wac_types::PrimitiveType;
 
 fn main(rt: HostRuntime) -> io::Result<()> {
-    let out = rt.stdout();
-    let mut out = io::writer(&out);
-    writeln!(out, "With a client whose texts are strings:")?;
-    compose(rt.alloc(), &mut out, PrimitiveType::String)?;
-    writeln!(out, "With a client whose texts are single characters:")?;
-    compose(rt.alloc(), &mut out, PrimitiveType::Char)
+    match both_compositions(rt.alloc()) {
+        Ok(text) => print!(rt; "{text}"),
+        Err(Failure::Missing) => Err(io::Error::from(io::ErrorKind::NotFound)),
+        Err(Failure::Memory) => Err(io::Error::from(AllocError)),
+    }
+}
+
+// What is said of the composition whose client has texts as the others do, and of one whose client doesn't.
+fn both_compositions(alloc: Global) -> Result<String, Failure> {
+    let mut text = String::new(alloc);
+    text.push_str("With a client whose texts are strings:\n")?;
+    compose(alloc, &mut text, PrimitiveType::String)?;
+    text.push_str("With a client whose texts are single characters:\n")?;
+    compose(alloc, &mut text, PrimitiveType::Char)?;
+    Ok(text)
 }

@@ -4,15 +4,14 @@ ghost use Rattle.std.specs.Prelude.{◌≡◌, [], ◌∷◌, ◌++◌, Some, If
 ghost use Rattle.wac_aggregator.specs.HandedIn.{handed_in};
 ghost use Rattle.wac_composition.specs.Calls.{AreCallsOf, collection_at};
 
-use super::building::missing;
 use super::component::Component;
+use super::failure::Failure;
 use super::graph::Graph;
 use std::alloc::{AllocError, Global};
-use std::io;
 use wac_types::{Call, ItemKind, TypeAggregator, Types, are_semver_compatible};
 
 // Whether a component gives another what it imports: exports something on the track of that name.
-fn is_given(alloc: Global, giver: Option<&Component>, import: &str) -> io::Result<bool> {
+fn is_given(alloc: Global, giver: Option<&Component>, import: &str) -> Result<bool, Failure> {
     let Some(giver) = giver else {
         return Ok(false);
     };
@@ -31,7 +30,7 @@ fn push_remaining<'a>(
     graph: &Graph,
     component: &'a Component,
     giver: Option<&Component>,
-) -> io::Result<()>
+) -> Result<(), Failure>
     requires component { collection_at graph.now component.now.types.number ≡ Some component.now.types }
     requires calls { AreCallsOf graph.now (handed_in calls.old.items) }
     ensures { OnOk result (AreCallsOf graph.now (handed_in calls.new.items)) }
@@ -39,7 +38,7 @@ fn push_remaining<'a>(
     let types = &component.types;
     for (name, kind) in component.imports() {
         if !types.contains_item(*kind) {
-            return Err(missing());
+            return Err(Failure::Missing);
         }
         if !is_given(alloc, giver, name)? {
             push_call(calls, name, types, *kind)?;
@@ -63,7 +62,7 @@ fn push_call<'a>(
 }
 
 /// What remains to be imported by the components of a graph.
-pub(crate) fn remaining(alloc: Global, graph: &Graph) -> io::Result<Vec<Call<'_>>>
+pub(crate) fn remaining(alloc: Global, graph: &Graph) -> Result<Vec<Call<'_>>, Failure>
     ensures { IfOk result (λ calls. AreCallsOf graph.now (handed_in calls.items)) }
 {
     let mut calls = Vec::new(alloc);

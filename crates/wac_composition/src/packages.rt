@@ -3,14 +3,14 @@
 ghost use Rattle.std.specs.Prelude.{◌≡◌, IfOk};
 
 use super::building::{add_func, add_interface, add_resource};
+use super::failure::Failure;
 use std::alloc::Global;
-use std::io;
 use wac_types::{
     InterfaceId, ItemKind, PrimitiveType, ResourceAlias, ResourceId, Type, Types, ValueType,
 };
 
 /// A collection of these interfaces, in which texts are values of this type.
-pub(crate) fn packages(alloc: Global, number: u64, text: PrimitiveType) -> io::Result<Types>
+pub(crate) fn packages(alloc: Global, number: u64, text: PrimitiveType) -> Result<Types, Failure>
     ensures { IfOk result (λ types. types.number ≡ number) }
 {
     let mut types = Types::new(alloc, number);
@@ -24,7 +24,11 @@ pub(crate) fn packages(alloc: Global, number: u64, text: PrimitiveType) -> io::R
 }
 
 // The types of requests: a resource, and a method of it.
-fn add_requests(alloc: Global, types: &mut Types, id: &str) -> io::Result<(InterfaceId, ResourceId)>
+fn add_requests(
+    alloc: Global,
+    types: &mut Types,
+    id: &str,
+) -> Result<(InterfaceId, ResourceId), Failure>
     ensures { types.new.number ≡ types.old.number }
 {
     let request = add_resource(alloc, types, "request", None)?;
@@ -45,7 +49,7 @@ fn add_handler(
     id: &str,
     owner: InterfaceId,
     source: ResourceId,
-) -> io::Result<()>
+) -> Result<(), Failure>
     ensures { types.new.number ≡ types.old.number }
 {
     let alias = ResourceAlias {
@@ -64,7 +68,7 @@ fn add_handler(
 }
 
 // Logging; the newer version also warns.
-fn add_logging(alloc: Global, types: &mut Types, text: PrimitiveType) -> io::Result<()>
+fn add_logging(alloc: Global, types: &mut Types, text: PrimitiveType) -> Result<(), Failure>
     ensures { types.new.number ≡ types.old.number }
 {
     let log = add_func(alloc, types, ("message", ValueType::Primitive(text)), None)?;
@@ -82,7 +86,11 @@ fn add_logging(alloc: Global, types: &mut Types, text: PrimitiveType) -> io::Res
 }
 
 // A store of texts, and sockets.
-fn add_store_and_sockets(alloc: Global, types: &mut Types, text: PrimitiveType) -> io::Result<()>
+fn add_store_and_sockets(
+    alloc: Global,
+    types: &mut Types,
+    text: PrimitiveType,
+) -> Result<(), Failure>
     ensures { types.new.number ≡ types.old.number }
 {
     let key = ("key", ValueType::Primitive(PrimitiveType::String));

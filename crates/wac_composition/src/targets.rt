@@ -5,87 +5,102 @@
 //! merged imports are asked for, and what the middleware exports to fit where theirs are. Where they do, the composed
 //! component fits whatever target world the entered one does.
 
-use super::building::missing;
-use super::checking::print_answer;
+use super::checking::push_answer;
 use super::component::{Component, add_world, interface_named};
+use super::failure::Failure;
 use super::packages::packages;
 use std::alloc::Global;
-use std::io;
-use std::io::Write;
-use wac_types::{ItemKind, PrimitiveType, Type, TypeAggregator, Types, WorldId, validate_target};
+use wac_types::{
+    ItemKind, PrimitiveType, TargetError, Type, TypeAggregator, Types, WorldId, validate_target,
+};
 
-/// Prints in which of two worlds the composed component fits: one has the newer logging, the other the older.
-pub(crate) fn print_targets<W: Write>(
+/// Says in which of two worlds the composed component fits: one has the newer logging, the other the older.
+pub(crate) fn push_targets(
     alloc: Global,
-    out: &mut W,
+    text: &mut String,
     merged: &TypeAggregator,
     middleware: &Component,
-) -> io::Result<()> {
+) -> Result<(), Failure> {
     let mut types = packages(alloc, 5, PrimitiveType::String)?;
-    let imports = imported(alloc, out, &types, merged)?;
-    let exports = exported(alloc, out, &types, middleware)?;
-    let world = add_world(alloc, &mut types, &imports, &exports)?;
-    print_target(alloc, out, &mut types, world, "wasi:logging/logging@0.2.1")?;
-    print_target(alloc, out, &mut types, world, "wasi:logging/logging@0.2.0")
+    let world = add_composed(alloc, text, &mut types, merged, middleware)?;
+    push_target(alloc, text, &mut types, world, "wasi:logging/logging@0.2.1")?;
+    push_target(alloc, text, &mut types, world, "wasi:logging/logging@0.2.0")
 }
 
-// The names of the merged imports. Prints whether the packages' interfaces fit there.
-fn imported<'a, W: Write>(
+// Enters the composed component.
+fn add_composed(
     alloc: Global,
-    out: &mut W,
-    types: &Types,
-    merged: &'a TypeAggregator,
-) -> io::Result<Vec<&'a str>> {
-    let mut names = Vec::new(alloc);
+    text: &mut String,
+    types: &mut Types,
+    merged: &TypeAggregator,
+    middleware: &Component,
+) -> Result<WorldId, Failure> {
+    let mut imports = Vec::new(alloc);
     for (name, wanted) in merged.imports() {
-        let given = ItemKind::Instance(interface_named(types, name)?);
-        write!(
-            out,
-            "  composed component imports {name}, as the package has it: "
-        )?;
-        print_answer(alloc, out, &given, types, &wanted, merged.types())?;
-        names.push(name)?;
+        push_imported(alloc, text, types, name, &wanted, merged)?;
+        imports.push(name)?;
     }
-    Ok(names)
-}
-
-// The names of what the middleware exports. Prints whether that fits where the packages' interfaces are asked for.
-fn exported<'a, W: Write>(
-    alloc: Global,
-    out: &mut W,
-    types: &Types,
-    middleware: &'a Component,
-) -> io::Result<Vec<&'a str>> {
-    let mut names = Vec::new(alloc);
+    let mut exports = Vec::new(alloc);
     for (name, given) in middleware.exports() {
-        let wanted = ItemKind::Instance(interface_named(types, name)?);
-        write!(
-            out,
-            "  composed component exports {name}, as the package has it: "
-        )?;
-        print_answer(alloc, out, given, &middleware.types, &wanted, types)?;
-        names.push(name.as_str())?;
+        push_exported(alloc, text, types, name, given, middleware)?;
+        exports.push(name.as_str())?;
     }
-    Ok(names)
+    add_world(alloc, types, &imports, &exports)
 }
 
-// Prints whether a component fits a world that has this logging, or the report of what doesn't.
-fn print_target<W: Write>(
+// Says whether the packages' interface of this name fits where a merged import is asked for.
+fn push_imported(
     alloc: Global,
-    out: &mut W,
+    text: &mut String,
+    types: &Types,
+    name: &str,
+    wanted: &ItemKind,
+    merged: &TypeAggregator,
+) -> Result<(), Failure> {
+    let given = ItemKind::Instance(interface_named(types, name)?);
+    write!(
+        text,
+        "  composed component imports {name}, as the package has it: "
+    )?;
+    push_answer(alloc, text, &given, types, wanted, merged.types())
+}
+
+// Says whether what the middleware exports fits where the packages' interface of this name is asked for.
+fn push_exported(
+    alloc: Global,
+    text: &mut String,
+    types: &Types,
+    name: &str,
+    given: &ItemKind,
+    middleware: &Component,
+) -> Result<(), Failure> {
+    let wanted = ItemKind::Instance(interface_named(types, name)?);
+    write!(
+        text,
+        "  composed component exports {name}, as the package has it: "
+    )?;
+    push_answer(alloc, text, given, &middleware.types, &wanted, types)
+}
+
+// Says whether a component fits a world that has this logging, or gives the report of what doesn't.
+fn push_target(
+    alloc: Global,
+    text: &mut String,
     types: &mut Types,
     component: WorldId,
     logging: &str,
-) -> io::Result<()> {
+) -> Result<(), Failure> {
     let imports = ["wasi:http/types@0.2.1", logging, "wasi:sockets/tcp@0.2.0"];
     let target = add_world(alloc, types, &imports, &["wasi:http/handler@0.2.0"])?;
     if !types.contains(Type::World(component)) {
-        return Err(missing());
+        return Err(Failure::Missing);
     }
-    write!(out, "  composed component in a world with {logging}: ")?;
+    write!(text, "  composed component in a world with {logging}: ")?;
     match validate_target(alloc, types, target, component) {
-        Ok(Ok(())) => writeln!(out, "fits"),
-        Ok(Err(report)) => write!(out, "doesn't fit\n{report}"),
-        Err(_) => Err(missing()),
+        Ok(Ok(())) => text.push_str("fits\n")?,
+        Ok(Err(report)) => write!(text, "doesn't fit\n{report}")?,
+        Err(TargetError::NoIdentifier { interface: _ }) => return Err(Failure::Missing),
+        Err(TargetError::Memory) => return Err(Failure::Memory),
     }
+    Ok(())
 }
