@@ -28,7 +28,7 @@ pub use replace::ReplaceError;
 ///
 /// Each id in an entry leads to an entry of the collection, and no walk along ids leads back to its
 /// start.
-#[derive(Drop, Debug)]
+#[derive(Debug)]
 pub struct Types {
     number: u64,
     defined: Vec<DefinedType>,
@@ -37,6 +37,22 @@ pub struct Types {
     interfaces: Vec<Interface>,
     worlds: Vec<World>,
     modules: Vec<ModuleType>,
+}
+
+// By hand, as of each large type that hides its fields: a function that drops one calls this, while what is derived is proved
+// field by field wherever one is dropped.
+impl Drop for Types {
+    fn drop(self) {
+        let Types {
+            number: _,
+            defined: _,
+            resources: _,
+            funcs: _,
+            interfaces: _,
+            worlds: _,
+            modules: _,
+        } = self;
+    }
 }
 
 impl Model for Types {

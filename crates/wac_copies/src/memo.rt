@@ -11,7 +11,7 @@ use std::alloc::{AllocError, Global};
 use wac_component::{DefinedTypeId, FuncTypeId, InterfaceId, ModuleTypeId, ResourceId, WorldId};
 
 /// Entries of other collections, each with the entry of its sort that stands for it in one collection.
-#[derive(Debug, Drop)]
+#[derive(Debug)]
 pub struct Memo {
     defined: IndexMap<DefinedTypeId, DefinedTypeId>,
     resources: IndexMap<ResourceId, ResourceId>,
@@ -19,6 +19,20 @@ pub struct Memo {
     interfaces: IndexMap<InterfaceId, InterfaceId>,
     worlds: IndexMap<WorldId, WorldId>,
     modules: IndexMap<ModuleTypeId, ModuleTypeId>,
+}
+
+// By hand, as of `Types`.
+impl Drop for Memo {
+    fn drop(self) {
+        let Memo {
+            defined: _,
+            resources: _,
+            funcs: _,
+            interfaces: _,
+            worlds: _,
+            modules: _,
+        } = self;
+    }
 }
 
 impl Memo {

@@ -18,7 +18,7 @@ use wac_names::NameClass;
 
 /// Imports in order, one at most of each class of names, and the names that lead to them. Each is found by the
 /// class of a name, however many there are.
-#[derive(Debug, Drop)]
+#[derive(Debug)]
 pub struct ImportList {
     // The imports in order. One that went last left an empty place.
     places: Vec<Option<Import>>,
@@ -26,6 +26,17 @@ pub struct ImportList {
     by_class: IndexMap<NameClass, usize>,
     // The names that lead to an import of another name, each with its class.
     led: IndexMap<String, NameClass>,
+}
+
+// By hand, as of `Types`.
+impl Drop for ImportList {
+    fn drop(self) {
+        let ImportList {
+            places: _,
+            by_class: _,
+            led: _,
+        } = self;
+    }
 }
 
 impl Model for ImportList {

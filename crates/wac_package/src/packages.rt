@@ -20,13 +20,25 @@ use std::marker::Model;
 use wac_component::{Interface, InterfaceId, ItemKind, Types, World, WorldId};
 
 /// A package: a component, with its name and its version.
-#[derive(Drop)]
 pub struct Package {
     key: PackageKey,
     bytes: Vec<u8>,
     ty: WorldId,
     instance_type: InterfaceId,
     definitions: IndexMap<String, ItemKind>,
+}
+
+// By hand, as of `Types`.
+impl Drop for Package {
+    fn drop(self) {
+        let Package {
+            key: _,
+            bytes: _,
+            ty: _,
+            instance_type: _,
+            definitions: _,
+        } = self;
+    }
 }
 
 impl Model for Package {

@@ -12,9 +12,15 @@ use wac_script_entries::{Replacement, add, replace};
 use wac_script_syntax::{Content, EntryName, ScriptError};
 
 /// Collections, each under its own number.
-#[derive(Drop)]
 pub(crate) struct Collections {
     by_number: IndexMap<u64, Types>,
+}
+
+// By hand, as of `Types`.
+impl Drop for Collections {
+    fn drop(self) {
+        let Collections { by_number: _ } = self;
+    }
 }
 
 impl Model for Collections {

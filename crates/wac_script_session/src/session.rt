@@ -13,7 +13,6 @@ use wac_script_entries::Replacement;
 use wac_script_syntax::{Command, Content, ItemCall, Query, ScriptError, read_entry};
 
 /// The collections that a script has built so far, and what its questions share.
-#[derive(Drop)]
 pub struct Session {
     collections: Collections,
     // The number of the collection at hand.
@@ -25,6 +24,20 @@ pub struct Session {
     calls: Vec<ItemCall>,
     // How many queries of the script have been answered.
     answered: u64,
+}
+
+// By hand, as of `Types`.
+impl Drop for Session {
+    fn drop(self) {
+        let Session {
+            collections: _,
+            at_hand: _,
+            cache: _,
+            shares_cache: _,
+            calls: _,
+            answered: _,
+        } = self;
+    }
 }
 
 impl Session {

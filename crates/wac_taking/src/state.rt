@@ -9,7 +9,7 @@ use wac_mismatch::SubtypeCheck;
 use wac_names::NameClass;
 
 /// The own collection, and what stands in it for what.
-#[derive(Debug, Drop)]
+#[derive(Debug)]
 pub struct Merging {
     /// The own collection.
     pub types: Types,
@@ -25,6 +25,21 @@ pub struct Merging {
     pub check: SubtypeCheck,
     /// The identifier of the interface that was handed in, if it is one that has an identifier.
     pub handed_in: Option<String>,
+}
+
+// By hand, as of `Types`.
+impl Drop for Merging {
+    fn drop(self) {
+        let Merging {
+            types: _,
+            shared: _,
+            imports: _,
+            taken: _,
+            copies: _,
+            check: _,
+            handed_in: _,
+        } = self;
+    }
 }
 
 impl Merging {

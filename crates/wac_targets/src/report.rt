@@ -19,11 +19,22 @@ pub type TargetValidationResult = Result<(), TargetValidationReport>;
 
 /// What a component imports that a target world doesn't have, what it lacks of the world's exports,
 /// and what of both it has otherwise than the world asks.
-#[derive(Debug, Drop)]
+#[derive(Debug)]
 pub struct TargetValidationReport {
     pub(crate) imports_not_in_target: BTreeSet<String>,
     pub(crate) missing_exports: BTreeMap<String, ItemKind>,
     pub(crate) mismatched_types: BTreeMap<String, (ExternKind, SubtypeError)>,
+}
+
+// By hand, as of `Types`.
+impl Drop for TargetValidationReport {
+    fn drop(self) {
+        let TargetValidationReport {
+            imports_not_in_target: _,
+            missing_exports: _,
+            mismatched_types: _,
+        } = self;
+    }
 }
 
 impl TargetValidationReport {
