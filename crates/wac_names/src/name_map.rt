@@ -28,11 +28,21 @@ use std::hash::Hash;
 ///
 /// It stands for a list of pairs of a name and a value under an interner's function: use one interner
 /// with it. What an interner is given later changes nothing in the map.
-#[derive(Debug, Drop)]
+#[derive(Debug)]
 pub struct NameMap<K: Eq + Hash, V> {
     definitions: IndexMap<K, V>,
     // For each track the key of the name with the greatest version, and that version.
     alternate_lookups: IndexMap<K, (K, Version)>,
+}
+
+// By hand, since the map is large and hides its fields: who drops one has not to spell them out.
+impl<K: Eq + Hash + Drop, V: Drop> Drop for NameMap<K, V> {
+    fn drop(self) {
+        let NameMap {
+            definitions: _,
+            alternate_lookups: _,
+        } = self;
+    }
 }
 
 // Whether a version comes before another.
