@@ -38,7 +38,7 @@ pub(crate) fn put_interface(
     };
     let class = NameClass::of(state.alloc(), name.as_str())?;
     match state.shared.get(&class).copied() {
-        Some(own) => grow(state, types, id, own, name, uses, exports),
+        Some(own) => grow(state, types, id, own, name, uses, &exports),
         None => put_shared(state, types, id, class, name, uses, exports),
     }
 }

@@ -67,12 +67,12 @@ pub(crate) fn grow(
     own: InterfaceId,
     name: String,
     uses: IndexMap<String, UsedType>,
-    exports: IndexMap<String, ItemKind>,
+    exports: &IndexMap<String, ItemKind>,
 ) -> Result<InterfaceId, AggregateError>
     requires state { MayTake types.now state.old }
     requires identified { identifier_at types.now (interface_key id) ≡ Some (string_bytes name) }
     requires shared { shared_in state.old.shared.entries (class_of (string_bytes name)) ≡ Some own }
-    requires taken { MayPut types.now state.old id (named use_content uses.entries) (named (λ k. k) exports.entries) }
+    requires taken { MayPut types.now state.old id (named use_content uses.entries) (named (λ k. k) exports.now.entries) }
     ensures taken { MatchResult result (λ r. Takes types.now state.old state.new (height types.now (interface_key id)) (interface_key id ∷ []) (λ t. IsTakenKey class_of types.now t (interface_key id) (interface_key r))) (IsRefused types.now state.old (interface_key id ∷ [])) }
     ensures members { AnswersMembers result types.now state.old state.new (ReachesByUses types.now id) }
 {
@@ -83,13 +83,7 @@ pub(crate) fn grow(
     check_uses(alloc, &state.types, &entry.uses, &uses)?;
     add_new(&mut entry.uses, uses)?;
     let place = place_of(state, &name)?;
-    meet_exports(
-        alloc,
-        &place,
-        &mut state.types,
-        &mut entry.exports,
-        &exports,
-    )?;
+    meet_exports(alloc, &place, &mut state.types, &mut entry.exports, exports)?;
     // So it does in the maps that were added to.
     names_in_an_interface_are_distinct(&entry);
     replace(&mut state.types, own, entry, name)?;

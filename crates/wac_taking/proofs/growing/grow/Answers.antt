@@ -24,7 +24,7 @@ check_uses-requires c =
     let types = c.args.state.now.types in
     let old = interface_content c.in_ok-entry.entry in
     let us = named use_content c.args.uses.entries in
-    let es = extern_list c.args.exports in
+    let es = extern_list c.args.exports.now in
     record {
       existing = Each-left (Stands types) (named_keys use_keys old.uses) (extern_keys old.exports) (subst (λ i. AllStand types (interface_keys i)) (sym c.in_ok-entry.ensures.cases) c.index.ensures.standing);
       new = Each-left (Stands types) (named_keys use_keys us) (extern_keys es) (interface_named class_of c.args.types.now (state_of c.args.state.now) c.requires.state.kept c.args.id c.requires.taken.content _ c.requires.taken.taken);
@@ -35,7 +35,7 @@ meet_exports-requires c =
     let types = c.args.state.now.types in
     let old = interface_content c.in_ok-entry.entry in
     let us = named use_content c.args.uses.entries in
-    let es = extern_list c.args.exports in
+    let es = extern_list c.args.exports.now in
     record {
       existing = Each-right (Stands types) (named_keys use_keys old.uses) (extern_keys old.exports) (subst (λ i. AllStand types (interface_keys i)) (sym c.in_ok-entry.ensures.cases) c.index.ensures.standing);
       new = Each-right (Stands types) (named_keys use_keys us) (extern_keys es) (interface_named class_of c.args.types.now (state_of c.args.state.now) c.requires.state.kept c.args.id c.requires.taken.content _ c.requires.taken.taken);
@@ -50,8 +50,8 @@ replace-requires c =
     let stand = subst (λ i. AllStand a.types (interface_keys i)) (sym c.in_ok-entry.ensures.cases) c.index.ensures.standing in
     let uses = with_new_named c.in_ok-entry.entry.uses.entries c.args.uses.entries c.add_new.new.first.entries c.in_ok-add_new.ensures.entries in
     record {
-      own = still_stands c.args.types.now a c.requires.state c.args.id c.args.own (string_bytes c.args.name) (named use_content c.args.uses.entries) (extern_list c.args.exports) c.requires.taken c.requires.identified c.requires.shared old new was stand refl uses c.meet_exports.new.types c.in_ok-meet_exports.ensures.met;
-      named = new_named c.args.types.now a c.requires.state c.args.id c.args.own (string_bytes c.args.name) (named use_content c.args.uses.entries) (extern_list c.args.exports) c.requires.taken c.requires.identified c.requires.shared old new was stand refl uses c.meet_exports.new.types c.in_ok-meet_exports.ensures.met;
+      own = still_stands c.args.types.now a c.requires.state c.args.id c.args.own (string_bytes c.args.name) (named use_content c.args.uses.entries) (extern_list c.args.exports.now) c.requires.taken c.requires.identified c.requires.shared old new was stand refl uses c.meet_exports.new.types c.in_ok-meet_exports.ensures.met;
+      named = new_named c.args.types.now a c.requires.state c.args.id c.args.own (string_bytes c.args.name) (named use_content c.args.uses.entries) (extern_list c.args.exports.now) c.requires.taken c.requires.identified c.requires.shared old new was stand refl uses c.meet_exports.new.types c.in_ok-meet_exports.ensures.met;
     }
 
 pub returns-clause-taken : goal.returns-clause-taken
@@ -62,7 +62,7 @@ returns-clause-taken c =
     let was = c.index.ensures.entry ∙ ap Some (sym c.in_ok-entry.ensures.cases) in
     let stand = subst (λ i. AllStand a.types (interface_keys i)) (sym c.in_ok-entry.ensures.cases) c.index.ensures.standing in
     let uses = with_new_named c.in_ok-entry.entry.uses.entries c.args.uses.entries c.add_new.new.first.entries c.in_ok-add_new.ensures.entries in
-    Takes-grown c.args.types.now a c.requires.state c.args.id c.args.own (string_bytes c.args.name) (named use_content c.args.uses.entries) (extern_list c.args.exports) c.requires.taken c.requires.identified c.requires.shared old new was stand refl uses c.meet_exports.new.types c.in_ok-meet_exports.ensures.met
+    Takes-grown c.args.types.now a c.requires.state c.args.id c.args.own (string_bytes c.args.name) (named use_content c.args.uses.entries) (extern_list c.args.exports.now) c.requires.taken c.requires.identified c.requires.shared old new was stand refl uses c.meet_exports.new.types c.in_ok-meet_exports.ensures.met
     (ap (named use_content) c.in_ok-add_new.ensures.entries ∙ uses_put c.in_ok-entry.entry.uses.entries c.args.uses.entries) c.meet_exports.ensures.found (found_among (extern_list c.meet_exports.new.existing) c.names_in_an_interface_are_distinct-2.ensures.1)
     c.replace.new.types c.put_interface.new.self c.in_ok-replace.ensures.acyclic c.in_ok-replace.ensures.grown (c.in_ok-put_interface.ensures c.requires.taken.absent)
 
@@ -72,7 +72,7 @@ returns-in_err-check_uses-clause-taken c =
     let old = interface_content c.in_ok-entry.entry in
     let was = c.index.ensures.entry ∙ ap Some (sym c.in_ok-entry.ensures.cases) in
     passed_on c.from_residual-in_err-check_uses.result _ _ c.in_err-check_uses.field-0.0 c.from_residual-in_err-check_uses.ensures
-    (grown_uses_refused c.args.types.now a c.requires.state c.args.id c.args.own (string_bytes c.args.name) (named use_content c.args.uses.entries) (extern_list c.args.exports) c.requires.taken c.requires.identified c.requires.shared old was _ c.in_err-check_uses.ensures)
+    (grown_uses_refused c.args.types.now a c.requires.state c.args.id c.args.own (string_bytes c.args.name) (named use_content c.args.uses.entries) (extern_list c.args.exports.now) c.requires.taken c.requires.identified c.requires.shared old was _ c.in_err-check_uses.ensures)
 
 pub returns-in_err-meet_exports-clause-taken : goal.returns-in_err-meet_exports-clause-taken
 returns-in_err-meet_exports-clause-taken c =
@@ -80,7 +80,7 @@ returns-in_err-meet_exports-clause-taken c =
     let old = interface_content c.in_ok-entry.entry in
     let was = c.index.ensures.entry ∙ ap Some (sym c.in_ok-entry.ensures.cases) in
     passed_on c.from_residual-in_err-meet_exports.result _ _ c.in_err-meet_exports.field-0.0 c.from_residual-in_err-meet_exports.ensures
-    (grown_items_refused c.args.types.now a c.requires.state c.args.id c.args.own (string_bytes c.args.name) (named use_content c.args.uses.entries) (extern_list c.args.exports) c.requires.taken c.requires.identified c.requires.shared old was _ c.meet_exports.ensures.found c.in_err-meet_exports.ensures.met)
+    (grown_items_refused c.args.types.now a c.requires.state c.args.id c.args.own (string_bytes c.args.name) (named use_content c.args.uses.entries) (extern_list c.args.exports.now) c.requires.taken c.requires.identified c.requires.shared old was _ c.meet_exports.ensures.found c.in_err-meet_exports.ensures.met)
 
 pub returns-in_err-replace-clause-taken : goal.returns-in_err-replace-clause-taken
 returns-in_err-replace-clause-taken c =
@@ -91,7 +91,7 @@ returns-in_err-replace-clause-taken c =
     let stand = subst (λ i. AllStand a.types (interface_keys i)) (sym c.in_ok-entry.ensures.cases) c.index.ensures.standing in
     let uses = with_new_named c.in_ok-entry.entry.uses.entries c.args.uses.entries c.add_new.new.first.entries c.in_ok-add_new.ensures.entries in
     passed_on c.from_residual-in_err-replace.result _ _ c.in_err-replace.field-0.0 c.from_residual-in_err-replace.ensures
-    (λ ne. grown_cycle_refused c.args.types.now a c.requires.state c.args.id c.args.own (string_bytes c.args.name) (named use_content c.args.uses.entries) (extern_list c.args.exports) c.requires.taken c.requires.identified c.requires.shared old was new stand refl uses c.meet_exports.new.types c.in_ok-meet_exports.ensures.met
+    (λ ne. grown_cycle_refused c.args.types.now a c.requires.state c.args.id c.args.own (string_bytes c.args.name) (named use_content c.args.uses.entries) (extern_list c.args.exports.now) c.requires.taken c.requires.identified c.requires.shared old was new stand refl uses c.meet_exports.new.types c.in_ok-meet_exports.ensures.met
     (ap (named use_content) c.in_ok-add_new.ensures.entries ∙ uses_put c.in_ok-entry.entry.uses.entries c.args.uses.entries) c.meet_exports.ensures.found (found_among (extern_list c.meet_exports.new.existing) c.names_in_an_interface_are_distinct-2.ensures.1)
     (c.in_err-replace.ensures.cycle ne).0 _ (c.in_err-replace.ensures.cycle ne).1 ne)
 
@@ -108,9 +108,9 @@ returns-clause-members c = λ taken wit has all.
     let was = c.index.ensures.entry ∙ ap Some (sym c.in_ok-entry.ensures.cases) in
     let stand = subst (λ i. AllStand a.types (interface_keys i)) (sym c.in_ok-entry.ensures.cases) c.index.ensures.standing in
     let uses = with_new_named c.in_ok-entry.entry.uses.entries c.args.uses.entries c.add_new.new.first.entries c.in_ok-add_new.ensures.entries in
-    TakesMembers-grown c.args.types.now a c.requires.state c.args.id c.args.own (string_bytes c.args.name) (named use_content c.args.uses.entries) (extern_list c.args.exports) c.requires.taken c.requires.identified c.requires.shared taken wit has old was new stand refl uses c.meet_exports.new.types c.in_ok-meet_exports.ensures.met
+    TakesMembers-grown c.args.types.now a c.requires.state c.args.id c.args.own (string_bytes c.args.name) (named use_content c.args.uses.entries) (extern_list c.args.exports.now) c.requires.taken c.requires.identified c.requires.shared taken wit has old was new stand refl uses c.meet_exports.new.types c.in_ok-meet_exports.ensures.met
     (ap (named use_content) c.in_ok-add_new.ensures.entries ∙ uses_put c.in_ok-entry.entry.uses.entries c.args.uses.entries) c.in_ok-check_uses.ensures c.names_in_an_interface_are_distinct-2.ensures.0 (found_among (extern_list c.meet_exports.new.existing) c.names_in_an_interface_are_distinct-2.ensures.1)
-    (new_named c.args.types.now a c.requires.state c.args.id c.args.own (string_bytes c.args.name) (named use_content c.args.uses.entries) (extern_list c.args.exports) c.requires.taken c.requires.identified c.requires.shared old new was stand refl uses c.meet_exports.new.types c.in_ok-meet_exports.ensures.met)
+    (new_named c.args.types.now a c.requires.state c.args.id c.args.own (string_bytes c.args.name) (named use_content c.args.uses.entries) (extern_list c.args.exports.now) c.requires.taken c.requires.identified c.requires.shared old new was stand refl uses c.meet_exports.new.types c.in_ok-meet_exports.ensures.met)
     c.in_ok-replace.ensures.acyclic c.replace.new.types c.put_interface.new.self c.in_ok-replace.ensures.grown (c.in_ok-put_interface.ensures c.requires.taken.absent)
 
 pub returns-in_err-check_uses-clause-members : goal.returns-in_err-check_uses-clause-members
@@ -118,14 +118,14 @@ returns-in_err-check_uses-clause-members c = λ taken wit has all.
     let old = interface_content c.in_ok-entry.entry in
     let was = c.index.ensures.entry ∙ ap Some (sym c.in_ok-entry.ensures.cases) in
     passed_on c.from_residual-in_err-check_uses.result _ _ c.in_err-check_uses.field-0.0 c.from_residual-in_err-check_uses.ensures
-    (member_uses_refused c.args.types.now c.args.state.now c.requires.state c.args.id c.args.own (string_bytes c.args.name) (named use_content c.args.uses.entries) (extern_list c.args.exports) c.requires.taken c.requires.identified c.requires.shared taken wit has old was c.names_in_an_interface_are_distinct.ensures.0 _ c.in_err-check_uses.ensures)
+    (member_uses_refused c.args.types.now c.args.state.now c.requires.state c.args.id c.args.own (string_bytes c.args.name) (named use_content c.args.uses.entries) (extern_list c.args.exports.now) c.requires.taken c.requires.identified c.requires.shared taken wit has old was c.names_in_an_interface_are_distinct.ensures.0 _ c.in_err-check_uses.ensures)
 
 pub returns-in_err-meet_exports-clause-members : goal.returns-in_err-meet_exports-clause-members
 returns-in_err-meet_exports-clause-members c = λ taken wit has all.
     let old = interface_content c.in_ok-entry.entry in
     let was = c.index.ensures.entry ∙ ap Some (sym c.in_ok-entry.ensures.cases) in
     passed_on c.from_residual-in_err-meet_exports.result _ _ c.in_err-meet_exports.field-0.0 c.from_residual-in_err-meet_exports.ensures
-    (member_items_refused c.args.types.now c.args.state.now c.requires.state c.args.id c.args.own (string_bytes c.args.name) (named use_content c.args.uses.entries) (extern_list c.args.exports) c.requires.taken c.requires.identified c.requires.shared taken wit has old was c.meet_exports.ensures.found _ c.in_err-meet_exports.ensures.met)
+    (member_items_refused c.args.types.now c.args.state.now c.requires.state c.args.id c.args.own (string_bytes c.args.name) (named use_content c.args.uses.entries) (extern_list c.args.exports.now) c.requires.taken c.requires.identified c.requires.shared taken wit has old was c.meet_exports.ensures.found _ c.in_err-meet_exports.ensures.met)
 
 pub returns-in_err-replace-clause-members : goal.returns-in_err-replace-clause-members
 returns-in_err-replace-clause-members c = λ taken wit has all.
@@ -136,7 +136,7 @@ returns-in_err-replace-clause-members c = λ taken wit has all.
     let stand = subst (λ i. AllStand a.types (interface_keys i)) (sym c.in_ok-entry.ensures.cases) c.index.ensures.standing in
     let uses = with_new_named c.in_ok-entry.entry.uses.entries c.args.uses.entries c.add_new.new.first.entries c.in_ok-add_new.ensures.entries in
     passed_on c.from_residual-in_err-replace.result _ _ c.in_err-replace.field-0.0 c.from_residual-in_err-replace.ensures
-    (member_cycle_refused c.args.types.now a c.requires.state c.args.id c.args.own (string_bytes c.args.name) (named use_content c.args.uses.entries) (extern_list c.args.exports) c.requires.taken c.requires.identified c.requires.shared taken wit has old was new stand refl uses c.meet_exports.new.types c.in_ok-meet_exports.ensures.met
+    (member_cycle_refused c.args.types.now a c.requires.state c.args.id c.args.own (string_bytes c.args.name) (named use_content c.args.uses.entries) (extern_list c.args.exports.now) c.requires.taken c.requires.identified c.requires.shared taken wit has old was new stand refl uses c.meet_exports.new.types c.in_ok-meet_exports.ensures.met
     _ (λ ne. (c.in_err-replace.ensures.cycle ne).0))
 
 pub returns-in_err-put_interface-clause-members : goal.returns-in_err-put_interface-clause-members
