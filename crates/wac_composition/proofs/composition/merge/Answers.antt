@@ -4,8 +4,8 @@ use Rattle.wac_composition.proofs.composition.merge.Goals as goal
 
 pub aggregate_all-requires-clause-one : goal.aggregate_all-requires-clause-one
 aggregate_all-requires-clause-one c =
-    AreCallsOf-one c.args.graph.now (handed_in c.in_ok-calls.calls.items) c.in_ok-calls.ensures
+    rw c.deref.ensures.value (AreCallsOf-one c.args.graph.now (handed_in c.in_ok-calls.calls.items) c.in_ok-calls.ensures)
 
 pub aggregate_all-requires-clause-apart : goal.aggregate_all-requires-clause-apart
 aggregate_all-requires-clause-apart c =
-    AreCallsOf-apart c.args.graph.now (handed_in c.in_ok-calls.calls.items) c.in_ok-calls.ensures
+    rw c.deref.ensures.value (AreCallsOf-apart c.args.graph.now (handed_in c.in_ok-calls.calls.items) c.in_ok-calls.ensures)
