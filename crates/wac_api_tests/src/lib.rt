@@ -12,6 +12,8 @@ mod first_use;
 #[cfg(test)]
 mod name_maps;
 #[cfg(test)]
+mod opened;
+#[cfg(test)]
 mod packages;
 #[cfg(test)]
 mod programs;

@@ -10,3 +10,13 @@ pub mod Lookups
 pub mod ExternLemmas
 pub mod CoreLemmas
 pub mod CacheGrowth
+pub mod PartLemmas
+pub mod PairLemmas
+pub mod FuncPartLemmas
+pub mod StepLemmas
+pub mod CountLemmas
+pub mod ItemPartLemmas
+pub mod ExternPartLemmas
+pub mod KnownLemmas
+pub mod OneLemmas
+pub mod FittingLemmas

@@ -1,5 +1,9 @@
 pub mod Content
+pub mod Parts
+pub mod Pairs
+pub mod Steps
 pub mod Items
+pub mod Known
 pub mod Verdict
 pub mod Externs
 pub mod Cache

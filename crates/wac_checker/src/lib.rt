@@ -4,10 +4,15 @@
 pub(crate) mod cache;
 pub mod checker;
 pub(crate) mod composites;
+pub(crate) mod fitting;
+pub(crate) mod frames;
 pub(crate) mod functions;
 pub(crate) mod items;
+pub(crate) mod known;
 pub mod laws;
 pub(crate) mod leaves;
+pub(crate) mod pairs;
+pub(crate) mod steps;
 pub(crate) mod values;
 
 pub use checker::SubtypeChecker;

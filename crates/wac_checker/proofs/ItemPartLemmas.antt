@@ -1,0 +1,123 @@
+-- What is left to compare of two items.
+use Rattle.std.proofs.lemmas.Grind.{common_steps}
+use Rattle.std.proofs.Common.{◌≡◌, ◌==◌, ◌&&◌, Bool, true, false, refl, ap, sym, subst, ◌∙◌, arith}
+use Rattle.std.specs.Prelude.{Result, MatchResult, Ok, Err}
+use Rattle.wac_model.specs.ItemTree.{Kind, leaf, value, item, type_item}
+use Rattle.wac_model.specs.Order.{Fits}
+use Rattle.wac_model.proofs.ItemOrder.{Fits-refl}
+use Rattle.wac_component.specs.Id.{Id}
+use Rattle.wac_component.specs.Collection.{Collection}
+use Rattle.wac_component.specs.Key.{Key, Stands, value_keys, item_keys, func_key, interface_key, world_key, module_key}
+use Rattle.wac_component.specs.Tree.{value_tree, item_tree}
+use Rattle.wac_component.specs.declared.items.ItemKind.{ItemKind}
+use Rattle.wac_component.specs.declared.items.ItemKind.TheVariants.{«Type» as OfType, Func, Instance, Component, Module}
+use Rattle.wac_component.specs.declared.items.ValueType.{ValueType}
+use Rattle.wac_component.specs.declared.items.ValueType.TheVariants.{Defined}
+use Rattle.wac_component.specs.declared.items.Type.TheVariants.{Func as TypeFunc, Interface as TypeInterface, World as TypeWorld, Module as TypeModule}
+use Rattle.wac_mismatch.specs.Place.{item_side}
+use Rattle.wac_mismatch.specs.Path.{Explains}
+use Rattle.wac_mismatch.specs.declared.check.SubtypeCheck.{SubtypeCheck}
+use Rattle.wac_mismatch.specs.declared.error.SubtypeError.{SubtypeError}
+use Rattle.std.proofs.lemmas.Result.{MatchResult-weaker}
+use Rattle.wac_mismatch.specs.declared.error.SubtypeError.TheVariants.{Mismatch, Memory}
+use Rattle.wac_checker.specs.Verdict.{IsItemVerdict}
+use Rattle.wac_checker.specs.declared.pairs.EntryPair.{EntryPair}
+use Rattle.wac_checker.specs.Pairs.{PairFits, PairStands, ExplainsPair, ExplainsEntries, AreValuesCompared, AreItemsCompared, AreLeftUnless, AreOf, AreOfItems}
+use Rattle.wac_checker.specs.declared.pairs.Entries.{Entries}
+use Rattle.wac_checker.specs.declared.pairs.Entries.TheVariants.{DefinedTypes, Funcs, Interfaces, Worlds, Modules}
+use Rattle.wac_checker.specs.declared.pairs.Part.{Part}
+use Rattle.wac_checker.specs.declared.pairs.Part.TheVariants.{End, Same, Below, Differs}
+use Rattle.wac_checker.proofs.ItemLemmas.{equal_leaves, explains_values, values_path}
+
+-- ---- items that are those of entries
+
+pub of_funcs : (c d : Collection) (a b : Id) → Stands c (func_key a) → Stands d (func_key b) → AreOfItems c d (Func a) (Func b) (Funcs a b)
+of_funcs c d a b h k = record { stand = (h, k, tt); left_lower = omega arith; right_lower = omega arith; enough = λ fits. fits item; leads = λ check gs g path. path item }
+
+pub of_interfaces : (c d : Collection) (a b : Id) → Stands c (interface_key a) → Stands d (interface_key b) → AreOfItems c d (Instance a) (Instance b) (Interfaces a b)
+of_interfaces c d a b h k = record { stand = (h, k, tt); left_lower = omega arith; right_lower = omega arith; enough = λ fits. fits item; leads = λ check gs g path. path item }
+
+pub of_worlds : (c d : Collection) (a b : Id) → Stands c (world_key a) → Stands d (world_key b) → AreOfItems c d (Component a) (Component b) (Worlds a b)
+of_worlds c d a b h k = record { stand = (h, k, tt); left_lower = omega arith; right_lower = omega arith; enough = λ fits. fits item; leads = λ check gs g path. path item }
+
+pub of_modules : (c d : Collection) (a b : Id) → Stands c (module_key a) → Stands d (module_key b) → AreOfItems c d (Module a) (Module b) (Modules a b)
+of_modules c d a b h k = record { stand = (h, k, tt); left_lower = omega arith; right_lower = omega arith; enough = λ fits. fits item; leads = λ check gs g path. path item }
+
+-- and the types of such
+
+pub types_of_funcs : (c d : Collection) (a b : Id) → Stands c (func_key a) → Stands d (func_key b) → AreOfItems c d (OfType (TypeFunc a)) (OfType (TypeFunc b)) (Funcs a b)
+types_of_funcs c d a b h k = record { stand = (h, k, tt); left_lower = omega arith; right_lower = omega arith; enough = λ fits. fits type_item; leads = λ check gs g path. path type_item }
+
+pub types_of_interfaces : (c d : Collection) (a b : Id) → Stands c (interface_key a) → Stands d (interface_key b) → AreOfItems c d (OfType (TypeInterface a)) (OfType (TypeInterface b)) (Interfaces a b)
+types_of_interfaces c d a b h k = record { stand = (h, k, tt); left_lower = omega arith; right_lower = omega arith; enough = λ fits. fits type_item; leads = λ check gs g path. path type_item }
+
+pub types_of_worlds : (c d : Collection) (a b : Id) → Stands c (world_key a) → Stands d (world_key b) → AreOfItems c d (OfType (TypeWorld a)) (OfType (TypeWorld b)) (Worlds a b)
+types_of_worlds c d a b h k = record { stand = (h, k, tt); left_lower = omega arith; right_lower = omega arith; enough = λ fits. fits type_item; leads = λ check gs g path. path type_item }
+
+pub types_of_modules : (c d : Collection) (a b : Id) → Stands c (module_key a) → Stands d (module_key b) → AreOfItems c d (OfType (TypeModule a)) (OfType (TypeModule b)) (Modules a b)
+types_of_modules c d a b h k = record { stand = (h, k, tt); left_lower = omega arith; right_lower = omega arith; enough = λ fits. fits type_item; leads = λ check gs g path. path type_item }
+
+-- ---- what is left of two items
+
+-- one item of one collection fits itself
+pub one_fits : (c d : Collection) (x y : ItemKind) (j k : Key) → (c.number ≡ d.number → c ≡ d) → Stands c j → Stands d k → x ≡ y → j ≡ k → Fits (item_tree c x) (item_tree d y)
+one_fits c d x y j k one h m same keys =
+    let numbers : c.number ≡ d.number = sym h.0 ∙ ap (λ (q : Key). q.id.number) keys ∙ m.0 in
+    rw (one numbers, same) (Fits-refl (item_tree d y))
+
+module _ (check : SubtypeCheck) (c d : Collection) (x y : ItemKind) where
+  pub items_left : (b : Bool) (e : Entries) (p : Part) → (b ≡ true → Fits (item_tree c x) (item_tree d y)) → AreOfItems c d x y e → AreLeftUnless b e p → AreItemsCompared check c d x y p
+  items_left true e p same of h = rw h (same refl)
+  items_left false e (Below q) same of h = (h.0, subst (λ (f : Entries). AreOfItems c d x y f) (sym h.1) of)
+  items_left false e _ same of h = elim h [ ]
+
+  -- of leaves
+  pub leaf_found : (r : Result (Unit {0}) SubtypeError) (p : Part) → MatchResult r (λ _. Fits (item_tree c x) (item_tree d y)) (λ e. Explains e check (item_side (item_tree c x)) (item_side (item_tree d y))) → MatchResult r (λ _. p ≡ Same) (λ e. p ≡ Differs e) → AreItemsCompared check c d x y p
+  leaf_found (Ok u) p h is = rw is h
+  leaf_found (Err e) p h is = rw is h
+
+pub ids_same : (a b : Id) (t : Bool) → t ≡ (a.number == b.number && a.index == b.index) → t ≡ true → a ≡ b
+ids_same a b t e h =
+    let numbers : a.number ≡ b.number = grind (arith, common_steps) in
+    let indices : a.index ≡ b.index = grind (arith, common_steps) in
+    λ i. record { number = numbers i; index = indices i }
+
+-- of what two ids name
+pub ids_found : (check : SubtypeCheck) (c d : Collection) (a b : Id) (made : Id → ItemKind) (key : Id → Key) (e : Entries) (t : Bool) (p : Part) → (c.number ≡ d.number → c ≡ d) → Stands c (key a) → Stands d (key b) → AreOfItems c d (made a) (made b) e → t ≡ (a.number == b.number && a.index == b.index) → AreLeftUnless t e p → AreItemsCompared check c d (made a) (made b) p
+ids_found check c d a b made key e t p one h k of test left =
+    items_left check c d (made a) (made b) t e p (λ yes. let same = ids_same a b t test yes in one_fits c d (made a) (made b) (key a) (key b) one h k (ap made same) (ap key same)) of left
+
+module _ (check : SubtypeCheck) (c d : Collection) (x y : ItemKind) (k : Kind) (v w : ValueType)
+    (left : item_tree c x ≡ leaf k (value (value_tree c v))) (right : item_tree d y ≡ leaf k (value (value_tree d w))) (left_keys : item_keys x ≡ value_keys v) (right_keys : item_keys y ≡ value_keys w) where
+  of_values : (e : Entries) → AreOf c d v w e → AreOfItems c d x y e
+  of_values (DefinedTypes a b) h = record {
+    stand = h.2;
+    left_lower = rw left_keys h.3;
+    right_lower = rw right_keys h.4;
+    enough = λ fits. rw (left, right, h.0, h.1) (equal_leaves k (value (value_tree c (Defined a))) (value (value_tree d (Defined b))) (ap value (fits k)));
+    leads = λ check gs g path. rw (left, right, h.0, h.1) (values_path gs g check k (value_tree c (Defined a)) (value_tree d (Defined b)) (path k));
+  }
+  of_values (Funcs a b) h = elim h [ ]
+  of_values (Interfaces a b) h = elim h [ ]
+  of_values (Worlds a b) h = elim h [ ]
+  of_values (Modules a b) h = elim h [ ]
+
+  -- of values
+  pub values_found : (p : Part) → AreValuesCompared check c d v w p → AreItemsCompared check c d x y p
+  values_found End h = elim h [ ]
+  values_found Same h = rw (left, right) (equal_leaves k (value (value_tree c v)) (value (value_tree d w)) (ap value h))
+  values_found (Below q) h = (h.0, of_values q.entries h.1)
+  values_found (Differs e) h = rw (left, right) (explains_values e check k (value_tree c v) (value_tree d w) h)
+
+-- ---- what is found of the pair of two items is found of these
+
+module _ (check : SubtypeCheck) (c d : Collection) (x y : ItemKind) (q : EntryPair) (straight : q.swapped ≡ false) (of : AreOfItems c d x y q.entries) where
+  pub pair_stands : PairStands c d q
+  pair_stands = rw straight of.stand
+
+  item_explained : (e : SubtypeError) → ExplainsEntries check c d q.entries e → Explains e check (item_side (item_tree c x)) (item_side (item_tree d y))
+  item_explained (Mismatch frames f) h = of.leads check frames.items f h
+  item_explained Memory h = tt
+
+  pub item_answer : (r : Result (Unit {0}) SubtypeError) → MatchResult r (λ _. PairFits c d q) (ExplainsPair check c d q) → IsItemVerdict r check (item_tree c x) (item_tree d y)
+  item_answer r h = let straight_answer = rw straight at h in MatchResult-weaker r straight_answer (λ _ fits. of.enough fits) item_explained

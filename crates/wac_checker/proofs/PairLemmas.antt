@@ -1,0 +1,131 @@
+-- Pairs: when two are one, and what is found of their parts.
+use Rattle.std.specs.List.{list_any, Contains}
+use Rattle.std.proofs.lemmas.Map.Views.{Contains-from_any}
+use Rattle.std.proofs.Common.{◌≡◌, ◌||◌, ◌++◌, if◌then◌else◌, ℕ, zero, suc, List, [], ◌∷◌, Bool, true, false, Some, refl, ap, sym, subst, ◌∙◌, arith, rules}
+use Rattle.std.specs.Prelude.{Result, MatchResult, IfOk, Ok, Err}
+use Rattle.std.specs.declared.alloc.AllocError.{AllocError}
+use Rattle.wac_mismatch.specs.declared.frame.Frame.{Frame}
+use Rattle.wac_mismatch.specs.declared.error.SubtypeError.TheVariants.{Memory}
+use Rattle.wac_model.specs.ValueTree.{ValueTree}
+use Rattle.wac_model.specs.ItemTree.{Kind, Leaf, item, leaf, func}
+use Rattle.wac_component.specs.Id.{Id}
+use Rattle.wac_component.specs.Collection.{Collection}
+use Rattle.wac_component.specs.Height.{height}
+use Rattle.wac_component.specs.Key.{defined_key, func_key}
+use Rattle.wac_component.specs.Tree.{value_tree, func_tree}
+use Rattle.wac_component.specs.declared.items.ValueType.TheVariants.{Defined}
+use Rattle.wac_mismatch.specs.Place.{item_side, value_side, place, turned}
+use Rattle.wac_mismatch.specs.Steps.{IsUnder}
+use Rattle.wac_mismatch.proofs.PathLemmas.{explains_under}
+use Rattle.wac_mismatch.specs.declared.check.SubtypeCheck.{SubtypeCheck}
+use Rattle.wac_mismatch.specs.declared.check.SubtypeCheck.TheVariants.{Covariant, Contravariant}
+use Rattle.wac_mismatch.specs.declared.error.SubtypeError.{SubtypeError}
+use Rattle.wac_checker.proofs.ItemLemmas.{equal_leaves}
+use Rattle.wac_checker.specs.Pairs.{HaveAt, IsValuePart, IsBelow, IsBelowPair, IsEntriesPart, ExplainsEntries, HasPart, left_of, right_of, placed}
+use Rattle.wac_checker.specs.Steps.{IsFound}
+use Rattle.wac_checker.specs.declared.pairs.Found.TheVariants.{Known, New}
+use Rattle.wac_checker.specs.declared.pairs.Entries.{Entries}
+use Rattle.wac_checker.specs.declared.pairs.Entries.TheVariants.{DefinedTypes, Funcs, Interfaces, Worlds, Modules}
+use Rattle.wac_checker.specs.declared.pairs.EntryPair.{EntryPair}
+use Rattle.wac_checker.specs.declared.pairs.Part.{Part}
+use Rattle.wac_checker.specs.declared.pairs.Part.TheVariants.{End, Same, Below, Differs}
+use Rattle.wac_checker.specs.contracts.pairs.EntryPairPartialEq.TheImpl.{ghosts}
+
+-- `==` tells pairs apart
+pub pair_exact : (p q : EntryPair) → ghosts.eq p q ≡ true → p ≡ q
+pair_exact p q h = search rules
+
+pub pair_equal : (p : EntryPair) → ghosts.eq p p ≡ true
+pair_equal p = search rules
+
+or_true : (b : Bool) → (b || true) ≡ true
+or_true true = refl
+or_true false = refl
+
+-- a pair of a list is found there
+pub pair_found : (q : EntryPair) (ps : List EntryPair) → Contains ps q → list_any (ghosts.eq q) ps ≡ true
+pair_found q [] m = absurd (omega (arith, m.1))
+pair_found q (p ∷ ps) (zero, l, e) = rw (e, pair_equal q) refl
+pair_found q (p ∷ ps) (suc i, l, e) = rw (pair_found q ps (i, omega (arith, l), e)) (or_true (ghosts.eq q p))
+
+turned_twice : (check : SubtypeCheck) → turned (turned check) ≡ check
+turned_twice Covariant = refl
+turned_twice Contravariant = refl
+
+leaf_one : (k : Kind) (x y : Leaf) → item_side (leaf k x) ≡ item_side (leaf k y) → x ≡ y
+leaf_one k x y h = cc
+
+pub trees_one : (x y : ValueTree) → value_side x ≡ value_side y → x ≡ y
+trees_one x y h = cc
+
+-- what is found of the parts of two defined types is what is found of the two entries
+module _ (check : SubtypeCheck) (c d : Collection) (a b : Id) (i : ℕ) where
+  below_of : (e : Entries) → HaveAt c d (value_side (value_tree c (Defined a))) (value_side (value_tree d (Defined b))) (height c (defined_key a)) (height d (defined_key b)) i e → IsBelow c d (DefinedTypes a b) i (record { entries = e; swapped = false })
+  below_of (DefinedTypes x y) h = record {
+    stand = h.1;
+    lower = omega (arith, h.2, h.3);
+    enough = λ fits. h.0.1 ∙ ap (λ (u : ValueTree). Some (h.0.0, Some u)) (fits item) ∙ sym h.0.2;
+    leads = λ check f is gs g path k. (place check (value_side (value_tree c (Defined x))) (value_side (value_tree d (Defined y))), h.0.3 check f is, path k);
+  }
+  below_of (Funcs x y) h = elim h [ ]
+  below_of (Interfaces x y) h = elim h [ ]
+  below_of (Worlds x y) h = elim h [ ]
+  below_of (Modules x y) h = elim h [ ]
+
+  pub entries_of_defined : (p : Part) → IsValuePart check c d (value_side (value_tree c (Defined a))) (value_side (value_tree d (Defined b))) (height c (defined_key a)) (height d (defined_key b)) i p → IsEntriesPart check c d (DefinedTypes a b) i p
+  entries_of_defined End h = λ fit k. trees_one (value_tree c (Defined a)) (value_tree d (Defined b)) (h fit)
+  entries_of_defined Same h = h
+  entries_of_defined (Below q) h = (h.0, subst (λ (s : Bool). IsBelow c d (DefinedTypes a b) i (record { entries = q.entries; swapped = s })) (sym h.1) (below_of q.entries h.2))
+  entries_of_defined (Differs e) h = (h.0, λ f is s under k. explains_under (λ g. g ≡ f) e s check (value_side (value_tree c (Defined a))) (value_side (value_tree d (Defined b))) (value_side h.1) (value_side h.2) under (λ g same. rw same (h.3.3 check f is)) h.4)
+
+-- and so of two functions
+module _ (check : SubtypeCheck) (c d : Collection) (a b : Id) (i : ℕ) where
+  below_of_func : (e : Entries) → ((k : Kind) → HaveAt c d (item_side (leaf k (func (func_tree c a)))) (item_side (leaf k (func (func_tree d b)))) (height c (func_key a)) (height d (func_key b)) i e) → IsBelow c d (Funcs a b) i (record { entries = e; swapped = false })
+  below_of_func (DefinedTypes x y) h = record {
+    stand = (h item).1;
+    lower = let left = (h item).2 in let right = (h item).3 in omega (arith, left, right);
+    enough = λ fits. (h item).0.1 ∙ ap (λ (u : ValueTree). Some ((h item).0.0, Some u)) (fits item) ∙ sym (h item).0.2;
+    leads = λ check f is gs g path k. (place check (value_side (value_tree c (Defined x))) (value_side (value_tree d (Defined y))), (h k).0.3 check f is, path k);
+  }
+  below_of_func (Funcs x y) h = elim (h item) [ ]
+  below_of_func (Interfaces x y) h = elim (h item) [ ]
+  below_of_func (Worlds x y) h = elim (h item) [ ]
+  below_of_func (Modules x y) h = elim (h item) [ ]
+
+  pub entries_of_func : (p : Part) → ((k : Kind) → IsValuePart check c d (item_side (leaf k (func (func_tree c a)))) (item_side (leaf k (func (func_tree d b)))) (height c (func_key a)) (height d (func_key b)) i p) → IsEntriesPart check c d (Funcs a b) i p
+  entries_of_func End h = λ fit k. equal_leaves k (func (func_tree c a)) (func (func_tree d b)) (leaf_one k (func (func_tree c a)) (func (func_tree d b)) (h k fit))
+  entries_of_func Same h = h item
+  entries_of_func (Below q) h = ((h item).0, subst (λ (s : Bool). IsBelow c d (Funcs a b) i (record { entries = q.entries; swapped = s })) (sym (h item).1) (below_of_func q.entries (λ k. (h k).2)))
+  entries_of_func (Differs e) h = ((h item).0, λ f is s under k. let x = h k in explains_under (λ g. g ≡ f) e s check (item_side (leaf k (func (func_tree c a)))) (item_side (leaf k (func (func_tree d b)))) (value_side x.1) (value_side x.2) under (λ g same. rw same (x.3.3 check f is)) x.4)
+
+-- a pair below two entries, told from the collections of the pair that has them
+pub below_pair : (c d : Collection) (p : EntryPair) (i : ℕ) (q : EntryPair) → IsBelow (left_of c d p.swapped) (right_of c d p.swapped) p.entries i q → IsBelowPair c d p i (placed p.swapped q)
+below_pair c d p i q h = by_cases p.entries q.entries p.swapped q.swapped h
+  where
+    by_cases : (e f : Entries) (s t : Bool) → IsBelow (left_of c d s) (right_of c d s) e i (record { entries = f; swapped = t }) → IsBelowPair c d (record { entries = e; swapped = s }) i (placed s (record { entries = f; swapped = t }))
+    by_cases e f false false h = record { stand = h.stand; lower = h.lower; enough = h.enough; leads = h.leads }
+    by_cases e f false true h = record { stand = h.stand; lower = h.lower; enough = h.enough; leads = h.leads }
+    by_cases e f true false h = record { stand = h.stand; lower = h.lower; enough = h.enough; leads = λ check. h.leads (turned check) }
+    by_cases e f true true h = record { stand = h.stand; lower = h.lower; enough = h.enough; leads = λ check f is gs g path. h.leads (turned check) f is gs g (rw (turned_twice check) path) }
+
+-- what is found of the parts of a pair
+module _ (c d : Collection) (ps : List EntryPair) (p : EntryPair) (i : ℕ) (q : EntryPair) (h : HasPart (left_of c d p.swapped) (right_of c d p.swapped) p.entries i × IsBelow (left_of c d p.swapped) (right_of c d p.swapped) p.entries i q) where
+  pub known_below : Contains ps (placed p.swapped q) → IsFound c d ps p i Known
+  known_below m = let below = below_pair c d p i q h.1 in (h.0, λ all. below.enough (all (placed p.swapped q) m below.lower))
+
+  pub new_below : (Contains ps (placed p.swapped q) → ⊥) → IsFound c d ps p i (New (placed p.swapped q))
+  new_below none = (h.0, none, below_pair c d p i q h.1)
+
+-- a refusal to which a frame was put explains the two that have the parts
+pub framed_explains : (check : SubtypeCheck) (c d : Collection) (e : Entries) (P : Frame → Type 0) (frame : Result Frame AllocError) (r s : SubtypeError) → MatchResult frame (λ f. IsUnder (λ g. g ≡ f) r s) (λ _. s ≡ Memory) → IfOk frame P
+    → ((f : Frame) → P f → (t : SubtypeError) → IsUnder (λ g. g ≡ f) r t → ExplainsEntries check c d e t) → ExplainsEntries check c d e s
+framed_explains check c d e P (Ok f) r s under is explains = explains f is s under
+framed_explains check c d e P (Err x) r s under is explains = λ k. rw under tt
+
+-- a pair that isn't in a list goes last
+pub put_last : (ps : List EntryPair) (p : EntryPair) → (Contains ps p → ⊥) → (if list_any (ghosts.eq p) ps then ps else ps ++ p ∷ []) ≡ ps ++ p ∷ []
+put_last ps p none = by_test (list_any (ghosts.eq p) ps) refl
+  where
+    by_test : (b : Bool) → list_any (ghosts.eq p) ps ≡ b → (if b then ps else ps ++ p ∷ []) ≡ ps ++ p ∷ []
+    by_test true there = absurd (none (Contains-from_any pair_exact p ps there))
+    by_test false there = refl

@@ -1,0 +1,267 @@
+-- Pairs of entries, and what is left to compare of two.
+use Rattle.std.specs.Str.{bytes_eq}
+use Rattle.wac_model.specs.Text.{Text, lookup}
+use Rattle.wac_model.specs.Order.{Fits}
+use Rattle.wac_component.specs.declared.items.ItemKind.{ItemKind}
+use Rattle.std.specs.Prelude.{◌≡◌, ◌+◌, ◌-◌, ◌^◌, ◌<◌, ◌≤◌, ℕ, List, ◌∷◌, length, Bool, true, false, not, Option, Some, None, slice_get}
+use Rattle.wac_model.specs.ValueTree.{ValueTree}
+use Rattle.wac_model.specs.ItemTree.{Kind, item, leaf, core_module, composite, no_items, resource, func, interface, world}
+use Rattle.wac_component.specs.Id.{Id}
+use Rattle.wac_component.specs.Collection.{Collection}
+use Rattle.wac_component.specs.Height.{height, keys_height}
+use Rattle.wac_component.specs.Key.{Key, Sort, func_key, module_key, item_keys, defined_sort, resource_sort, func_sort, interface_sort, world_sort, module_sort, Stands, defined_key, interface_key, world_key, value_keys}
+use Rattle.wac_component.specs.Tree.{item_tree, value_tree, func_tree, module_tree, root_name, externs, IsResolved}
+use Rattle.wac_component.specs.declared.items.ValueType.{ValueType}
+use Rattle.wac_component.specs.declared.items.ValueType.TheVariants.{Defined}
+use Rattle.wac_mismatch.specs.Place.{Side, value_side, item_side, place, turned, SideFits}
+use Rattle.wac_mismatch.specs.Path.{Path, Explains}
+use Rattle.wac_mismatch.specs.Steps.{IsUnder}
+use Rattle.wac_mismatch.specs.declared.check.SubtypeCheck.{SubtypeCheck}
+use Rattle.wac_mismatch.specs.declared.error.SubtypeError.{SubtypeError}
+use Rattle.wac_mismatch.specs.declared.fault.Fault.{Fault}
+use Rattle.wac_mismatch.specs.declared.frame.Frame.{Frame}
+use Rattle.wac_checker.specs.Parts.{IsIndex, SamePart, SameBefore, AreAt, IsFrameAt, side_parts, listed, IsServedAt, IsExportFrame, IsImportFrame}
+use Rattle.wac_checker.specs.declared.pairs.Entries.{Entries}
+use Rattle.wac_checker.specs.declared.pairs.Entries.TheVariants.{DefinedTypes, Funcs, Interfaces, Worlds, Modules}
+use Rattle.wac_checker.specs.declared.pairs.EntryPair.{EntryPair}
+use Rattle.wac_checker.specs.declared.pairs.Part.{Part}
+use Rattle.wac_checker.specs.declared.pairs.Part.TheVariants.{End, Same, Below, Differs}
+
+-- ---- two entries
+
+abbrev pub left_key : Entries → Key
+left_key (DefinedTypes a b) = defined_key a
+left_key (Funcs a b) = func_key a
+left_key (Interfaces a b) = interface_key a
+left_key (Worlds a b) = world_key a
+left_key (Modules a b) = module_key a
+
+abbrev pub right_key : Entries → Key
+right_key (DefinedTypes a b) = defined_key b
+right_key (Funcs a b) = func_key b
+right_key (Interfaces a b) = interface_key b
+right_key (Worlds a b) = world_key b
+right_key (Modules a b) = module_key b
+
+-- what an entry stands for, as an item or as the type of one
+abbrev pub sort_side : Kind → Collection → Sort → Id → Side
+sort_side k c defined_sort p = value_side (value_tree c (Defined p))
+sort_side k c resource_sort p = item_side (leaf k (resource (root_name c p)))
+sort_side k c func_sort p = item_side (leaf k (func (func_tree c p)))
+sort_side k c interface_sort p = item_side (composite k interface no_items (externs c (interface_key p)).exports)
+sort_side k c world_sort p = item_side (composite k world (externs c (world_key p)).imports (externs c (world_key p)).exports)
+sort_side k c module_sort p = item_side (core_module k (module_tree c p))
+
+abbrev pub left_side : Kind → Collection → Entries → Side
+left_side k c e = sort_side k c (left_key e).sort (left_key e).id
+
+abbrev pub right_side : Kind → Collection → Entries → Side
+right_side k d e = sort_side k d (right_key e).sort (right_key e).id
+
+-- defined types are no aliases
+abbrev pub AreResolved : Collection → Collection → Entries → Type 0
+AreResolved c d (DefinedTypes a b) = IsResolved c (Defined a) × IsResolved d (Defined b)
+AreResolved c d e = Unit {0}
+
+abbrev pub EntriesStand : Collection → Collection → Entries → Type 0
+EntriesStand c d e = Stands c (left_key e) × Stands d (right_key e) × AreResolved c d e
+
+-- the left entry fits where the right one is asked for
+abbrev pub EntriesFit : Collection → Collection → Entries → Type 0
+EntriesFit c d e = (k : Kind) → SideFits (left_side k c e) (right_side k d e)
+
+-- a no of the two is explained
+abbrev pub ExplainsEntries : SubtypeCheck → Collection → Collection → Entries → SubtypeError → Type 0
+ExplainsEntries check c d e r = (k : Kind) → Explains r check (left_side k c e) (right_side k d e)
+
+-- these frames and this fault are a path from the two
+abbrev pub EntriesPath : SubtypeCheck → Collection → Collection → Entries → List Frame → Fault → Type 0
+EntriesPath check c d e frames f = (k : Kind) → Path frames f (place check (left_side k c e) (right_side k d e))
+
+abbrev pub entries_height : Collection → Collection → Entries → ℕ
+entries_height c d e = height c (left_key e) + height d (right_key e)
+
+-- ---- what is left to compare
+
+-- two value types are those of two defined types
+abbrev pub AreOf : Collection → Collection → ValueType → ValueType → Entries → Type 0
+AreOf c d v w (DefinedTypes x y) = (value_tree c v ≡ value_tree c (Defined x)) × (value_tree d w ≡ value_tree d (Defined y)) × EntriesStand c d (DefinedTypes x y) × (height c (defined_key x) ≤ keys_height c (value_keys v)) × (height d (defined_key y) ≤ keys_height d (value_keys w))
+AreOf c d v w e = ⊥
+
+-- two value types are one, or so far as two others are, or they differ and that is explained
+abbrev pub AreValuesCompared : SubtypeCheck → Collection → Collection → ValueType → ValueType → Part → Type 0
+AreValuesCompared check c d v w End = ⊥
+AreValuesCompared check c d v w Same = value_tree c v ≡ value_tree d w
+AreValuesCompared check c d v w (Below q) = (q.swapped ≡ false) × AreOf c d v w q.entries
+AreValuesCompared check c d v w (Differs e) = Explains e check (value_side (value_tree c v)) (value_side (value_tree d w))
+
+-- the parts at a place are those of two defined types, which are below these heights
+abbrev pub HaveAt : Collection → Collection → Side → Side → ℕ → ℕ → ℕ → Entries → Type 0
+HaveAt c d s t m n i (DefinedTypes x y) = AreAt s t i (value_tree c (Defined x)) (value_tree d (Defined y)) × EntriesStand c d (DefinedTypes x y) × (height c (defined_key x) < m) × (height d (defined_key y) < n)
+HaveAt c d s t m n i e = ⊥
+
+-- the parts at a place of two sides: there are no more, they are one, or so far as two others are, or they differ
+abbrev pub IsValuePart : SubtypeCheck → Collection → Collection → Side → Side → ℕ → ℕ → ℕ → Part → Type 0
+IsValuePart check c d s t m n i End = SameBefore s t i → s ≡ t
+IsValuePart check c d s t m n i Same = IsIndex s i × SamePart s t i
+IsValuePart check c d s t m n i (Below q) = IsIndex s i × (q.swapped ≡ false) × HaveAt c d s t m n i q.entries
+IsValuePart check c d s t m n i (Differs e) = IsIndex s i × (x : ValueTree) × (y : ValueTree) × AreAt s t i x y × Explains e check (value_side x) (value_side y)
+
+-- the same of what may be there
+abbrev pub AreOptionsCompared : SubtypeCheck → Collection → Collection → Option ValueType → Option ValueType → Part → Type 0
+AreOptionsCompared check c d None None p = p ≡ Same
+AreOptionsCompared check c d (Some v) (Some w) p = AreValuesCompared check c d v w p
+AreOptionsCompared check c d v w p = ⊥
+
+-- two items are those of two entries, which are no higher: they fit where the entries do, and a path from these is one from them
+pub record AreOfItems (c d : Collection) (x y : ItemKind) (e : Entries) : Type 0 where
+  pub stand : EntriesStand c d e
+  pub left_lower : height c (left_key e) ≤ keys_height c (item_keys x)
+  pub right_lower : height d (right_key e) ≤ keys_height d (item_keys y)
+  pub enough : EntriesFit c d e → Fits (item_tree c x) (item_tree d y)
+  pub leads : (check : SubtypeCheck) (gs : List Frame) (g : Fault) → EntriesPath check c d e gs g → Path gs g (place check (item_side (item_tree c x)) (item_side (item_tree d y)))
+
+-- two items fit, or so far as two entries do, or they don't and that is explained
+abbrev pub AreItemsCompared : SubtypeCheck → Collection → Collection → ItemKind → ItemKind → Part → Type 0
+AreItemsCompared check c d x y End = ⊥
+AreItemsCompared check c d x y Same = Fits (item_tree c x) (item_tree d y)
+AreItemsCompared check c d x y (Below q) = (q.swapped ≡ false) × AreOfItems c d x y q.entries
+AreItemsCompared check c d x y (Differs e) = Explains e check (item_side (item_tree c x)) (item_side (item_tree d y))
+
+-- these items have the name of what is asked for at a place
+abbrev pub AreNamed : List (Text × ItemKind) → List (Text × ItemKind) → ℕ → Text → ItemKind → ItemKind → Type 0
+AreNamed es ts i n x y = (lookup bytes_eq es n ≡ Some x) × (slice_get ts i ≡ Some (n, y)) × (lookup bytes_eq ts n ≡ Some y)
+
+-- there is something asked for at the place, and after it room for one more
+abbrev pub IsPlace : List (Text × ItemKind) → ℕ → Type 0
+IsPlace ts i = (i < length ts) × (i + 1 < 2 ^ 63)
+
+-- what is found of what is asked for at a place, and what is there of its name
+abbrev pub IsExternPart : SubtypeCheck → Collection → Collection → List (Text × ItemKind) → List (Text × ItemKind) → ℕ → Part → Type 0
+IsExternPart check c d es ts i End = length ts ≤ i
+IsExternPart check c d es ts i Same = IsPlace ts i × ((n : Text) × (x : ItemKind) × (y : ItemKind) × AreNamed es ts i n x y × Fits (item_tree c x) (item_tree d y))
+IsExternPart check c d es ts i (Below q) = IsPlace ts i × (q.swapped ≡ false) × ((n : Text) × (x : ItemKind) × (y : ItemKind) × AreNamed es ts i n x y × AreOfItems c d x y q.entries)
+IsExternPart check c d es ts i (Differs e) = IsPlace ts i × ((n : Text) × (x : ItemKind) × (y : ItemKind) × AreNamed es ts i n x y × Explains e check (item_side (item_tree c x)) (item_side (item_tree d y)))
+
+-- what is found of two sides is found of the two the other way round
+abbrev pub AreSwapped : Part → Part → Type 0
+AreSwapped (Below q) (Below r) = (r.entries ≡ q.entries) × (r.swapped ≡ not q.swapped)
+AreSwapped (Below q) p = ⊥
+AreSwapped p r = r ≡ p
+
+-- the same of what is imported, which the left side asks of the right one
+abbrev pub IsImportPart : SubtypeCheck → Collection → Collection → List (Text × ItemKind) → List (Text × ItemKind) → ℕ → Part → Type 0
+IsImportPart check c d es ts i p = (q : Part) × AreSwapped q p × IsExternPart (turned check) d c ts es i q
+
+-- two ids are one, which a test says, or the two are left
+abbrev pub AreLeftUnless : Bool → Entries → Part → Type 0
+AreLeftUnless true e p = p ≡ Same
+AreLeftUnless false e (Below q) = (q.swapped ≡ false) × (q.entries ≡ e)
+AreLeftUnless false e p = ⊥
+
+-- ---- the parts of two entries
+
+-- how many imports a world has, which are its first parts
+abbrev pub import_count : Collection → Id → ℕ
+import_count c a = length (listed (externs c (world_key a)).imports)
+
+-- the parts at a place fit
+abbrev pub PartFits : Collection → Collection → Entries → ℕ → Type 0
+PartFits c d (DefinedTypes a b) i = SamePart (value_side (value_tree c (Defined a))) (value_side (value_tree d (Defined b))) i
+PartFits c d (Funcs a b) i = SamePart (item_side (leaf item (func (func_tree c a)))) (item_side (leaf item (func (func_tree d b)))) i
+PartFits c d (Interfaces a b) i = IsServedAt (externs c (interface_key a)).exports (externs d (interface_key b)).exports i
+PartFits c d (Worlds a b) i = (i < import_count c a → IsServedAt (externs d (world_key b)).imports (externs c (world_key a)).imports i) × (import_count c a ≤ i → IsServedAt (externs c (world_key a)).exports (externs d (world_key b)).exports (i - import_count c a))
+PartFits c d (Modules a b) i = Unit {0}
+
+-- the parts before a place fit
+abbrev pub PartsFit : Collection → Collection → Entries → ℕ → Type 0
+PartsFit c d e i = (j : ℕ) → j < i → PartFits c d e j
+
+-- how many parts there are to compare
+abbrev pub part_count : Collection → Collection → Entries → ℕ
+part_count c d (DefinedTypes a b) = length (side_parts (value_side (value_tree c (Defined a))))
+part_count c d (Funcs a b) = length (side_parts (item_side (leaf item (func (func_tree c a)))))
+part_count c d (Interfaces a b) = length (listed (externs d (interface_key b)).exports)
+part_count c d (Worlds a b) = import_count c a + length (listed (externs d (world_key b)).exports)
+part_count c d (Modules a b) = 0
+
+-- there is a part at the place, and after it room for one more
+abbrev pub HasPart : Collection → Collection → Entries → ℕ → Type 0
+HasPart c d e i = (i < part_count c d e) × (i + 1 < 2 ^ 64)
+
+-- the frame to the parts at a place
+abbrev pub IsFrameOf : Collection → Collection → Entries → ℕ → Frame → Type 0
+IsFrameOf c d (DefinedTypes a b) i f = IsFrameAt (value_side (value_tree c (Defined a))) i f
+IsFrameOf c d (Funcs a b) i f = IsFrameAt (item_side (leaf item (func (func_tree c a)))) i f
+IsFrameOf c d (Interfaces a b) i f = IsExportFrame (externs d (interface_key b)).exports i f
+IsFrameOf c d (Worlds a b) i f = (i < import_count c a → IsImportFrame (externs c (world_key a)).imports i f) × (import_count c a ≤ i → IsExportFrame (externs d (world_key b)).exports (i - import_count c a) f)
+IsFrameOf c d (Modules a b) i f = ⊥
+
+-- the collection of the left entry, and that of the right one
+abbrev pub left_of : Collection → Collection → Bool → Collection
+left_of c d false = c
+left_of c d true = d
+
+abbrev pub right_of : Collection → Collection → Bool → Collection
+right_of c d false = d
+right_of c d true = c
+
+-- the direction, which is turned where the two are swapped
+abbrev pub check_of : SubtypeCheck → Bool → SubtypeCheck
+check_of c false = c
+check_of c true = turned c
+
+-- ---- pairs
+
+abbrev pub PairStands : Collection → Collection → EntryPair → Type 0
+PairStands c d p = EntriesStand (left_of c d p.swapped) (right_of c d p.swapped) p.entries
+
+abbrev pub PairFits : Collection → Collection → EntryPair → Type 0
+PairFits c d p = EntriesFit (left_of c d p.swapped) (right_of c d p.swapped) p.entries
+
+abbrev pub PairPartFits : Collection → Collection → EntryPair → ℕ → Type 0
+PairPartFits c d p i = PartFits (left_of c d p.swapped) (right_of c d p.swapped) p.entries i
+
+abbrev pub PairPartsFit : Collection → Collection → EntryPair → ℕ → Type 0
+PairPartsFit c d p i = (j : ℕ) → j < i → PairPartFits c d p j
+
+abbrev pub pair_height : Collection → Collection → EntryPair → ℕ
+pair_height c d p = entries_height (left_of c d p.swapped) (right_of c d p.swapped) p.entries
+
+abbrev pub PairHasPart : Collection → Collection → EntryPair → ℕ → Type 0
+PairHasPart c d p i = HasPart (left_of c d p.swapped) (right_of c d p.swapped) p.entries i
+
+abbrev pub IsPairFrame : Collection → Collection → EntryPair → ℕ → Frame → Type 0
+IsPairFrame c d p i f = IsFrameOf (left_of c d p.swapped) (right_of c d p.swapped) p.entries i f
+
+abbrev pub ExplainsPair : SubtypeCheck → Collection → Collection → EntryPair → SubtypeError → Type 0
+ExplainsPair check c d p r = ExplainsEntries (check_of check p.swapped) (left_of c d p.swapped) (right_of c d p.swapped) p.entries r
+
+abbrev pub PairPath : SubtypeCheck → Collection → Collection → EntryPair → List Frame → Fault → Type 0
+PairPath check c d p frames f = EntriesPath (check_of check p.swapped) (left_of c d p.swapped) (right_of c d p.swapped) p.entries frames f
+
+-- the pair stands at a place of these two entries: it is lower, its two fit only with these parts, and a frame leads to it
+pub record IsBelow (c d : Collection) (e : Entries) (i : ℕ) (q : EntryPair) : Type 0 where
+  pub stand : PairStands c d q
+  pub lower : pair_height c d q < entries_height c d e
+  pub enough : PairFits c d q → PartFits c d e i
+  pub leads : (check : SubtypeCheck) (f : Frame) → IsFrameOf c d e i f → (gs : List Frame) (g : Fault) → PairPath check c d q gs g → EntriesPath check c d e (f ∷ gs) g
+
+-- the same of a pair
+pub record IsBelowPair (c d : Collection) (p : EntryPair) (i : ℕ) (q : EntryPair) : Type 0 where
+  pub stand : PairStands c d q
+  pub lower : pair_height c d q < pair_height c d p
+  pub enough : PairFits c d q → PairPartFits c d p i
+  pub leads : (check : SubtypeCheck) (f : Frame) → IsPairFrame c d p i f → (gs : List Frame) (g : Fault) → PairPath check c d q gs g → PairPath check c d p (f ∷ gs) g
+
+-- what a comparison of the parts at a place of two entries says
+abbrev pub IsEntriesPart : SubtypeCheck → Collection → Collection → Entries → ℕ → Part → Type 0
+IsEntriesPart check c d e i End = PartsFit c d e i → EntriesFit c d e
+IsEntriesPart check c d e i Same = HasPart c d e i × PartFits c d e i
+IsEntriesPart check c d e i (Below q) = HasPart c d e i × IsBelow c d e i q
+IsEntriesPart check c d e i (Differs r) = HasPart c d e i × ((f : Frame) → IsFrameOf c d e i f → (s : SubtypeError) → IsUnder (λ g. g ≡ f) r s → ExplainsEntries check c d e s)
+
+-- the pair that stands below one that is swapped or isn't, told from the two collections
+abbrev pub placed : Bool → EntryPair → EntryPair
+placed false q = q
+placed true q = record { entries = q.entries; swapped = not q.swapped }
