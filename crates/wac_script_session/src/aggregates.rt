@@ -11,7 +11,9 @@ ghost use Rattle.wac_aggregator.specs.HandedIn.{called, handed_in};
 ghost use Rattle.wac_script_session.specs.Calls.{IsCallIn, AreCallsIn, AreAsked};
 
 use super::collections::Collections;
+use super::comparisons::push_path;
 use super::imports::push_imports;
+use super::lines::push_on_one_line;
 use std::alloc::{AllocError, Global};
 use std::collections::HashSet;
 use wac_aggregator::{AggregateAllError, AggregateError, Call, TypeAggregator, aggregate_all};
@@ -182,27 +184,31 @@ fn push_outcome(
 {
     match outcome {
         Ok(aggregator) => push_imports(alloc, text, &aggregator, calls),
-        Err(error) => push_refusal(text, &error),
+        Err(error) => push_refusal(alloc, text, &error),
     }
 }
 
 // Puts `no` last, which call was refused, and why.
-fn push_refusal(text: &mut String, refusal: &AggregateAllError) -> Result<(), AllocError> {
+fn push_refusal(
+    alloc: Global,
+    text: &mut String,
+    refusal: &AggregateAllError,
+) -> Result<(), AllocError> {
     let at = refusal.at;
     write!(text, "no at {at}: ")?;
-    push_error(text, &refusal.error)
+    push_error(alloc, text, &refusal.error)
 }
 
-fn push_error(text: &mut String, error: &AggregateError) -> Result<(), AllocError> {
+// Puts the texts of a refusal last, on one line.
+fn push_error(alloc: Global, text: &mut String, error: &AggregateError) -> Result<(), AllocError> {
     match error {
         AggregateError::Memory => Err(AllocError),
         AggregateError::Mismatch { frames, error } => {
             for frame in frames {
-                write!(text, "{frame} / ")?;
+                push_on_one_line(text, &format!(in alloc; "{frame} / ")?)?;
             }
-            let path = error.path();
-            write!(text, "{path}")
+            push_path(alloc, text, error)
         }
-        error => write!(text, "{error}"),
+        error => push_on_one_line(text, &format!(in alloc; "{error}")?),
     }
 }

@@ -1,6 +1,7 @@
 //! Whether an item fits where another is asked for.
 
 use super::collections::Collections;
+use super::lines::push_on_one_line;
 use std::alloc::{AllocError, Global};
 use std::collections::HashSet;
 use wac_checker::SubtypeChecker;
@@ -59,14 +60,15 @@ pub(crate) fn subtype<'a>(
     match (find_item(at, asked.left.1), find_item(bt, asked.right.1)) {
         (Ok(a), Ok(b)) => {
             let outcome = checker.is_subtype(alloc, a, at, b, bt);
-            Ok(push_outcome(text, outcome)?)
+            Ok(push_outcome(alloc, text, outcome)?)
         }
         (Err(missing), _) | (_, Err(missing)) => Err(ScriptError::NoEntry(missing)),
     }
 }
 
-/// Puts last what a check came to.
+/// Puts last what a check came to, on one line.
 pub(crate) fn push_outcome(
+    alloc: Global,
     text: &mut String,
     outcome: Result<(), SubtypeError>,
 ) -> Result<(), AllocError> {
@@ -74,8 +76,18 @@ pub(crate) fn push_outcome(
         Ok(()) => text.push_str("yes"),
         Err(SubtypeError::Memory) => Err(AllocError),
         Err(error) => {
-            let path = error.path();
-            write!(text, "no: {path}")
+            text.push_str("no: ")?;
+            push_path(alloc, text, &error)
         }
     }
+}
+
+/// Puts the texts of a mismatch last, on one line.
+pub(crate) fn push_path(
+    alloc: Global,
+    text: &mut String,
+    error: &SubtypeError,
+) -> Result<(), AllocError> {
+    let path = error.path();
+    push_on_one_line(text, &format!(in alloc; "{path}")?)
 }

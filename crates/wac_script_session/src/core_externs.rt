@@ -30,7 +30,7 @@ fn compare(
 ) -> Result<(), AllocError> {
     let mut cache = HashSet::new(alloc);
     let checker = SubtypeChecker::new(&mut cache);
-    push_outcome(text, checker.core_subtype(alloc, left, right))
+    push_outcome(alloc, text, checker.core_subtype(alloc, left, right))
 }
 
 /// Puts the sort of an extern, and the text of its function type, its element type or the type of its value

@@ -28,7 +28,8 @@
 //! | `count COLL` | the lengths of the six lists |
 //!
 //! What `meet`, `join` and `package` add stays in the collection. Names are written as words write them
-//! (`name_word`), but in the texts of refusals and of package keys, which are verbatim, on one line.
+//! (`name_word`), but in the texts of refusals and of package keys, which stand as they are, on one line (a line
+//! feed as `\n`, a backslash as `\\`).
 #![tactic(auto)]
 
 mod aggregates;

@@ -3,6 +3,7 @@
 ghost use Rattle.wac_component.specs.Key.{Stands, world_key};
 
 use super::collections::Collections;
+use super::comparisons::push_path;
 use super::lines::{push_binding, push_on_one_line};
 use indexmap::IndexMap;
 use std::alloc::{AllocError, Global};
@@ -64,7 +65,7 @@ fn push_report(
     text.push_str("no")?;
     push_imports(text, report)?;
     push_missing(text, report)?;
-    push_mismatched(text, report)?;
+    push_mismatched(alloc, text, report)?;
     text.push_str("\n  text ")?;
     push_on_one_line(text, &report.to_string(alloc)?)
 }
@@ -87,13 +88,16 @@ fn push_missing(text: &mut String, report: &TargetValidationReport) -> Result<()
     Ok(())
 }
 
-fn push_mismatched(text: &mut String, report: &TargetValidationReport) -> Result<(), AllocError> {
+fn push_mismatched(
+    alloc: Global,
+    text: &mut String,
+    report: &TargetValidationReport,
+) -> Result<(), AllocError> {
     for (name, kind, error) in report.mismatched_types() {
         text.push_str("\n  mismatched ")?;
         push_name(text, name)?;
         text.push_str(kind_text(*kind))?;
-        let path = error.path();
-        write!(text, "{path}")?;
+        push_path(alloc, text, error)?;
     }
     Ok(())
 }
