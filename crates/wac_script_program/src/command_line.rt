@@ -30,7 +30,7 @@ pub fn run<H: Clock + Files + AllocGlobal, R: BufRead + Drop, W: Write, E: Write
 }
 
 // Runs the benchmark of this name at this size, prints its line to `out`, and answers the status. A size
-// that is no number below 2^32 gives the usage line on `err`, and a name of no benchmark a line that
+// that is no number from 1 to 2^32 - 1 gives the usage line on `err`, and a name of no benchmark a line that
 // says so, both with the status 2. Where nothing could be measured, `err` gets a line that says why,
 // and the status is 1.
 fn run_benchmark<C: Clock, W: Write, E: Write>(
@@ -41,8 +41,9 @@ fn run_benchmark<C: Clock, W: Write, E: Write>(
     out: &mut W,
     err: &mut E,
 ) -> u8 {
-    let Ok(size) = size.parse::<u32>() else {
-        return usage(err);
+    let size = match size.parse::<u32>() {
+        Ok(0) | Err(_) => return usage(err),
+        Ok(size) => size,
     };
     match bench(clock, alloc, name, size) {
         Ok(Some(line)) => status_of(DONE, writeln!(out, "{line}")),

@@ -11,7 +11,7 @@ use wac_script_entries::add_line;
 use wac_types::{ItemKind, SubtypeChecker, Types};
 
 /// A function of a byte, a string and a value of the first defined type.
-pub(crate) const FUNC_LINE: &str = "func sync - a=u8 b=string c=d0";
+const FUNC_LINE: &str = "func sync - a=u8 b=string c=d0";
 
 /// An item and its collection.
 #[derive(Drop)]
@@ -41,8 +41,8 @@ fn instance_side(alloc: Global, number: u64, n: u32) -> Result<Side, BenchError>
     }
 }
 
-// Whether the left item fits where the right one is asked for.
-fn ask(
+/// Whether the left item fits where the right one is asked for: `Answer` where it doesn't.
+pub(crate) fn ask(
     alloc: Global,
     cache: &mut HashSet<(ItemKind, ItemKind)>,
     left: &Side,
@@ -57,8 +57,8 @@ fn ask(
     }
 }
 
-// Whether a checker may be asked about the two.
-fn can_be_asked(left: &Side, right: &Side) -> bool
+/// Whether a checker may be asked about the two.
+pub(crate) fn can_be_asked(left: &Side, right: &Side) -> bool
     ensures { IsTrue result → CanBeAsked left.now.types left.now.item right.now.types right.now.item }
 {
     left.types.number() != right.types.number()

@@ -1,12 +1,12 @@
 //! Runs a benchmark.
 
 use super::benchmark::Benchmark;
+use super::chains::{Refusals, instances, tuples};
 use super::error::BenchError;
 use super::imports::TwoVersions;
 use super::instances::{AskAfresh, AskAgain};
 use super::measuring::{Measured, measure};
 use super::name_maps::{Gets, Insertions};
-use super::tuples::tuples;
 use super::worlds::Worlds;
 use std::alloc::{AllocError, Global};
 use std::time::Clock;
@@ -22,12 +22,14 @@ fn measured<C: Clock>(
         Benchmark::Instances => measure(clock, alloc, &mut AskAfresh::instances(alloc, n)?),
         Benchmark::AskedAgain => measure(clock, alloc, &mut AskAgain::instances(alloc, n)?),
         Benchmark::TupleChain => measure(clock, alloc, &mut tuples(alloc, n)?),
+        Benchmark::InstanceChain => measure(clock, alloc, &mut instances(alloc, n)?),
         Benchmark::TwoVersions => measure(clock, alloc, &mut TwoVersions::new(alloc, n)?),
         Benchmark::ValidatePlain => measure(clock, alloc, &mut Worlds::plain(alloc, n)?),
         Benchmark::ValidateVersions => measure(clock, alloc, &mut Worlds::versioned(alloc, n)?),
         Benchmark::Insert => measure(clock, alloc, &mut Insertions::new(alloc, n)?),
         Benchmark::GetExact => measure(clock, alloc, &mut Gets::exact(alloc, n)?),
         Benchmark::GetTrack => measure(clock, alloc, &mut Gets::on_tracks(alloc, n)?),
+        Benchmark::RefusalAtDepth => measure(clock, alloc, &mut Refusals::new(alloc, n)?),
     }
 }
 

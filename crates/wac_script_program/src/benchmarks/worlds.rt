@@ -1,7 +1,6 @@
 //! A component that fits a target world.
 
 use super::error::BenchError;
-use super::instances::FUNC_LINE;
 use super::measuring::Work;
 use std::alloc::Global;
 use wac_script_entries::add_line;
@@ -15,7 +14,8 @@ pub(crate) struct Worlds {
     component: WorldId,
 }
 
-// Adds n functions, and puts the words of imports, `m`, or exports, `e`, under `n0`, `n1` and so on last.
+// Adds n functions of a byte, a string and a value of the last defined type, and puts the words of imports,
+// `m`, or exports, `e`, under `n0`, `n1` and so on last.
 fn push_functions(
     alloc: Global,
     types: &mut Types,
@@ -23,35 +23,46 @@ fn push_functions(
     part: &str,
     n: u32,
 ) -> Result<(), BenchError> {
+    let last = types.defined_types().len().saturating_sub(1);
+    let line = format!(in alloc; "func sync - a=u8 b=string c=d{last}")?;
     for i in 0..n {
         let func = types.func_types().len();
-        add_line(alloc, types, FUNC_LINE)?;
+        add_line(alloc, types, &line)?;
         world.push_str(&format!(in alloc; " {part}:n{i}=F:fn{func}")?)?;
     }
     Ok(())
 }
 
-// The same with n instances that export a function, under names of this version.
+// Adds n instances that export a function.
+fn add_instances(alloc: Global, types: &mut Types, n: u32) -> Result<(), BenchError> {
+    for _ in 0..n {
+        let func = types.func_types().len();
+        add_line(alloc, types, "func sync -")?;
+        add_line(alloc, types, &format!(in alloc; "iface - e:f=F:fn{func}")?)?;
+    }
+    Ok(())
+}
+
+// Puts the words of imports, `m`, or exports, `e`, last, of n instances from this interface on, under names
+// of this version.
 fn push_instances(
     alloc: Global,
-    types: &mut Types,
     world: &mut String,
     part: &str,
     version: &str,
+    first: usize,
     n: u32,
 ) -> Result<(), BenchError> {
     for i in 0..n {
-        let func = types.func_types().len();
-        let instance = types.interfaces().len();
-        add_line(alloc, types, "func sync -")?;
-        add_line(alloc, types, &format!(in alloc; "iface - e:f=F:fn{func}")?)?;
+        let instance = first.saturating_add(i as usize);
         world.push_str(&format!(in alloc; " {part}:a:b/n{i}@{version}=I:i{instance}")?)?;
     }
     Ok(())
 }
 
-// Adds a world of n imports and n exports, all functions.
+// Adds a world of n imports and n exports, all functions, over a list of their own.
 fn add_plain(alloc: Global, types: &mut Types, n: u32) -> Result<(), BenchError> {
+    add_line(alloc, types, "def list u8")?;
     let mut world = String::from_str(alloc, "world -")?;
     push_functions(alloc, types, &mut world, "m", n)?;
     push_functions(alloc, types, &mut world, "e", n)?;
@@ -59,16 +70,18 @@ fn add_plain(alloc: Global, types: &mut Types, n: u32) -> Result<(), BenchError>
     Ok(())
 }
 
-// Adds a world of n imports and n exports, all instances, whose names have this version.
+// Adds n instances, and a world that imports and exports them under names of this version.
 fn add_versioned(
     alloc: Global,
     types: &mut Types,
     version: &str,
     n: u32,
 ) -> Result<(), BenchError> {
+    let first = types.interfaces().len();
+    add_instances(alloc, types, n)?;
     let mut world = String::from_str(alloc, "world -")?;
-    push_instances(alloc, types, &mut world, "m", version, n)?;
-    push_instances(alloc, types, &mut world, "e", version, n)?;
+    push_instances(alloc, &mut world, "m", version, first, n)?;
+    push_instances(alloc, &mut world, "e", version, first, n)?;
     add_line(alloc, types, &world)?;
     Ok(())
 }
@@ -77,7 +90,6 @@ impl Worlds {
     /// Functions.
     pub(crate) fn plain(alloc: Global, n: u32) -> Result<Worlds, BenchError> {
         let mut types = Types::new(alloc, 1);
-        add_line(alloc, &mut types, "def list u8")?;
         add_plain(alloc, &mut types, n)?;
         add_plain(alloc, &mut types, n)?;
         Worlds::of(types)
