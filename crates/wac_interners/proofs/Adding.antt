@@ -1,10 +1,11 @@
 -- A text that goes last: its place, and the places of the others.
-use Rattle.std.proofs.Common.{◌≡◌, ◌<◌, ◌≤◌, ◌+◌, ℕ, Bool, true, false, List, [], ◌∷◌, ◌++◌, length, Some, None, String, Global, refl, sym, ap, ◌∙◌, inl, inr, arith, eqb, length-append}
+use Rattle.std.proofs.Common.{if◌then◌else◌, ◌≡◌, ◌<◌, ◌≤◌, ◌+◌, ℕ, Bool, true, false, List, [], ◌∷◌, ◌++◌, length, Some, None, String, Global, refl, sym, ap, ◌∙◌, inl, inr, arith, eqb, length-append}
 use Rattle.std.proofs.lemmas.Bool.{cases_Bool, eq-eqb, eqb-true, le-ltb, lt-ltb, ltb-false}
 use Rattle.std.proofs.lemmas.List.Folds.{position_or_len_push}
 use Rattle.std.proofs.lemmas.List.Sums.{prefix_len-le-length}
 use Rattle.std.specs.Cmp.Lexicographic.{bytes_decides}
-use Rattle.std.specs.List.{position, position_or_len}
+use Rattle.std.specs.List.{list_any, position, position_or_len}
+use Rattle.std.specs.String.{string_eq}
 use Rattle.std.specs.Prelude.{nat_lt, not, string_bytes}
 use Rattle.std.specs.Str.{bytes_eq}
 use Rattle.wac_interners.specs.Places.{AddsAt, place_of}
@@ -71,3 +72,7 @@ module _ (texts : List (String Global)) (s : String Global) (text : List ℕ) (s
     ];
     only_here = place_kept;
   }
+
+-- a text that wasn't there goes last in a set
+pub put_last : (texts : List (String Global)) (s : String Global) (text : List ℕ) → string_bytes s ≡ text → list_any (λ t. bytes_eq text (string_bytes t)) texts ≡ false → (if list_any (string_eq s) texts then texts else texts ++ s ∷ []) ≡ texts ++ s ∷ []
+put_last texts s text same absent = rw (rw (← same) at absent) refl

@@ -1,45 +1,49 @@
 //! Interners that number texts.
 
-ghost use Rattle.std.specs.Prelude.{◌≡◌, ℕ, false, [], Some, IfOk};
+ghost use Rattle.std.specs.Prelude.{◌≡◌, ℕ, false, [], Some, IfOk, is_some, string_bytes};
+ghost use Rattle.std.specs.List.{list_any};
+ghost use Rattle.std.specs.Str.{bytes_eq};
 ghost use Rattle.wac_model.specs.Text.{Text};
 ghost use Rattle.wac_interners.specs.Places.{AddsAt, counts_down_to, is_place, place_of};
 ghost use Rattle.wac_interners.specs.PlaceLaws.{countdown_lawful, numbers_lawful};
 
+use indexmap::IndexSet;
 use std::alloc::{AllocError, Global};
 use wac_names::NameMapIntern;
 
 // Texts, each once, in the order in which they came.
 #[derive(Drop)]
 struct Texts {
-    texts: Vec<String>,
+    texts: IndexSet<String>,
 }
 
 impl Texts {
     fn new(alloc: Global) -> Texts
-        ensures { result.texts.items ≡ [] }
+        ensures { result.texts.keys ≡ [] }
     {
         Texts {
-            texts: Vec::new(alloc),
+            texts: IndexSet::new(alloc),
         }
     }
 
     // The place of a text, where it is there.
     fn place(&self, text: &str) -> Option<usize>
-        ensures { result ≡ place_of self.now.texts.items text.now }
+        ensures place { result ≡ place_of self.now.texts.keys text.now }
+        ensures found { is_some result ≡ list_any (λ s. bytes_eq text.now (string_bytes s)) self.now.texts.keys }
     {
-        self.texts.iter().position(|other| text == other.as_str())
+        self.texts.get_index_of(text)
     }
 
     // The place of a text, which goes last if it was not there.
     fn place_or_add(&mut self, alloc: Global, text: &str) -> Result<usize, AllocError>
-        ensures place { IfOk result (λ n. place_of self.new.texts.items text.now ≡ Some n) }
-        ensures others { AddsAt self.old.texts.items self.new.texts.items text.now }
+        ensures place { IfOk result (λ n. place_of self.new.texts.keys text.now ≡ Some n) }
+        ensures others { AddsAt self.old.texts.keys self.new.texts.keys text.now }
     {
         if let Some(place) = self.place(text) {
             return Ok(place);
         }
         let place = self.texts.len();
-        self.texts.push(String::from_str(alloc, text)?)?;
+        self.texts.insert(String::from_str(alloc, text)?)?;
         Ok(place)
     }
 }
@@ -64,9 +68,9 @@ impl Numbers {
 impl NameMapIntern for Numbers {
     type Key = usize;
 
-    ghost is_key = { λ it text key. is_place (place_of it.texts.texts.items text) key };
+    ghost is_key = { λ it text key. is_place (place_of it.texts.texts.keys text) key };
 
-    ghost lawful = { λ it. numbers_lawful it.texts.texts.items };
+    ghost lawful = { λ it. numbers_lawful it.texts.texts.keys };
 
     fn intern(&mut self, alloc: Global, name: &str) -> Result<usize, AllocError> {
         self.texts.place_or_add(alloc, name)
@@ -97,9 +101,9 @@ impl Countdown {
 impl NameMapIntern for Countdown {
     type Key = usize;
 
-    ghost is_key = { λ it text key. counts_down_to (place_of it.texts.texts.items text) key };
+    ghost is_key = { λ it text key. counts_down_to (place_of it.texts.texts.keys text) key };
 
-    ghost lawful = { λ it. countdown_lawful it.texts.texts.items };
+    ghost lawful = { λ it. countdown_lawful it.texts.texts.keys };
 
     fn intern(&mut self, alloc: Global, name: &str) -> Result<usize, AllocError> {
         let place = self.texts.place_or_add(alloc, name)?;
