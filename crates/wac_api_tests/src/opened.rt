@@ -1,5 +1,6 @@
 //! How many pairs of entries a checker compares.
 
+use super::finding::defined;
 use std::alloc::Global;
 use std::collections::HashSet;
 use std::test::Fail;
@@ -15,36 +16,34 @@ fn tuples(alloc: Global, number: u64) -> Result<Types, Fail> {
     Ok(built(alloc, number, &lines)?)
 }
 
-// A value of the last tuple.
-fn last_tuple(types: &Types) -> Option<ItemKind> {
-    let last = types.defined_type_at(29)?;
-    Some(ItemKind::Value(ValueType::Defined(last)))
-}
-
-// How many pairs a new checker with this cache compares, if the last tuple of one collection fits where that of another is
-// asked for.
-fn opened(
-    alloc: Global,
-    cache: &mut HashSet<(ItemKind, ItemKind)>,
-    at: &Types,
-    bt: &Types,
-) -> Option<usize> {
-    let (a, b) = (last_tuple(at)?, last_tuple(bt)?);
-    if at.number() == bt.number() || !at.contains_item(a) || !bt.contains_item(b) {
-        return None;
+// How many pairs a new checker compares where the last tuple of one collection fits where that of another is asked for, and how
+// many where it is asked again.
+fn opened(alloc: Global, at: &Types, bt: &Types) -> Result<(usize, usize), Fail> {
+    if at.number() == bt.number() {
+        return Err(Fail::new("the collections have one number"));
     }
-    let mut checker = SubtypeChecker::new(cache);
-    match checker.is_subtype(alloc, a, at, b, bt) {
-        Ok(()) => Some(checker.opened()),
-        Err(_) => None,
+    let (given, wanted) = (defined(at, 29)?, defined(bt, 29)?);
+    let mut cache = HashSet::new(alloc);
+    let mut checker = SubtypeChecker::new(&mut cache);
+    let a = ItemKind::Value(ValueType::Defined(given));
+    let b = ItemKind::Value(ValueType::Defined(wanted));
+    if checker.is_subtype(alloc, a, at, b, bt).is_err() {
+        return Err(Fail::new("the tuple doesn't fit"));
     }
+    let first = checker.opened();
+    let a = ItemKind::Value(ValueType::Defined(given));
+    let b = ItemKind::Value(ValueType::Defined(wanted));
+    if checker.is_subtype(alloc, a, at, b, bt).is_err() {
+        return Err(Fail::new("the tuple doesn't fit any more"));
+    }
+    Ok((first, checker.opened()))
 }
 
 #[test]
 fn tuples_that_share_are_compared_once_each(rt: HostRuntime) -> Result<(), Fail> {
     let (given, wanted) = (tuples(rt.alloc(), 1)?, tuples(rt.alloc(), 2)?);
-    let mut cache = HashSet::new(rt.alloc());
-    assert!(&rt; opened(rt.alloc(), &mut cache, &given, &wanted) == Some(30));
-    assert!(&rt; opened(rt.alloc(), &mut cache, &given, &wanted) == Some(0));
+    let (first, again) = opened(rt.alloc(), &given, &wanted)?;
+    assert!(&rt; first == 30);
+    assert!(&rt; again == 0);
     Ok(())
 }
