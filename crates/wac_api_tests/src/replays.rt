@@ -119,17 +119,35 @@ fn a_benchmark_that_is_not_there_is_refused(rt: HostRuntime) {
     assert!(&rt; answer == 2 && out.has_all() && err.has_all());
 }
 
+#[test]
+fn a_benchmark_of_no_size_is_refused(rt: HostRuntime) {
+    let mut out = Expecting::of("");
+    let mut err = Expecting::of(
+        "usage: wac-replay < SCRIPT | wac-replay check FILE.. | wac-replay bench NAME N\n",
+    );
+    let answer = run(
+        &rt,
+        &["bench", "2-tuple-chain", "0"],
+        "".as_bytes(),
+        &mut out,
+        &mut err,
+    );
+    assert!(&rt; answer == 2 && out.has_all() && err.has_all());
+}
+
 // Benchmarks, and how many operations each has at size 3.
-static BENCHMARKS: [(&str, u32); 9] = [
+static BENCHMARKS: [(&str, u32); 11] = [
     ("1-subtype-instances", 3),
     ("1b-asked-again", 1),
     ("2-tuple-chain", 1),
+    ("2b-instance-chain", 1),
     ("3-aggregate-two-versions", 6),
     ("4a-validate-plain", 6),
     ("4b-validate-versions", 6),
     ("5a-namemap-insert", 3),
     ("5b-namemap-get-exact", 3),
     ("5c-namemap-get-track", 3),
+    ("6-refusal-at-depth", 1),
 ];
 
 #[test]
