@@ -89,12 +89,6 @@ yes_so (Err e) P Q p gives = tt
 pub follow_two : (l r : Collection) (s : Bool) (ps qs : List EntryPair) (k m n : ℕ) (P Q : Type 0) (answer : Result Bool AllocError) → IsGrownBy l r s ps qs → m ≤ k → n ≤ k → FollowsAbove l r s ps m P → OnYes answer (FollowsAbove l r s qs n Q) → OnYes answer (FollowsAbove l r s qs k (P × Q))
 follow_two l r s ps qs k m n P Q answer g le below before so = yes_so answer _ _ so (λ after h above all. (before h (omega (arith, le, above)) (fit_before (left_of l r s) (right_of l r s) ps qs h g all), after h (omega (arith, below, above)) all))
 
-pub follows : (l r : Collection) (s : Bool) (ps : List EntryPair) (n : ℕ) (P : Type 0) → P → FollowsAbove l r s ps n P
-follows l r s ps n P p h above all = p
-
-pub follows_so : (l r : Collection) (s : Bool) (ps : List EntryPair) (m n : ℕ) (P Q : Type 0) → n ≤ m → FollowsAbove l r s ps n P → (P → Q) → FollowsAbove l r s ps m Q
-follows_so l r s ps m n P Q le before gives h above all = gives (before h (omega (arith, le, above)) all)
-
 -- ---- the loop over the pairs
 
 place_of : (ps : List EntryPair) (p : EntryPair) → Contains ps p → (i : ℕ) × (i < length ps) × (slice_get ps i ≡ Some p)
