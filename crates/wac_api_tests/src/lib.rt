@@ -24,6 +24,8 @@ mod replays;
 #[cfg(test)]
 mod reports;
 #[cfg(test)]
+mod sharing;
+#[cfg(test)]
 mod showing;
 #[cfg(test)]
 mod visits;

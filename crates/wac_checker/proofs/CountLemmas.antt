@@ -16,7 +16,7 @@ use Rattle.wac_checker.specs.declared.pairs.EntryPair.{EntryPair}
 
 -- ---- distinct elements of a list are no more than it has
 
-without : {A : Type 0} (ys : List A) (x : A) → Contains ys x → (zs : List A) × (length ys ≡ suc (length zs)) × ((q : A) → Contains ys q → (x ≡ q → ⊥) → Contains zs q)
+pub without : {A : Type 0} (ys : List A) (x : A) → Contains ys x → (zs : List A) × (length ys ≡ suc (length zs)) × ((q : A) → Contains ys q → (x ≡ q → ⊥) → Contains zs q)
 without [] x m = absurd (omega (arith, m.1))
 without {A} (y ∷ ys) x m = elim (Contains-cases x y ys m) [
   | inl same ↦ (ys, refl, λ q mq other. elim (Contains-cases q y ys mq) [ inl e ↦ absurd (other (sym same ∙ e)) | inr later ↦ later ])
@@ -33,11 +33,11 @@ no_more (p ∷ ps) qs h all =
 
 -- ---- all pairs of two collections
 
-abbrev ids : ℕ → ℕ → List Id
+abbrev pub ids : ℕ → ℕ → List Id
 ids n zero = []
 ids n (suc k) = record { number = n; index = k } ∷ ids n k
 
-length-ids : (n k : ℕ) → length (ids n k) ≡ k
+pub length-ids : (n k : ℕ) → length (ids n k) ≡ k
 length-ids n zero = refl
 length-ids n (suc k) = ap suc (length-ids n k)
 
@@ -47,29 +47,29 @@ last_or_before zero (suc k) h = inr (omega arith)
 last_or_before (suc i) zero h = absurd (omega arith)
 last_or_before (suc i) (suc k) h = elim (last_or_before i k (omega arith)) [ inl e ↦ inl (ap suc e) | inr l ↦ inr (omega arith) ]
 
-id_among : (n k : ℕ) (p : Id) → p.number ≡ n → p.index < k → Contains (ids n k) p
+pub id_among : (n k : ℕ) (p : Id) → p.number ≡ n → p.index < k → Contains (ids n k) p
 id_among n zero p e l = absurd (omega arith)
 id_among n (suc k) p e l = elim (last_or_before p.index k l) [
   | inl last ↦ (let same : record { number = n; index = k } ≡ p = λ j. record { number = sym e j; index = sym last j } in subst (λ (q : Id). Contains (record { number = n; index = k } ∷ ids n k) q) same (Contains-first (record { number = n; index = k }) (ids n k)))
   | inr before ↦ Contains-later p (record { number = n; index = k }) (ids n k) (id_among n k p e before)
 ]
 
-contains_map : {A B : Type 0} (f : A → B) (xs : List A) (x : A) → Contains xs x → Contains (map f xs) (f x)
+pub contains_map : {A B : Type 0} (f : A → B) (xs : List A) (x : A) → Contains xs x → Contains (map f xs) (f x)
 contains_map f [] x m = absurd (omega (arith, m.1))
 contains_map {A} {B} f (y ∷ xs) x m = elim (Contains-cases x y xs m) [ inl e ↦ subst (λ (z : A). Contains (map f (y ∷ xs)) (f z)) e (Contains-first (f y) (map f xs)) | inr later ↦ Contains-later (f x) (f y) (map f xs) (contains_map f xs x later) ]
 
-abbrev paired : (Id → Id → Entries) → List Id → List Id → List Entries
+abbrev pub paired : {A : Type 0} → (Id → Id → A) → List Id → List Id → List A
 paired f [] bs = []
 paired f (a ∷ as') bs = map (f a) bs ++ paired f as' bs
 
-length-paired : (f : Id → Id → Entries) (as' bs : List Id) → length (paired f as' bs) ≡ length as' * length bs
+pub length-paired : {A : Type 0} (f : Id → Id → A) (as' bs : List Id) → length (paired f as' bs) ≡ length as' * length bs
 length-paired f [] bs = omega (arith, zero-mul (length bs))
 length-paired f (a ∷ as') bs =
     let rest = length-paired f as' bs in
     let more = suc-mul (length as') (length bs) in
     simp (length-append, length-map) (omega (arith, rest, more))
 
-paired_among : (f : Id → Id → Entries) (as' bs : List Id) (a b : Id) → Contains as' a → Contains bs b → Contains (paired f as' bs) (f a b)
+pub paired_among : {A : Type 0} (f : Id → Id → A) (as' bs : List Id) (a b : Id) → Contains as' a → Contains bs b → Contains (paired f as' bs) (f a b)
 paired_among f [] bs a b m n = absurd (omega (arith, m.1))
 paired_among f (x ∷ as') bs a b m n = elim (Contains-cases a x as' m) [
   | inl e ↦ Contains-append_left (map (f x) bs) (paired f as' bs) (f a b) (subst (λ (z : Id). Contains (map (f x) bs) (f z b)) e (contains_map (f x) bs b n))
@@ -92,7 +92,7 @@ entries_among c d (Modules a b) h =
     Contains-append_right (paired DefinedTypes (ids c.number (length c.defined)) (ids d.number (length d.defined))) (paired Funcs (ids c.number (length c.funcs)) (ids d.number (length d.funcs)) ++ (paired Interfaces (ids c.number (length c.interfaces)) (ids d.number (length d.interfaces)) ++ (paired Worlds (ids c.number (length c.worlds)) (ids d.number (length d.worlds)) ++ (paired Modules (ids c.number (length c.modules)) (ids d.number (length d.modules)))))) (Modules a b) (Contains-append_right (paired Funcs (ids c.number (length c.funcs)) (ids d.number (length d.funcs))) (paired Interfaces (ids c.number (length c.interfaces)) (ids d.number (length d.interfaces)) ++ (paired Worlds (ids c.number (length c.worlds)) (ids d.number (length d.worlds)) ++ (paired Modules (ids c.number (length c.modules)) (ids d.number (length d.modules))))) (Modules a b) (Contains-append_right (paired Interfaces (ids c.number (length c.interfaces)) (ids d.number (length d.interfaces))) (paired Worlds (ids c.number (length c.worlds)) (ids d.number (length d.worlds)) ++ (paired Modules (ids c.number (length c.modules)) (ids d.number (length d.modules)))) (Modules a b) (Contains-append_right (paired Worlds (ids c.number (length c.worlds)) (ids d.number (length d.worlds))) (paired Modules (ids c.number (length c.modules)) (ids d.number (length d.modules))) (Modules a b) (paired_among Modules (ids c.number (length c.modules)) (ids d.number (length d.modules)) a b (id_among c.number (length c.modules) a h.0.0 (simp length-map at h.0.1)) (id_among d.number (length d.modules) b h.1.0 (simp length-map at h.1.1))))))
 
 -- products of parts are within the product of the wholes
-within : (a x k m n : ℕ) → k ≤ m * n → a * x + k ≤ (a + m) * (x + n)
+pub within : (a x k m n : ℕ) → k ≤ m * n → a * x + k ≤ (a + m) * (x + n)
 within a x k m n h = omega (arith, add-mul a m (x + n), mul-add a x n, mul-add m x n)
 
 length-all_entries : (c d : Collection) → length (all_entries c d) ≤ entry_count c * entry_count d

@@ -19,6 +19,12 @@ module _ (R : ItemTree → ItemTree → Type 0) where
   bound_before c d grown a b sa sb o h =
       subst (λ s. IsMeetIn R s (item_tree c b) o) (grown.trees a sa) (subst (λ t. IsMeetIn R (item_tree d a) t o) (grown.trees b sb) h)
 
+  -- and the other way round
+  pub bound_later : (c d : Collection) → Extends c d → (a b : ItemKind) → AllStand c (item_keys a) → AllStand c (item_keys b) → (o : Option ItemTree)
+      → IsMeetIn R (item_tree c a) (item_tree c b) o → IsMeetIn R (item_tree d a) (item_tree d b) o
+  bound_later c d grown a b sa sb o h =
+      subst (λ s. IsMeetIn R s (item_tree d b) o) (sym (grown.trees a sa)) (subst (λ t. IsMeetIn R (item_tree c a) t o) (sym (grown.trees b sb)) h)
+
   -- the bound stays one while the collection grows
   pub bound_after : (d e : Collection) → Extends d e → (s t : ItemTree) (m : ItemKind) → AllStand d (item_keys m) → IsMeetIn R s t (Some (item_tree d m)) → IsMeetIn R s t (Some (item_tree e m))
   bound_after d e grown s t m sm h = subst (λ x. IsMeetIn R s t (Some x)) (sym (grown.trees m sm)) h

@@ -1,7 +1,7 @@
 -- What was built stays built while more is, and runs one after another.
-use Rattle.std.proofs.Common.{◌≡◌, refl, ap, sym, subst, ◌∙◌, ◌⊎◌, inl, inr, List, [], ◌∷◌, Some, Result, Ok, Err, IfOk}
+use Rattle.std.proofs.Common.{◌≡◌, refl, ap, sym, subst, ◌∙◌, ◌⊎◌, inl, inr, List, [], ◌∷◌, ◌++◌, Contains, arith, Some, Result, Ok, Err, IfOk}
 use Rattle.std.specs.Result.{IsErr}
-use Rattle.std.proofs.lemmas.List.Elements.{All-weaker}
+use Rattle.std.proofs.lemmas.List.Elements.{All-weaker, Contains-append_cases}
 use Rattle.wac_model.specs.Text.{Text}
 use Rattle.wac_model.specs.ItemTree.{ItemTree, Kind, item, type_item}
 use Rattle.wac_model.specs.Order.{Fits}
@@ -15,11 +15,15 @@ use Rattle.wac_component.specs.Sound.{IsSound}
 use Rattle.wac_component.specs.Tree.{item_tree}
 use Rattle.wac_component.specs.declared.items.ItemKind.{ItemKind}
 use Rattle.wac_component.proofs.Extended.{Extends-trans, Extends-refl}
+use Rattle.wac_component.proofs.Among.{Contains-cases}
 use Rattle.wac_component.proofs.Keys.{Key-discrete}
 use Rattle.wac_merge.specs.Bounded.{IsMetAs, IsJoinedAs}
 use Rattle.wac_merge.specs.Built.{Origins, IsBuilt, first, second, fresh, IsBuiltAt, of_first, of_second, of_both, AreBuilt, IsEntryFrom, of_interfaces, of_worlds, of_modules, IsMadeOf, IsAddedBuilt, OnlyBuilds}
 use Rattle.wac_merge.specs.Items.{entry_item, item_of, Externs}
-use Rattle.wac_merge.specs.Runs.{AgreeOn, Ran, Runs}
+use Rattle.wac_merge.specs.Memo.{Made, first_key, second_key, entry_key}
+use Rattle.wac_merge.specs.Runs.{AgreeOn, IsMadeOn, AreMadeOn, Ran, Runs}
+use Rattle.wac_merge.specs.declared.memo.Asked.{Asked}
+use Rattle.wac_merge.specs.declared.memo.EntryId.{EntryId}
 use Rattle.wac_component.proofs.Last.{IsLast}
 use Rattle.wac_merge.proofs.BoundLemmas.{bound_before, bound_after}
 
@@ -85,6 +89,12 @@ module _ (c d e : Collection) (o q : Origins) (grown : Extends d e) (agree : Agr
     bound = elim h.bound [ inl met ↦ inl (bound_grown Fits m stands met) | inr joined ↦ inr (bound_grown (λ s t. Fits t s) m stands joined) ];
   }
 
+  pub AreMadeOn-grown : (ms : Made) → AreMadeOn c d o ms → AreMadeOn c e q ms
+  AreMadeOn-grown ms h = record { each = λ x m. more x (h.each x m) }
+    where
+      more : (x : Asked × EntryId) → IsMadeOn c d o x → IsMadeOn c e q x
+      more x g = record { first = g.first; second = g.second; made = (grown.standing (entry_key x.1) g.made.0, g.made.1, agree (entry_key x.1) g.made.0 ∙ g.made.2) }
+
   -- more that is built
   only_more : HasLeavesOf d e → ((m : Key) → Stands e m → Stands d m ⊎ IsAddedBuilt c e q m) → OnlyBuilds c d o → OnlyBuilds c e q
   only_more leaves new h = record {
@@ -109,20 +119,28 @@ nothing_built c o = record {
   added = λ m stands. inl stands;
 }
 
+-- and nothing is made
+pub nothing_made : (c d : Collection) (o : Origins) → AreMadeOn c d o []
+nothing_made c d o = record { each = λ x m. absurd (omega (arith, m.1)) }
+
 -- a run that adds nothing
-pub Runs-none : (ks : List Key) (d e : Collection) (A : Collection → Origins → Type 0) → e ≡ d → ((c : Collection) (o : Origins) → A c o) → Runs ks d e A
-Runs-none ks d e A same answer = λ c o sound stand only.
-    subst (λ x. Ran c d x o (A c)) (sym same) record { origins = o; agree = λ m stands. refl; only = only; answer = answer c o }
+pub Runs-none : {ms : Made} (ks : List Key) (d e : Collection) (A : Collection → Origins → Type 0) → e ≡ d → ((c : Collection) (o : Origins) → A c o) → Runs ks d ms e ms A
+Runs-none {ms} ks d e A same answer = λ c o sound stand only made.
+    subst (λ x. Ran c d x o ms (A c)) (sym same) record { origins = o; agree = λ m stands. refl; only = only; made = made; answer = answer c o }
 
 -- another way to say what is answered
-pub Runs-map : (ks : List Key) (d e : Collection) (A B : Collection → Origins → Type 0) → ((c : Collection) (o : Origins) → A c o → B c o) → Runs ks d e A → Runs ks d e B
-Runs-map ks d e A B f run = λ c o sound stand only.
-    let r = run c o sound stand only in
-    record { origins = r.origins; agree = r.agree; only = r.only; answer = f c r.origins r.answer }
+pub Runs-map : {ms ns : Made} (ks : List Key) (d e : Collection) (A B : Collection → Origins → Type 0) → ((c : Collection) (o : Origins) → A c o → B c o) → Runs ks d ms e ns A → Runs ks d ms e ns B
+Runs-map ks d e A B f run = λ c o sound stand only made.
+    let r = run c o sound stand only made in
+    record { origins = r.origins; agree = r.agree; only = r.only; made = r.made; answer = f c r.origins r.answer }
 
 -- the same, where the last step adds nothing
-pub Runs-same : (ks : List Key) (d e f : Collection) (A B : Collection → Origins → Type 0) → f ≡ e → ((c : Collection) (o : Origins) → A c o → B c o) → Runs ks d e A → Runs ks d f B
-Runs-same ks d e f A B same g run = subst (λ z. Runs ks d z B) (sym same) (Runs-map ks d e A B g run)
+pub Runs-same : {ms ns ns' : Made} (ks : List Key) (d e f : Collection) (A B : Collection → Origins → Type 0) → f ≡ e → ns' ≡ ns → ((c : Collection) (o : Origins) → A c o → B c o) → Runs ks d ms e ns A → Runs ks d ms f ns' B
+Runs-same {ms} {ns} {ns'} ks d e f A B same same_made g run = subst (λ z. Runs ks d ms z ns' B) (sym same) (subst (λ z. Runs ks d ms e z B) (sym same_made) (Runs-map {ms = ms} {ns = ns} ks d e A B g run))
+
+-- the same, where the first step adds nothing
+pub Runs-after : {ms ms' ns : Made} (ks : List Key) (d e : Collection) (A : Collection → Origins → Type 0) → ms' ≡ ms → Runs ks d ms' e ns A → Runs ks d ms e ns A
+Runs-after {ns = ns} ks d e A same run = subst (λ z. Runs ks d z e ns A) same run
 
 -- nothing is said of a refused answer
 pub IfOk-refused : {X E : Type 0} (r : Result X E) (P : X → Type 0) → IsErr r → IfOk r P
@@ -130,21 +148,29 @@ IfOk-refused (Ok x) P h = absurd (cc)
 IfOk-refused (Err e) P h = tt
 
 -- the same run, for other ids from which those that it asks for follow
-pub Runs-from : (js ks : List Key) (d e : Collection) (A : Collection → Origins → Type 0) → ((c : Collection) → IsSound c → Extends c d → AllStand c js → AllStand c ks) → Runs ks d e A → Runs js d e A
-Runs-from js ks d e A follow run = λ c o sound stand only. run c o sound (follow c sound only.extends stand) only
+pub Runs-from : {ms ns : Made} (js ks : List Key) (d e : Collection) (A : Collection → Origins → Type 0) → ((c : Collection) → IsSound c → Extends c d → AllStand c js → AllStand c ks) → Runs ks d ms e ns A → Runs js d ms e ns A
+Runs-from js ks d e A follow run = λ c o sound stand only made. run c o sound (follow c sound only.extends stand) only made
 
 -- a run after another
-pub Runs-then : (ks : List Key) (d e f : Collection) (A B C : Collection → Origins → Type 0) → Extends d e → Runs ks d e A → Runs ks e f B
-    → ((c : Collection) (o q : Origins) → AgreeOn e o q → A c o → B c q → C c q) → Runs ks d f C
-Runs-then ks d e f A B C grown run then both = λ c o sound stand only.
-    let r = run c o sound stand only in
-    let s = then c r.origins sound stand r.only in
+pub Runs-then : {ms ns ps : Made} (ks : List Key) (d e f : Collection) (A B C : Collection → Origins → Type 0) → Extends d e → Runs ks d ms e ns A → Runs ks e ns f ps B
+    → ((c : Collection) (o q : Origins) → AgreeOn e o q → A c o → B c q → C c q) → Runs ks d ms f ps C
+Runs-then ks d e f A B C grown run then both = λ c o sound stand only made.
+    let r = run c o sound stand only made in
+    let s = then c r.origins sound stand r.only r.made in
     record {
       origins = s.origins;
       agree = λ m stands. s.agree m (grown.standing m stands) ∙ r.agree m stands;
       only = s.only;
+      made = s.made;
       answer = both c r.origins s.origins s.agree r.answer s.answer;
     }
+
+-- a run that ends with an entry which was made before
+pub Runs-made_before : {ms ns : Made} (ks : List Key) (d e : Collection) (A : Collection → Origins → Type 0) (a : Asked) (r : EntryId) → Contains ns (a, r) → Runs ks d ms e ns A
+    → Runs ks d ms e ns (λ c o. IsMadeOf c e o (first_key a.pair) (second_key a.pair) (entry_key r))
+Runs-made_before ks d e A a r there run = λ c o sound stand only made.
+    let s = run c o sound stand only made in
+    record { origins = s.origins; agree = s.agree; only = s.only; made = s.made; answer = (s.made.each (a, r) there).made }
 
 -- the origins, with that of one entry more
 decided : {P : Type 0} → Dec P → Key × Key → Key × Key → Key × Key
@@ -171,53 +197,64 @@ with_origin-other o k p m apart = go (Key-discrete m k)
     go (no n) = refl
 
 -- a run that ends with one entry more, made of two
-module _ (b d e : Collection) (x y k : Key) (a_entry b_entry entry : Entry) (A : Collection → Origins → Type 0) (grown_d : Extends b d) (grown : Extends d e) (leaves : HasLeavesOf d e)
-    (last : IsLast d e entry k) (a_at : entry_at b x ≡ Some a_entry) (b_at : entry_at b y ≡ Some b_entry)
+module _ (b d e : Collection) (a : Asked) (r : EntryId) (a_entry b_entry entry : Entry) (A : Collection → Origins → Type 0) (grown_d : Extends b d) (grown : Extends d e) (leaves : HasLeavesOf d e)
+    (last : IsLast d e entry (entry_key r)) (a_at : entry_at b (first_key a.pair) ≡ Some a_entry) (b_at : entry_at b (second_key a.pair) ≡ Some b_entry)
     (is_from : (c : Collection) (o : Origins) → A c o → IsEntryFrom c d o a_entry b_entry entry)
-    (bound : ((j : Kind) → IsMetAs b e (entry_item j x) (entry_item j y) (Some (entry_item j k))) ⊎ ((j : Kind) → IsJoinedAs b e (entry_item j x) (entry_item j y) (Some (entry_item j k)))) where
-  made_last : (c : Collection) (o : Origins) → AllStand c (x ∷ y ∷ []) → Extends c b → (r : Ran c b d o (A c)) → IsAddedBuilt c e (with_origin r.origins k (x, y)) k
-  made_last c o stand before r = made
+    (bound : ((j : Kind) → IsMetAs b e (entry_item j (first_key a.pair)) (entry_item j (second_key a.pair)) (Some (entry_item j (entry_key r)))) ⊎ ((j : Kind) → IsJoinedAs b e (entry_item j (first_key a.pair)) (entry_item j (second_key a.pair)) (Some (entry_item j (entry_key r))))) where
+  made_last : {ns : Made} (c : Collection) (o : Origins) → AllStand c ((first_key a.pair) ∷ (second_key a.pair) ∷ []) → Extends c b → (s : Ran c b d o ns (A c)) → IsAddedBuilt c e (with_origin s.origins (entry_key r) ((first_key a.pair), (second_key a.pair))) (entry_key r)
+  made_last c o stand before s = made
     where
       q : Origins
-      q = with_origin r.origins k (x, y)
+      q = with_origin s.origins (entry_key r) ((first_key a.pair), (second_key a.pair))
 
-      is : q k ≡ (x, y)
-      is = with_origin-here r.origins k (x, y)
+      is : q (entry_key r) ≡ ((first_key a.pair), (second_key a.pair))
+      is = with_origin-here s.origins (entry_key r) ((first_key a.pair), (second_key a.pair))
 
-      agree : AgreeOn d r.origins q
-      agree m stands = with_origin-other r.origins k (x, y) m (λ same. last.is_new (subst (Stands d) same stands))
+      agree : AgreeOn d s.origins q
+      agree m stands = with_origin-other s.origins (entry_key r) ((first_key a.pair), (second_key a.pair)) m (λ same. last.is_new (subst (Stands d) same stands))
 
-      bound_at : (R : ItemTree → ItemTree → Type 0) → ((j : Kind) → IsMeetIn R (item_tree b (entry_item j x)) (item_tree b (entry_item j y)) (Some (item_tree e (entry_item j k))))
-          → (j : Kind) → IsMeetIn R (item_tree c (entry_item j (q k).0)) (item_tree c (entry_item j (q k).1)) (Some (item_tree e (entry_item j k)))
+      bound_at : (R : ItemTree → ItemTree → Type 0) → ((j : Kind) → IsMeetIn R (item_tree b (entry_item j (first_key a.pair))) (item_tree b (entry_item j (second_key a.pair))) (Some (item_tree e (entry_item j (entry_key r)))))
+          → (j : Kind) → IsMeetIn R (item_tree c (entry_item j (q (entry_key r)).0)) (item_tree c (entry_item j (q (entry_key r)).1)) (Some (item_tree e (entry_item j (entry_key r))))
       bound_at R h j =
-          subst (λ (p : Key × Key). IsMeetIn R (item_tree c (entry_item j p.0)) (item_tree c (entry_item j p.1)) (Some (item_tree e (entry_item j k)))) (sym is)
-          (bound_before R c b before (entry_item j x) (entry_item j y) (entry_item_stands c j x stand.0) (entry_item_stands c j y stand.1.0) (Some (item_tree e (entry_item j k))) (h j))
+          subst (λ (p : Key × Key). IsMeetIn R (item_tree c (entry_item j p.0)) (item_tree c (entry_item j p.1)) (Some (item_tree e (entry_item j (entry_key r))))) (sym is)
+          (bound_before R c b before (entry_item j (first_key a.pair)) (entry_item j (second_key a.pair)) (entry_item_stands c j (first_key a.pair) stand.0) (entry_item_stands c j (second_key a.pair) stand.1.0) (Some (item_tree e (entry_item j (entry_key r)))) (h j))
 
-      made : IsAddedBuilt c e q k
+      made : IsAddedBuilt c e q (entry_key r)
       made = record {
         first_stands = subst (λ (p : Key × Key). Stands c p.0) (sym is) stand.0;
         second_stands = subst (λ (p : Key × Key). Stands c p.1) (sym is) stand.1.0;
         first = a_entry;
         second = b_entry;
         self = entry;
-        first_at = ap (λ (p : Key × Key). entry_at c p.0) is ∙ sym (before.same_entry x stand.0) ∙ a_at;
-        second_at = ap (λ (p : Key × Key). entry_at c p.1) is ∙ sym (before.same_entry y stand.1.0) ∙ b_at;
+        first_at = ap (λ (p : Key × Key). entry_at c p.0) is ∙ sym (before.same_entry (first_key a.pair) stand.0) ∙ a_at;
+        second_at = ap (λ (p : Key × Key). entry_at c p.1) is ∙ sym (before.same_entry (second_key a.pair) stand.1.0) ∙ b_at;
         self_at = last.at;
-        is_from = IsEntryFrom-grown c d e r.origins q grown agree a_entry b_entry entry (is_from c r.origins r.answer);
+        is_from = IsEntryFrom-grown c d e s.origins q grown agree a_entry b_entry entry (is_from c s.origins s.answer);
         bound = elim bound [ inl met ↦ inl (bound_at Fits met) | inr joined ↦ inr (bound_at (λ s t. Fits t s) joined) ];
       }
 
-  pub Runs-made : Runs (x ∷ y ∷ []) b d A → Runs (x ∷ y ∷ []) b e (λ c o. IsMadeOf c e o x y k)
-  Runs-made run = λ c o sound stand only.
-      let r = run c o sound stand only in
-      let q : Origins = with_origin r.origins k (x, y) in
-      let agree : AgreeOn d r.origins q = λ m stands. with_origin-other r.origins k (x, y) m (λ same. last.is_new (subst (Stands d) same stands)) in
-      let made = made_last c o stand only.extends r in
+  -- it is remembered last
+  made_more : (ns : Made) (c : Collection) (q : Origins) → AreMadeOn c e q ns → IsMadeOn c e q (a, r) → AreMadeOn c e q (ns ++ (a, r) ∷ [])
+  made_more ns c q before here = record {
+    each = λ z m. elim (Contains-append_cases ns ((a, r) ∷ []) z m) [
+      | inl old ↦ before.each z old
+      | inr new ↦ elim (Contains-cases z (a, r) [] new) [ inl same ↦ subst (IsMadeOn c e q) same here | inr none ↦ absurd (omega (arith, none.1)) ]
+    ];
+  }
+
+  pub Runs-made : {ms ns : Made} → Runs ((first_key a.pair) ∷ (second_key a.pair) ∷ []) b ms d ns A → Runs ((first_key a.pair) ∷ (second_key a.pair) ∷ []) b ms e (ns ++ (a, r) ∷ []) (λ c o. IsMadeOf c e o (first_key a.pair) (second_key a.pair) (entry_key r))
+  Runs-made {ns = ns} run = λ c o sound stand only made.
+      let s = run c o sound stand only made in
+      let q : Origins = with_origin s.origins (entry_key r) ((first_key a.pair), (second_key a.pair)) in
+      let agree : AgreeOn d s.origins q = λ m stands. with_origin-other s.origins (entry_key r) ((first_key a.pair), (second_key a.pair)) m (λ same. last.is_new (subst (Stands d) same stands)) in
+      let built = made_last c o stand only.extends s in
+      let is : IsMadeOf c e q (first_key a.pair) (second_key a.pair) (entry_key r) = (last.stands, λ stood. last.is_new (s.only.extends.standing (entry_key r) stood), with_origin-here s.origins (entry_key r) ((first_key a.pair), (second_key a.pair))) in
       record {
         origins = q;
-        agree = λ m stands. agree m (grown_d.standing m stands) ∙ r.agree m stands;
-        only = only_more c d e r.origins q grown agree leaves (λ m stands. elim (last.others m stands) [ inl stood ↦ inl stood | inr same ↦ inr (subst (IsAddedBuilt c e q) (sym same) made) ]) r.only;
-        answer = (last.stands, λ stood. last.is_new (r.only.extends.standing k stood), with_origin-here r.origins k (x, y));
+        agree = λ m stands. agree m (grown_d.standing m stands) ∙ s.agree m stands;
+        only = only_more c d e s.origins q grown agree leaves (λ m stands. elim (last.others m stands) [ inl stood ↦ inl stood | inr same ↦ inr (subst (IsAddedBuilt c e q) (sym same) built) ]) s.only;
+        made = made_more ns c q (AreMadeOn-grown c d e s.origins q grown agree ns s.made) record { first = stand.0; second = stand.1.0; made = is };
+        answer = is;
       }
 
 -- an item that names an entry that was made of two

@@ -7,5 +7,9 @@ pub mod CompositeLemmas
 pub mod MadeLemmas
 pub mod LoopLemmas
 pub mod ItemLemmas
+pub mod AskedLemmas
+pub mod MemoLemmas
+pub mod DoneLemmas
+pub mod CountLemmas
 pub mod OrderLemmas
 pub mod ItemKeys

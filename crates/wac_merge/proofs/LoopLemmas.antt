@@ -24,6 +24,7 @@ use Rattle.wac_core_merge.proofs.NameLemmas.{lookup-append}
 use Rattle.wac_merge.specs.Bounded.{IsMetWith, IsJoinedWith, IsFirstMetAt, IsJoinedAt, AreFirstMet, AreJoined}
 use Rattle.wac_merge.specs.Built.{Origins, IsBuiltWith, IsBuiltAt, of_first, of_both, AreBuilt}
 use Rattle.wac_merge.specs.Items.{Externs, extern_keys}
+use Rattle.wac_merge.specs.Memo.{Made}
 use Rattle.wac_merge.specs.Runs.{Runs}
 use Rattle.wac_merge.proofs.BuiltLemmas.{AreBuilt-grown, Runs-then, Runs-from}
 use Rattle.wac_merge.proofs.ExternLemmas.{found_stands, met_with_before, joined_with_before, first_met_after, joined_after}
@@ -104,9 +105,9 @@ module _ (b d e : Collection) (bd : Extends b d) (de : Extends d e) (es ts done 
   standing_turn m fs here put = rw put (stands_put e ms n m (AllStand-Extends d e de (extern_keys ms) standing) here)
 
 -- what the turn builds
-module _ (b d e : Collection) (bd : Extends b d) (de : Extends d e) (es ts : Externs) (n : Text) (a : ItemKind) (o : Option ItemKind) (there : lookup bytes_eq es n ≡ Some a) (other : o ≡ lookup bytes_eq ts n) (ms : Externs)
-    (before : Runs (extern_keys es ++ extern_keys ts) b d (λ c p. AreBuilt c d p es ts ms)) where
-  called : (B : Collection → Origins → Type 0) → Runs (item_keys a ++ optional_keys item_keys o) d e B → Runs (extern_keys es ++ extern_keys ts) d e B
+module _ {ps ms : Made} (b d e : Collection) (bd : Extends b d) (de : Extends d e) (es ts : Externs) (n : Text) (a : ItemKind) (o : Option ItemKind) (there : lookup bytes_eq es n ≡ Some a) (other : o ≡ lookup bytes_eq ts n) (xs : Externs)
+    (before : Runs (extern_keys es ++ extern_keys ts) b ps d ms (λ c p. AreBuilt c d p es ts xs)) where
+  called : {ns : Made} (B : Collection → Origins → Type 0) → Runs (item_keys a ++ optional_keys item_keys o) d ms e ns B → Runs (extern_keys es ++ extern_keys ts) d ms e ns B
   called B = Runs-from (extern_keys es ++ extern_keys ts) (item_keys a ++ optional_keys item_keys o) d e B (λ c sound before stand.
       Each-append (Stands c) (item_keys a) (optional_keys item_keys o)
       (named_stands c es n a there (Each-left (Stands c) (extern_keys es) (extern_keys ts) stand))
@@ -119,18 +120,18 @@ module _ (b d e : Collection) (bd : Extends b d) (de : Extends d e) (es ts : Ext
       go None g h = of_first (there ∙ ap (λ (k : ItemKind). Some k) (sym h))
       go (Some x) g h = of_both there (sym g) h
 
-  pub built_turn : (m : ItemKind) (fs : Externs) → fs ≡ insert_entry bytes_eq ms n m → Runs (item_keys a ++ optional_keys item_keys o) d e (λ c q. IsBuiltWith c e q a o m)
-      → Runs (extern_keys es ++ extern_keys ts) b e (λ c q. AreBuilt c e q es ts fs)
+  pub built_turn : {ns : Made} (m : ItemKind) (fs : Externs) → fs ≡ insert_entry bytes_eq xs n m → Runs (item_keys a ++ optional_keys item_keys o) d ms e ns (λ c q. IsBuiltWith c e q a o m)
+      → Runs (extern_keys es ++ extern_keys ts) b ps e ns (λ c q. AreBuilt c e q es ts fs)
   built_turn m fs put run =
-      Runs-then (extern_keys es ++ extern_keys ts) b d e (λ c p. AreBuilt c d p es ts ms) (λ c q. IsBuiltWith c e q a o m) (λ c q. AreBuilt c e q es ts fs) bd before (called (λ c q. IsBuiltWith c e q a o m) run)
-      (λ c p q agree built made. rw put (All-insert_entry (λ z. IsBuiltAt c e q es ts z.0 z.1) ms n m (AreBuilt-grown c d e p q de agree es ts ms built) (at_name c q m made)))
+      Runs-then (extern_keys es ++ extern_keys ts) b d e (λ c p. AreBuilt c d p es ts xs) (λ c q. IsBuiltWith c e q a o m) (λ c q. AreBuilt c e q es ts fs) bd before (called (λ c q. IsBuiltWith c e q a o m) run)
+      (λ c p q agree built made. rw put (All-insert_entry (λ z. IsBuiltAt c e q es ts z.0 z.1) xs n m (AreBuilt-grown c d e p q de agree es ts xs built) (at_name c q m made)))
 
-  pub dropped_built : (B : Collection → Origins → Type 0) → Runs (item_keys a ++ optional_keys item_keys o) d e B → Runs (extern_keys es ++ extern_keys ts) b e (λ c q. AreBuilt c e q es ts ms)
+  pub dropped_built : {ns : Made} (B : Collection → Origins → Type 0) → Runs (item_keys a ++ optional_keys item_keys o) d ms e ns B → Runs (extern_keys es ++ extern_keys ts) b ps e ns (λ c q. AreBuilt c e q es ts xs)
   dropped_built B run =
-      Runs-then (extern_keys es ++ extern_keys ts) b d e (λ c p. AreBuilt c d p es ts ms) B (λ c q. AreBuilt c e q es ts ms) bd before (called B run)
-      (λ c p q agree built made. AreBuilt-grown c d e p q de agree es ts ms built)
+      Runs-then (extern_keys es ++ extern_keys ts) b d e (λ c p. AreBuilt c d p es ts xs) B (λ c q. AreBuilt c e q es ts xs) bd before (called B run)
+      (λ c p q agree built made. AreBuilt-grown c d e p q de agree es ts xs built)
 
   -- whatever comes of it
-  pub ended_built : (B C : Collection → Origins → Type 0) → ((c : Collection) (q : Origins) → C c q) → Runs (item_keys a ++ optional_keys item_keys o) d e B → Runs (extern_keys es ++ extern_keys ts) b e C
+  pub ended_built : {ns : Made} (B C : Collection → Origins → Type 0) → ((c : Collection) (q : Origins) → C c q) → Runs (item_keys a ++ optional_keys item_keys o) d ms e ns B → Runs (extern_keys es ++ extern_keys ts) b ps e ns C
   ended_built B C any run =
-      Runs-then (extern_keys es ++ extern_keys ts) b d e (λ c p. AreBuilt c d p es ts ms) B C bd before (called B run) (λ c p q agree built made. any c q)
+      Runs-then (extern_keys es ++ extern_keys ts) b d e (λ c p. AreBuilt c d p es ts xs) B C bd before (called B run) (λ c p q agree built made. any c q)

@@ -1,5 +1,6 @@
 pub mod Items
 pub mod Bounded
 pub mod Built
+pub mod Memo
 pub mod Runs
 pub mod Reads

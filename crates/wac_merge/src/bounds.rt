@@ -1,16 +1,18 @@
 //! The meet and the join of two items of a collection.
 
-ghost use Rattle.std.specs.Prelude.{◌≡◌, ◌∷◌, [], IfOk, IfSome, Some};
+ghost use Rattle.std.specs.Prelude.{◌≡◌, ◌≤◌, ◌+◌, ◌*◌, ◌∷◌, [], IfOk, IfSome, Some};
 ghost use Rattle.std.specs.Option.{option_map};
 ghost use Rattle.wac_model.specs.Order.{Fits};
 ghost use Rattle.wac_bounds.specs.Bounds.{IsMeetIfAny, IsJoinIfAny};
 ghost use Rattle.wac_component.specs.Growth.{Extends};
 ghost use Rattle.wac_component.specs.Key.{AllStand, item_keys};
+ghost use Rattle.wac_component.specs.Sound.{entry_count};
 ghost use Rattle.wac_component.specs.Tree.{item_tree};
 ghost use Rattle.wac_merge.specs.Bounded.{IsKept};
 ghost use Rattle.wac_merge.specs.Built.{Builds};
 
 use crate::items::{join_items, meet_items};
+use crate::memo::Memo;
 use std::alloc::{AllocError, Global};
 use wac_component::{ItemKind, Types};
 
@@ -22,7 +24,8 @@ use wac_component::{ItemKind, Types};
 /// name met; a world that imports only names that both import, with what both have there joined; a
 /// core module likewise. Functions, values and resources have a meet where they are equal.
 ///
-/// Entries are only added, also where the answer is `None` or an error.
+/// Entries are only added, also where the answer is `None` or an error: at most one meet and one join
+/// of each ordered pair of entries that stood.
 pub fn meet(
     alloc: Global,
     types: &mut Types,
@@ -36,9 +39,11 @@ pub fn meet(
     ensures standing { IfOk result (λ m. IfSome m (λ k. AllStand types.new (item_keys k))) }
     ensures builds { Builds types.old types.new a b result }
     ensures grows { Extends types.old types.new }
+    ensures bounded { entry_count types.new ≤ entry_count types.old + 2 * entry_count types.old * entry_count types.old }
 {
     types.sound();
-    meet_items(alloc, types, a, b)
+    let mut memo = Memo::new(alloc);
+    meet_items(alloc, types, &mut memo, a, b)
 }
 
 /// The join of two items: the least item where whatever fits where one of the two is asked for fits,
@@ -50,7 +55,8 @@ pub fn meet(
 /// the imports of one name met; a core module likewise. Functions, values and resources have a join
 /// where they are equal.
 ///
-/// Entries are only added, also where the answer is `None` or an error.
+/// Entries are only added, also where the answer is `None` or an error: at most one meet and one join
+/// of each ordered pair of entries that stood.
 pub fn join(
     alloc: Global,
     types: &mut Types,
@@ -64,7 +70,9 @@ pub fn join(
     ensures standing { IfOk result (λ j. IfSome j (λ k. AllStand types.new (item_keys k))) }
     ensures builds { Builds types.old types.new a b result }
     ensures grows { Extends types.old types.new }
+    ensures bounded { entry_count types.new ≤ entry_count types.old + 2 * entry_count types.old * entry_count types.old }
 {
     types.sound();
-    join_items(alloc, types, a, b)
+    let mut memo = Memo::new(alloc);
+    join_items(alloc, types, &mut memo, a, b)
 }

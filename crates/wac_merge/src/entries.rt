@@ -1,13 +1,16 @@
 //! What is read of interfaces and worlds, and the entries that are made of two.
 
 ghost use Rattle.std.specs.Prelude.{◌≡◌, IfOk, OnOk, OnErr, Some, None};
+ghost use Rattle.wac_component.specs.Id.{Id};
 ghost use Rattle.wac_component.specs.Content.{named, use_content};
 ghost use Rattle.wac_component.specs.Growth.{Extends};
 ghost use Rattle.wac_component.specs.Key.{Stands, AllStand, interface_key, world_key};
 ghost use Rattle.wac_merge.specs.Built.{uses_of_both};
 ghost use Rattle.wac_merge.specs.Items.{extern_keys, extern_list};
+ghost use Rattle.wac_merge.specs.Memo.{IsMade, IsSame};
 ghost use Rattle.wac_merge.specs.Reads.{imports_at, exports_at, HasExports, AreRead, IsInterfaceOfBoth, IsWorldOfBoth};
 
+use crate::memo::{Asked, Bound, EntryId, Memo, Pair};
 use indexmap::IndexMap;
 use std::alloc::AllocError;
 use wac_component::{Interface, InterfaceId, ItemKind, Types, UsedType, World, WorldId};
@@ -59,7 +62,7 @@ fn uses_of_both(
 }
 
 // Puts an interface last that has these exports and uses what both do.
-pub(crate) fn add_interface_of(
+fn add_interface_of(
     types: &mut Types,
     first: InterfaceId,
     second: InterfaceId,
@@ -81,7 +84,7 @@ pub(crate) fn add_interface_of(
 }
 
 // Puts a world last that has these imports and exports and uses what both do.
-pub(crate) fn add_world_of(
+fn add_world_of(
     types: &mut Types,
     first: WorldId,
     second: WorldId,
@@ -103,4 +106,61 @@ pub(crate) fn add_world_of(
         imports,
         exports,
     })
+}
+
+// The interface that was made for the two; else a new one, put last and noted, that has these exports and
+// uses what both do. The interfaces that the exports name are lower, so none of them was made for these two.
+pub(crate) fn interface_of(
+    types: &mut Types,
+    memo: &mut Memo,
+    bound: Bound,
+    first: InterfaceId,
+    second: InterfaceId,
+    exports: IndexMap<String, ItemKind>,
+) -> Result<EntryId, AllocError>
+    requires first { Stands types.old (interface_key first) }
+    requires second { Stands types.old (interface_key second) }
+    requires exports { AllStand types.old (extern_keys (extern_list exports)) }
+    ensures made { IfOk result (λ p. IsMade types.old memo.old types.new memo.new (record { bound = bound; pair = Pair.Interfaces first second }) p ((q : Id) × (p ≡ EntryId.Interface q) × IsInterfaceOfBoth types.old types.new first second (extern_list exports) q)) }
+    ensures grows { Extends types.old types.new }
+    ensures err { OnErr result (types.new ≡ types.old) }
+    ensures err_memo { OnErr result (IsSame memo.old memo.new) }
+{
+    let pair = Pair::Interfaces(first, second);
+    if let Some(made) = memo.made_for(&Asked { bound, pair }) {
+        return Ok(made);
+    }
+    memo.reserve()?;
+    let made = EntryId::Interface(add_interface_of(types, first, second, exports)?);
+    memo.put(bound, pair, made)?;
+    Ok(made)
+}
+
+// The same of worlds.
+pub(crate) fn world_of(
+    types: &mut Types,
+    memo: &mut Memo,
+    bound: Bound,
+    first: WorldId,
+    second: WorldId,
+    imports: IndexMap<String, ItemKind>,
+    exports: IndexMap<String, ItemKind>,
+) -> Result<EntryId, AllocError>
+    requires first { Stands types.old (world_key first) }
+    requires second { Stands types.old (world_key second) }
+    requires imports { AllStand types.old (extern_keys (extern_list imports)) }
+    requires exports { AllStand types.old (extern_keys (extern_list exports)) }
+    ensures made { IfOk result (λ p. IsMade types.old memo.old types.new memo.new (record { bound = bound; pair = Pair.Worlds first second }) p ((q : Id) × (p ≡ EntryId.World q) × IsWorldOfBoth types.old types.new first second (extern_list imports) (extern_list exports) q)) }
+    ensures grows { Extends types.old types.new }
+    ensures err { OnErr result (types.new ≡ types.old) }
+    ensures err_memo { OnErr result (IsSame memo.old memo.new) }
+{
+    let pair = Pair::Worlds(first, second);
+    if let Some(made) = memo.made_for(&Asked { bound, pair }) {
+        return Ok(made);
+    }
+    memo.reserve()?;
+    let made = EntryId::World(add_world_of(types, first, second, imports, exports)?);
+    memo.put(bound, pair, made)?;
+    Ok(made)
 }

@@ -7,10 +7,11 @@ mod composites;
 mod entries;
 mod externs;
 mod items;
+mod memo;
 mod modules;
 mod names;
 mod order;
-mod wrap;
+mod pairs;
 
 pub use bounds::{join, meet};
 pub use names::{extern_named, put_extern};

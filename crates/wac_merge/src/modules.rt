@@ -1,35 +1,63 @@
 //! The meet and the join of two core module types.
 
-ghost use Rattle.std.specs.Prelude.{◌≡◌, ◌∷◌, [], IfOk, IfSome};
-ghost use Rattle.std.specs.Option.{option_map};
-ghost use Rattle.wac_model.specs.ItemTree.{Kind};
+ghost use Rattle.std.specs.Prelude.{◌≡◌, ◌∷◌, [], IfOk, IfSome, OnErr};
+ghost use Rattle.wac_core.specs.Content.{module_content};
 ghost use Rattle.wac_component.specs.Growth.{Extends};
+ghost use Rattle.wac_component.specs.Id.{Id};
 ghost use Rattle.wac_component.specs.Key.{Stands, module_key};
-ghost use Rattle.wac_merge.specs.Items.{entry_item};
-ghost use Rattle.wac_merge.specs.Bounded.{IsMetAs, IsJoinedAs};
 ghost use Rattle.wac_merge.specs.Built.{IsMadeOf};
+ghost use Rattle.wac_merge.specs.Memo.{IsTrueMemo, IsBoundOf, Grows, IsMade, IsSame, made_of, entry_key};
+ghost use Rattle.wac_merge.specs.Reads.{IsModuleAdded};
 ghost use Rattle.wac_merge.specs.Runs.{Runs};
 
+use crate::memo::{Asked, Bound, EntryId, Memo, Pair};
 use std::alloc::{AllocError, Global};
 use wac_component::{ModuleTypeId, Types};
+use wac_core::ModuleType;
 use wac_core_merge::{join_modules, meet_modules};
+
+// The core module type that was made for the two; else this one, put last and noted.
+fn module_of(
+    types: &mut Types,
+    memo: &mut Memo,
+    bound: Bound,
+    first: ModuleTypeId,
+    second: ModuleTypeId,
+    ty: ModuleType,
+) -> Result<EntryId, AllocError>
+    ensures made { IfOk result (λ p. IsMade types.old memo.old types.new memo.new (record { bound = bound; pair = Pair.Modules first second }) p ((q : Id) × (p ≡ EntryId.Module q) × IsModuleAdded types.old types.new (module_content ty) q)) }
+    ensures grows { Extends types.old types.new }
+    ensures err { OnErr result (types.new ≡ types.old) }
+    ensures err_memo { OnErr result (IsSame memo.old memo.new) }
+{
+    let pair = Pair::Modules(first, second);
+    if let Some(made) = memo.made_for(&Asked { bound, pair }) {
+        return Ok(made);
+    }
+    memo.reserve()?;
+    let made = EntryId::Module(types.add_module_type(ty)?);
+    memo.put(bound, pair, made)?;
+    Ok(made)
+}
 
 // The meet of two core module types, if there is one.
 pub(crate) fn meet_module_types(
     alloc: Global,
     types: &mut Types,
+    memo: &mut Memo,
     x: ModuleTypeId,
     y: ModuleTypeId,
-) -> Result<Option<ModuleTypeId>, AllocError>
+) -> Result<Option<EntryId>, AllocError>
     requires left { Stands types.old (module_key x) }
     requires right { Stands types.old (module_key y) }
-    ensures grows { Extends types.old types.new }
-    ensures met { IfOk result (λ m. (k : Kind) → IsMetAs types.old types.new (entry_item k (module_key x)) (entry_item k (module_key y)) (option_map (λ p. entry_item k (module_key p)) m)) }
-    ensures standing { IfOk result (λ m. IfSome m (λ p. Stands types.new (module_key p))) }
-    ensures built { Runs (module_key x ∷ module_key y ∷ []) types.old types.new (λ c o. IfOk result (λ m. IfSome m (λ p. IsMadeOf c types.new o (module_key x) (module_key y) (module_key p)))) }
+    requires memo { IsTrueMemo types.old memo.old }
+    ensures grows { Grows types.old memo.old types.new memo.new }
+    ensures met { IfOk result (IsBoundOf Bound.Meet types.old types.new (Pair.Modules x y)) }
+    ensures standing { IfOk result (λ m. IfSome m (λ p. Stands types.new (entry_key p))) }
+    ensures built { Runs (module_key x ∷ module_key y ∷ []) types.old (made_of memo.old) types.new (made_of memo.new) (λ c o. IfOk result (λ m. IfSome m (λ p. IsMadeOf c types.new o (module_key x) (module_key y) (entry_key p)))) }
 {
     match meet_modules(alloc, &types[x], &types[y])? {
-        Some(ty) => Ok(Some(types.add_module_type(ty)?)),
+        Some(ty) => Ok(Some(module_of(types, memo, Bound::Meet, x, y, ty)?)),
         None => Ok(None),
     }
 }
@@ -38,18 +66,20 @@ pub(crate) fn meet_module_types(
 pub(crate) fn join_module_types(
     alloc: Global,
     types: &mut Types,
+    memo: &mut Memo,
     x: ModuleTypeId,
     y: ModuleTypeId,
-) -> Result<Option<ModuleTypeId>, AllocError>
+) -> Result<Option<EntryId>, AllocError>
     requires left { Stands types.old (module_key x) }
     requires right { Stands types.old (module_key y) }
-    ensures grows { Extends types.old types.new }
-    ensures joined { IfOk result (λ m. (k : Kind) → IsJoinedAs types.old types.new (entry_item k (module_key x)) (entry_item k (module_key y)) (option_map (λ p. entry_item k (module_key p)) m)) }
-    ensures standing { IfOk result (λ m. IfSome m (λ p. Stands types.new (module_key p))) }
-    ensures built { Runs (module_key x ∷ module_key y ∷ []) types.old types.new (λ c o. IfOk result (λ m. IfSome m (λ p. IsMadeOf c types.new o (module_key x) (module_key y) (module_key p)))) }
+    requires memo { IsTrueMemo types.old memo.old }
+    ensures grows { Grows types.old memo.old types.new memo.new }
+    ensures joined { IfOk result (IsBoundOf Bound.Join types.old types.new (Pair.Modules x y)) }
+    ensures standing { IfOk result (λ m. IfSome m (λ p. Stands types.new (entry_key p))) }
+    ensures built { Runs (module_key x ∷ module_key y ∷ []) types.old (made_of memo.old) types.new (made_of memo.new) (λ c o. IfOk result (λ m. IfSome m (λ p. IsMadeOf c types.new o (module_key x) (module_key y) (entry_key p)))) }
 {
     match join_modules(alloc, &types[x], &types[y])? {
-        Some(ty) => Ok(Some(types.add_module_type(ty)?)),
+        Some(ty) => Ok(Some(module_of(types, memo, Bound::Join, x, y, ty)?)),
         None => Ok(None),
     }
 }

@@ -1,29 +1,33 @@
 //! Whether an item fits where another is asked for.
 
-ghost use Rattle.std.specs.Prelude.{◌↔◌, IsTrue, IfOk};
+ghost use Rattle.std.specs.Prelude.{◌≡◌, ◌↔◌, IsTrue, IfOk};
 ghost use Rattle.wac_model.specs.Order.{Fits};
 ghost use Rattle.wac_component.specs.Key.{AllStand, item_keys};
 ghost use Rattle.wac_component.specs.Tree.{item_tree};
+ghost use Rattle.wac_merge.specs.Memo.{IsTrueMemo, made_of};
 
+use crate::memo::Memo;
 use std::alloc::{AllocError, Global};
-use std::collections::HashSet;
 use wac_checker::SubtypeChecker;
 use wac_component::{ItemKind, Types};
 use wac_mismatch::SubtypeError;
 
-// Whether the left item fits where the right one is asked for.
+// Whether the left item fits where the right one is asked for; a pair that fits is remembered.
 pub(crate) fn fits(
     alloc: Global,
     types: &Types,
+    memo: &mut Memo,
     a: ItemKind,
     b: ItemKind,
 ) -> Result<bool, AllocError>
     requires left { AllStand types.now (item_keys a) }
     requires right { AllStand types.now (item_keys b) }
-    ensures { IfOk result (λ yes. IsTrue yes ↔ Fits (item_tree types.now a) (item_tree types.now b)) }
+    requires memo { IsTrueMemo types.now memo.old }
+    ensures answer { IfOk result (λ yes. IsTrue yes ↔ Fits (item_tree types.now a) (item_tree types.now b)) }
+    ensures made { made_of memo.new ≡ made_of memo.old }
+    ensures memo { IsTrueMemo types.now memo.new }
 {
-    let mut pairs = HashSet::new(alloc);
-    let mut checker = SubtypeChecker::new(&mut pairs);
+    let mut checker = SubtypeChecker::new(&mut memo.fitting);
     match checker.is_subtype(alloc, a, types, b, types) {
         Ok(()) => Ok(true),
         Err(SubtypeError::Memory) => Err(AllocError),

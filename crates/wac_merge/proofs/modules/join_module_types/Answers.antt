@@ -1,16 +1,30 @@
-use Rattle.std.proofs.Common.{ap, Some, inr}
+use Rattle.std.proofs.Common.{inr}
 use Rattle.wac_core.specs.Content.{module_content}
-use Rattle.wac_merge.proofs.CompositeLemmas.{modules_joined}
+use Rattle.wac_merge.specs.declared.memo.Bound.TheVariants.{Join}
+use Rattle.wac_merge.proofs.DoneLemmas.{module_joined_done}
 use Rattle.wac_merge.proofs.MadeLemmas.{module_made}
+use Rattle.wac_merge.proofs.MemoLemmas.{Grows-same, IsDone}
+use Rattle.wac_merge.specs.declared.memo.Pair.TheVariants.{Modules}
 use Rattle.wac_merge.proofs.modules.join_module_types.Goals as goal
 
-pub returns-in_ok-add_module_type-in-Some-clause-joined : goal.returns-in_ok-add_module_type-in-Some-clause-joined
-returns-in_ok-add_module_type-in-Some-clause-joined c = λ k.
-    modules_joined c.args.types.now c.add_module_type.new.self c.args.x c.args.y k (module_content c.index.result.now) (module_content c.index-2.result.now) (Some (module_content c.in-Some.ty)) (Some c.in_ok-add_module_type-in-Some.field-0)
-    c.index.ensures.tree c.index-2.ensures.tree (ap Some c.in_ok-add_module_type-in-Some.ensures.tree) (rw c.in-Some.is at c.in_ok-ty.ensures.join)
+pub returns-in_err-module_of-in-Some-clause-grows : goal.returns-in_err-module_of-in-Some-clause-grows
+returns-in_err-module_of-in-Some-clause-grows c = Grows-same c.args.types.now c.module_of.new.types c.args.memo.now c.module_of.new.memo c.requires.memo c.in_err-module_of-in-Some.ensures.err c.in_err-module_of-in-Some.ensures.err_memo
 
-pub returns-in_ok-add_module_type-in-Some-clause-built : goal.returns-in_ok-add_module_type-in-Some-clause-built
-returns-in_ok-add_module_type-in-Some-clause-built c =
-    module_made c.args.types.now c.add_module_type.new.self c.args.x c.args.y c.in_ok-add_module_type-in-Some.field-0 (module_content c.index.result.now) (module_content c.index-2.result.now) (module_content c.in-Some.ty)
-    c.index.ensures.entry c.index-2.ensures.entry (rw c.in-Some.is at c.in_ok-ty.ensures.names) c.in_ok-add_module_type-in-Some.ensures.grows c.in_ok-add_module_type-in-Some.ensures.added c.in_ok-add_module_type-in-Some.ensures.id
-    (inr (returns-in_ok-add_module_type-in-Some-clause-joined c))
+is_done : (c : goal.In_ok-module_of-in-Some) → IsDone Join (Modules c.args.x c.args.y) c.args.types.now c.args.types.now c.args.memo.now c.module_of.new.types c.module_of.new.memo c.in_ok-module_of-in-Some.field-0
+is_done c =
+    module_joined_done c.args.types.now c.args.memo.now c.module_of.new.types c.module_of.new.memo c.args.x c.args.y c.in_ok-module_of-in-Some.field-0 c.in_ok-module_of-in-Some.ensures.grows c.requires.left c.requires.right c.requires.memo
+    (module_content c.index.result.now) (module_content c.index-2.result.now) (module_content c.in-Some.ty) c.index.ensures.tree c.index-2.ensures.tree (rw c.in-Some.is at c.in_ok-ty.ensures.join) c.in_ok-module_of-in-Some.ensures.made
+
+pub returns-in_ok-module_of-in-Some-clause-grows : goal.returns-in_ok-module_of-in-Some-clause-grows
+returns-in_ok-module_of-in-Some-clause-grows c = (is_done c).grows
+
+pub returns-in_ok-module_of-in-Some-clause-joined : goal.returns-in_ok-module_of-in-Some-clause-joined
+returns-in_ok-module_of-in-Some-clause-joined c = (is_done c).bound
+
+pub returns-in_ok-module_of-in-Some-clause-standing : goal.returns-in_ok-module_of-in-Some-clause-standing
+returns-in_ok-module_of-in-Some-clause-standing c = (is_done c).stands
+
+pub returns-in_ok-module_of-in-Some-clause-built : goal.returns-in_ok-module_of-in-Some-clause-built
+returns-in_ok-module_of-in-Some-clause-built c =
+    module_made c.args.types.now c.module_of.new.types c.args.memo.now c.module_of.new.memo Join c.args.x c.args.y c.in_ok-module_of-in-Some.field-0 (module_content c.index.result.now) (module_content c.index-2.result.now) (module_content c.in-Some.ty)
+    c.index.ensures.entry c.index-2.ensures.entry (rw c.in-Some.is at c.in_ok-ty.ensures.names) c.in_ok-module_of-in-Some.ensures.grows c.in_ok-module_of-in-Some.ensures.made (inr (is_done c).bound)

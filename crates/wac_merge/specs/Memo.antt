@@ -1,0 +1,106 @@
+-- What a call remembers: the entries that it made, and what each was made for.
+use Rattle.std.specs.Prelude.{◌≡◌, ◌<◌, ◌+◌, ◌++◌, [], ◌∷◌, List, Bool, true, false, Option, Some, None, Contains, length}
+use Rattle.std.specs.Option.{option_map}
+use Rattle.indexmap.specs.IndexMap.{spare}
+use Rattle.wac_model.specs.ItemTree.{ItemTree, Kind, item, type_item}
+use Rattle.wac_model.specs.Order.{Fits}
+use Rattle.wac_bounds.specs.MeetIn.{IsMeetIn}
+use Rattle.wac_component.specs.Collection.{Collection}
+use Rattle.wac_component.specs.Growth.{Extends}
+use Rattle.wac_component.specs.Key.{Key, Stands, interface_key, world_key, module_key}
+use Rattle.wac_component.specs.Sound.{entry_count}
+use Rattle.wac_component.specs.Tree.{item_tree}
+use Rattle.wac_checker.specs.Cache.{IsSoundCache}
+use Rattle.wac_merge.specs.Items.{entry_item}
+use Rattle.wac_merge.specs.declared.memo.Bound.{Bound}
+use Rattle.wac_merge.specs.declared.memo.Bound.TheVariants.{Meet, Join}
+use Rattle.wac_merge.specs.declared.memo.Pair.{Pair}
+use Rattle.wac_merge.specs.declared.memo.Pair.TheVariants.{Interfaces, Worlds, Modules}
+use Rattle.wac_merge.specs.declared.memo.Asked.{Asked}
+use Rattle.wac_merge.specs.declared.memo.EntryId.{EntryId}
+use Rattle.wac_merge.specs.declared.memo.EntryId.TheVariants.{Interface, World, Module}
+use Rattle.wac_merge.specs.declared.memo.Memo.{Memo}
+
+-- a type, or else an item
+abbrev pub kind_of : Bool → Kind
+kind_of true = type_item
+kind_of false = item
+
+-- the first and the second of a pair
+abbrev pub first_key : Pair → Key
+first_key (Interfaces x y) = interface_key x
+first_key (Worlds x y) = world_key x
+first_key (Modules x y) = module_key x
+
+abbrev pub second_key : Pair → Key
+second_key (Interfaces x y) = interface_key y
+second_key (Worlds x y) = world_key y
+second_key (Modules x y) = module_key y
+
+abbrev pub entry_key : EntryId → Key
+entry_key (Interface p) = interface_key p
+entry_key (World p) = world_key p
+entry_key (Module p) = module_key p
+
+-- what was made, each with what it was made for
+abbrev pub Made : Type 0
+Made = List (Asked × EntryId)
+
+abbrev pub made_of : Memo → Made
+made_of m = m.made.entries
+
+-- nothing was made for this
+abbrev pub IsNew : Made → Asked → Type 0
+IsNew ms a = (p : EntryId) → Contains ms (a, p) → ⊥
+
+-- what was made for this, if anything was
+abbrev pub IsMadeFor : Made → Asked → Option EntryId → Type 0
+IsMadeFor ms a None = IsNew ms a
+IsMadeFor ms a (Some p) = Contains ms (a, p)
+
+-- one more entry can be noted without memory
+abbrev pub HasRoom : Memo → Type 0
+HasRoom m = 0 < spare m.made
+
+-- the two remember the same
+pub record IsSame (m n : Memo) : Type 0 where
+  pub made : made_of n ≡ made_of m
+  pub fitting : n.fitting.keys ≡ m.fitting.keys
+
+-- a meet is greatest in the order of items, a join in the order turned round
+abbrev pub order_of : Bound → ItemTree → ItemTree → Type 0
+order_of Meet s t = Fits s t
+order_of Join s t = Fits t s
+
+-- the entry, in d, is the meet or the join of two in c, as items and as types; none where there is none
+abbrev pub IsBoundOf : Bound → Collection → Collection → Pair → Option EntryId → Type 0
+IsBoundOf b c d p m = (k : Kind) → IsMeetIn (order_of b) (item_tree c (entry_item k (first_key p))) (item_tree c (entry_item k (second_key p))) (option_map (item_tree d) (option_map (λ e. entry_item k (entry_key e)) m))
+
+-- what was made is what was asked for
+pub record IsTrueMade (d : Collection) (x : Asked × EntryId) : Type 0 where
+  pub first : Stands d (first_key x.0.pair)
+  pub second : Stands d (second_key x.0.pair)
+  pub stands : Stands d (entry_key x.1)
+  pub bound : IsBoundOf x.0.bound d d x.0.pair (Some x.1)
+
+-- nothing was made twice
+abbrev pub AreMadeOnce : Made → Type 0
+AreMadeOnce [] = Unit {0}
+AreMadeOnce (x ∷ xs) = IsNew xs x.0 × AreMadeOnce xs
+
+-- what is remembered is true of a collection
+pub record IsTrueMemo (d : Collection) (m : Memo) : Type 0 where
+  pub made : (x : Asked × EntryId) → Contains (made_of m) x → IsTrueMade d x
+  pub once : AreMadeOnce (made_of m)
+  pub fitting : IsSoundCache (d ∷ d ∷ []) m.fitting.keys
+
+-- entries were only added, each is remembered, and what is remembered is true
+pub record Grows (d : Collection) (m : Memo) (e : Collection) (n : Memo) : Type 0 where
+  pub extends : Extends d e
+  pub counted : entry_count e + length (made_of m) ≡ entry_count d + length (made_of n)
+  pub true_memo : IsTrueMemo e n
+
+-- the entry was made before for what is asked, and nothing is added; or it is made now, and noted
+pub data IsMade (d : Collection) (m : Memo) (e : Collection) (n : Memo) (a : Asked) (p : EntryId) (IsAdded : Type 0) : Type 0 where
+  before : Contains (made_of m) (a, p) → e ≡ d → IsSame m n → IsMade d m e n a p IsAdded
+  now : IsNew (made_of m) a → IsAdded → made_of n ≡ made_of m ++ (a, p) ∷ [] → n.fitting.keys ≡ m.fitting.keys → IsMade d m e n a p IsAdded
