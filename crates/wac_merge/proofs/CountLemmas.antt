@@ -1,11 +1,10 @@
 -- How many entries one call can make.
-use Rattle.std.proofs.Common.{◌≡◌, ◌≤◌, ◌+◌, ◌*◌, List, [], ◌∷◌, ◌++◌, length, map, Contains, ap, sym, subst, ◌∙◌, suc, length-append, arith}
+use Rattle.std.proofs.Common.{◌≡◌, ◌≤◌, ◌+◌, ◌*◌, List, [], ◌∷◌, ◌++◌, length, map, Contains, sym, subst, length-append, arith}
 use Rattle.std.proofs.lemmas.List.{length-map}
 use Rattle.std.proofs.lemmas.List.Elements.{Contains-append_left, Contains-append_right}
 use Rattle.std.proofs.lemmas.Nat.{mul-le}
 use Rattle.std.proofs.Math.Nat.{mul_assoc}
 use Rattle.wac_component.specs.Collection.{Collection}
-use Rattle.wac_component.specs.Id.{Id}
 use Rattle.wac_component.specs.Key.{Stands}
 use Rattle.wac_component.specs.Sound.{entry_count}
 use Rattle.wac_component.proofs.Among.{Contains-first, Contains-later}

@@ -1,11 +1,11 @@
 -- Two items that name a pair of entries alike.
-use Rattle.std.proofs.Common.{◌≡◌, ap, sym, subst, ◌∙◌, ◌∷◌, [], ◌++◌, List, Option, Some, None, Result, Ok, Err, IfOk, IfSome}
+use Rattle.std.proofs.Common.{◌≡◌, sym, subst, ◌∙◌, ◌∷◌, [], ◌++◌, Option, Some, None, Result, IfOk, IfSome}
 use Rattle.std.specs.Option.{option_map}
 use Rattle.std.specs.declared.alloc.AllocError.{AllocError}
 use Rattle.wac_model.specs.ItemTree.{Kind}
 use Rattle.wac_bounds.specs.MeetIn.{IsMeetIn}
 use Rattle.wac_component.specs.Collection.{Collection}
-use Rattle.wac_component.specs.Key.{Key, Stands, AllStand, item_keys, optional_keys}
+use Rattle.wac_component.specs.Key.{Stands, AllStand, item_keys, optional_keys}
 use Rattle.wac_component.specs.Sound.{IsSound}
 use Rattle.wac_component.specs.Tree.{item_tree}
 use Rattle.wac_component.specs.declared.items.ItemKind.{ItemKind}

@@ -1,5 +1,5 @@
 -- Runs that end with an entry that was made of two.
-use Rattle.std.proofs.Common.{◌≡◌, refl, ap, sym, subst, ◌∙◌, ◌⊎◌, inl, inr, ◌∷◌, [], ◌++◌, List, Some, None, slice_get, length}
+use Rattle.std.proofs.Common.{◌≡◌, refl, ap, sym, subst, ◌∙◌, ◌⊎◌, inl, inr, ◌∷◌, [], ◌++◌, List, Some, None, slice_get}
 use Rattle.wac_model.specs.CoreTree.{ModuleTree}
 use Rattle.wac_model.specs.ItemTree.{Kind}
 use Rattle.std.specs.Str.{bytes_eq}
@@ -28,7 +28,7 @@ use Rattle.wac_merge.specs.declared.memo.EntryId.{EntryId}
 use Rattle.wac_merge.specs.declared.memo.EntryId.TheVariants.{Interface, World, Module}
 use Rattle.wac_merge.specs.declared.memo.Memo.{Memo}
 use Rattle.wac_merge.specs.declared.memo.Pair.TheVariants.{Interfaces, Worlds, Modules}
-use Rattle.wac_merge.proofs.BuiltLemmas.{Runs-map, Runs-made, Runs-made_before, Runs-none, Runs-from, Runs-then, AreBuilt-grown}
+use Rattle.wac_merge.proofs.BuiltLemmas.{Runs-made, Runs-made_before, Runs-none, Runs-from, Runs-then, AreBuilt-grown}
 use Rattle.wac_merge.proofs.ReadLemmas.{module_at, module_last, interface_last, world_last, world_imports_are, world_exports_are, imports_stay, exports_stay, imports_at_stand, exports_at_stand}
 
 -- the meet or the join of two entries of c, in d

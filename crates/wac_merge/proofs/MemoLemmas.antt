@@ -1,8 +1,6 @@
 -- What is remembered stays true, and how much it is.
-use Rattle.std.proofs.Common.{◌≡◌, ◌+◌, ◌⊎◌, inl, inr, refl, ap, sym, subst, ◌∙◌, zero, suc, List, [], ◌∷◌, ◌++◌, length, length-append, Contains, Option, Some, None, arith}
+use Rattle.std.proofs.Common.{◌≡◌, ◌+◌, inl, inr, refl, ap, sym, subst, ◌∙◌, zero, suc, [], ◌∷◌, ◌++◌, length, length-append, Contains, Some, arith}
 use Rattle.std.proofs.lemmas.List.Elements.{Contains-append_cases}
-use Rattle.wac_model.specs.ItemTree.{ItemTree, Kind}
-use Rattle.wac_bounds.specs.MeetIn.{IsMeetIn}
 use Rattle.wac_component.specs.Collection.{Collection}
 use Rattle.wac_component.specs.Growth.{Extends}
 use Rattle.wac_component.specs.Key.{Stands}

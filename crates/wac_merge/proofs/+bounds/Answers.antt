@@ -3,7 +3,6 @@ use Rattle.std.specs.Map.Iter.{deref_pair}
 use Rattle.std.proofs.lemmas.Map.Iter.{iter_end}
 use Rattle.wac_component.specs.Content.{named}
 use Rattle.wac_component.specs.Key.{AllStand, item_keys, optional_keys, interface_key, world_key}
-use Rattle.wac_component.specs.Tree.{item_tree}
 use Rattle.wac_component.proofs.Extended.{Extends-trans, AllStand-Extends}
 use Rattle.wac_checker.proofs.ExternLemmas.{named_stands}
 use Rattle.wac_merge.specs.Bounded.{AreFirstMet}

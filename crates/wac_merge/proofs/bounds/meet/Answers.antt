@@ -6,7 +6,6 @@ use Rattle.wac_component.specs.Key.{item_keys}
 use Rattle.wac_merge.proofs.BuiltLemmas.{Runs-after}
 use Rattle.wac_merge.proofs.CountLemmas.{made_bounded}
 use Rattle.wac_merge.proofs.ItemLemmas.{builds, ran}
-use Rattle.wac_merge.proofs.MemoLemmas.{IsTrueMemo-none}
 use Rattle.wac_merge.proofs.bounds.meet.Goals as goal
 
 pub returns-clause-meet : goal.returns-clause-meet
