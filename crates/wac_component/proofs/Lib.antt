@@ -26,7 +26,7 @@ pub mod Replacing
 pub mod Put
 pub mod ReplacedTrees
 pub mod Search
-pub mod Seen
+pub mod Reached
 pub mod DistinctNames
 pub mod Roots
 pub mod StandingLemmas

@@ -26,14 +26,16 @@ record LeadTo (c : Collection) (vs : List Key) (t : Key) : Type 0 where
   pub stand : AllStand c vs
   pub lead : (v : Key) → IsAmong v vs → (j : Key) × IsAmong j (next c v) × Reaches c j t
 
-positions_differ : (c : Collection) (vs : List Key) (t : Key) → AllStand c vs → Stands c t → ((v : Key) → IsAmong v vs → v ≢ t) → AllByRecursion (λ y. eqb (position c t) y ≡ false) (map (position c) vs)
+-- ids that stand and that are not another one have other positions
+pub positions_differ : (c : Collection) (vs : List Key) (t : Key) → AllStand c vs → Stands c t → ((v : Key) → IsAmong v vs → v ≢ t) → AllByRecursion (λ y. eqb (position c t) y ≡ false) (map (position c) vs)
 positions_differ c [] t h st ne = tt
 positions_differ c (v ∷ vs) t h st ne = (differs, positions_differ c vs t h.1 st (λ w m. ne w (there m)))
   where
     differs : eqb (position c t) (position c v) ≡ false
     differs = ne_eqb (position c t) (position c v) (λ q. ne v here (sym (same_position c t v st h.0 q)))
 
-positions_below : (c : Collection) (vs : List Key) → AllStand c vs → (q : ℕ) → list_any (eqb q) (map (position c) vs) ≡ true → q < entry_count c
+-- each position of ids that stand is below the number of entries
+pub positions_below : (c : Collection) (vs : List Key) → AllStand c vs → (q : ℕ) → list_any (eqb q) (map (position c) vs) ≡ true → q < entry_count c
 positions_below c [] h q m = absurd (cc)
 positions_below c (v ∷ vs) h q m = by_test (positions_below c vs h.1 q) (eqb q (position c v)) refl m
   where

@@ -1,18 +1,21 @@
 -- What the search for a cycle finds.
-use Rattle.std.proofs.Common.{◌≡◌, ◌≢◌, Bool, false, IsTrue, Contains, ◌<◌, ℕ, ◌+◌, ◌⊎◌, inl, inr, suc, zero, List, [], ◌∷◌, Option, None, Some, map, length, slice_get, Result, Ok, Err, refl, ap, sym, ◌∙◌, subst, arith}
+use Rattle.std.proofs.Common.{◌≡◌, ◌≢◌, ◌<◌, ◌≤◌, ℕ, ◌+◌, ◌⊎◌, inl, inr, suc, zero, List, [], ◌∷◌, Option, None, Some, length, slice_get, Result, Ok, Err, refl, ap, sym, ◌∙◌, subst, arith}
 use Rattle.std.specs.Option.{option_map}
+use Rattle.std.proofs.lemmas.Option.{slice_get_within}
 use Rattle.std.specs.Result.{IfOk}
 use Rattle.wac_model.specs.CoreTree.{ModuleTree}
 use Rattle.wac_component.specs.Id.{Id}
 use Rattle.wac_component.specs.Collection.{Collection}
-use Rattle.wac_component.specs.Key.{Key, Entry, module_entry, entries, entry_at, entry_keys, optional_keys, next, Stands, module_key}
+use Rattle.wac_component.specs.Key.{Key, Entry, module_entry, entries, entry_at, entry_keys, optional_keys, next, Stands, AllStand, module_key}
 use Rattle.wac_component.specs.Sound.{IsSound}
 use Rattle.wac_component.specs.Height.{height, keys_height}
 use Rattle.wac_component.specs.Reach.{IsAmong, here, there, Reaches, stay, step}
 use Rattle.wac_component.specs.Replacing.{NamesReach}
-use Rattle.wac_component.specs.Naming.{key_of, NoneReaches}
-use Rattle.wac_component.specs.declared.collection.naming.EntryId.{EntryId}
-use Rattle.wac_component.proofs.Lists.{slice_get-map}
+use Rattle.wac_component.specs.Naming.{Puts}
+use Rattle.wac_component.proofs.Among.{among_left, each_among}
+use Rattle.wac_component.proofs.Lists.{slice_get-map, slice_get-append}
+use Rattle.wac_component.proofs.Returns.{Reaches-trans}
+use Rattle.wac_component.proofs.Walks.{among_stands, walks_stand}
 use Rattle.wac_component.proofs.Unfolded.{entry_below}
 
 pub next_at : (c : Collection) (k : Key) (e : Entry) → entry_at c k ≡ Some e → next c k ≡ entry_keys e
@@ -35,42 +38,80 @@ module_next c p = ap (optional_keys entry_keys) (slice_get-map module_entry c.mo
     nothing None = refl
     nothing (Some m) = refl
 
--- the key of an id of a list is among those of the list
-pub listed : (es : List EntryId) (i : ℕ) (e : EntryId) → slice_get es i ≡ Some e → IsAmong (key_of e) (map key_of es)
-listed [] i e is = absurd (cc)
-listed (x ∷ es) zero e is = let same : x ≡ e = cc in subst (λ y. IsAmong (key_of e) (key_of y ∷ map key_of es)) (sym same) here
-listed (x ∷ es) (suc i) e is = there (listed es i e is)
+-- the search among ids reached from some: those before a place aren't the target, and all that they name was reached
+pub record Searched (c : Collection) (ks : List Key) (t : Key) (n : ℕ) (reached : List Key) : Type 0 where
+  pub names : (k : Key) → IsAmong k ks → IsAmong k reached
+  pub leads : (k : Key) → IsAmong k reached → NamesReach c ks k
+  pub others : (i : ℕ) (k : Key) → i < n → slice_get reached i ≡ Some k → k ≢ t
+  pub closed : (i : ℕ) (k : Key) → i < n → slice_get reached i ≡ Some k → (j : Key) → IsAmong j (next c k) → IsAmong j reached
 
--- where no walk leads from the ids of a list, none leads from their keys
-pub none_names : (c : Collection) (t : Key) (es : List EntryId) → ((i : ℕ) (e : EntryId) → slice_get es i ≡ Some e → Reaches c (key_of e) t → ⊥) → (j : Key) → IsAmong j (map key_of es) → Reaches c j t → ⊥
-none_names c t [] h j m w = elim m [ ]
-none_names c t (e ∷ es) h _ here w = h 0 e refl w
-none_names c t (e ∷ es) h j (there m) w = none_names c t es (λ i x. h (suc i) x) j m w
+among_at : (ks : List Key) (i : ℕ) (k : Key) → slice_get ks i ≡ Some k → IsAmong k ks
+among_at [] i k at = absurd (cc)
+among_at (x ∷ ks) zero k at = let same : x ≡ k = cc in subst (λ y. IsAmong k (y ∷ ks)) (sym same) here
+among_at (x ∷ ks) (suc i) k at = there (among_at ks i k at)
 
--- a walk to another id begins with a step
-steps : (c : Collection) (k t : Key) → k ≢ t → Reaches c k t → NamesReach c (next c k) t
-steps c k t ne stay = absurd (ne refl)
-steps c k t ne (step {j = j} m w) = (j, m, w)
+place_of : (ks : List Key) (k : Key) → IsAmong k ks → (i : ℕ) × (i < length ks) × (slice_get ks i ≡ Some k)
+place_of [] k m = elim m [ ]
+place_of (_ ∷ ks) k here = (0, omega arith, refl)
+place_of (j ∷ ks) k (there m) = let p = place_of ks k m in let l = p.1 in (suc p.0, omega arith, p.2)
 
--- what holds of the ids before a place, and at it, holds before the next place
-pub one_more : (P : EntryId → Type 0) (es : List EntryId) (n : ℕ) (x : EntryId) → ((i : ℕ) → i < n → (e : EntryId) → slice_get es i ≡ Some e → P e) → slice_get es n ≡ Some x → P x → (i : ℕ) → i < n + 1 → (e : EntryId) → slice_get es i ≡ Some e → P e
-one_more P es n x before is at i h e found = elim (less_or_same i n h) [ inl lt ↦ before i lt e found | inr same ↦ let q : x ≡ e = last same in subst P q at ]
-  where
-    less_or_same : (j m : ℕ) → j < m + 1 → (j < m) ⊎ (j ≡ m)
-    less_or_same j m g = grind arith
+pub Searched-start : {c : Collection} {ks : List Key} {t : Key} (reached : List Key) → Puts ks [] reached → Searched c ks t 0 reached
+Searched-start reached p = record {
+  names = p.has;
+  leads = λ k m. elim (p.only k m) [ inl l ↦ elim l [ ] | inr r ↦ (k, r, stay) ];
+  others = λ i k l at. absurd (omega arith);
+  closed = λ i k l at. absurd (omega arith);
+}
 
-    last : i ≡ n → x ≡ e
-    last same = let f : slice_get es n ≡ Some e = rw same at found in cc
+module _ {c : Collection} {ks : List Key} {t : Key} {n : ℕ} {reached : List Key} (s : Searched c ks t n reached) where
+  -- a walk leads to what is at a place
+  pub Searched-leads : (i : ℕ) (k : Key) → slice_get reached i ≡ Some k → NamesReach c ks k
+  Searched-leads i k at = s.leads k (among_at reached i k at)
 
--- no walk leads from an id that is not the target, where none leads from what it names
-pub none_from : (c : Collection) (k t : Key) (ks : List Key) (same found : Bool) → ks ≡ next c k → (k ≡ t → IsTrue same) → same ≡ false → (NamesReach c ks t → IsTrue found) → found ≡ false → Reaches c k t → ⊥
-none_from c k t ks same found is one other many none w =
-    let differ : k ≢ t = λ e. let h = one e in absurd (cc) in
-    let onward : NamesReach c ks t = rw is (steps c k t differ w) in
-    let h = many onward in absurd (cc)
+  -- and so it stands
+  pub Searched-stands : IsSound c → AllStand c ks → (i : ℕ) (k : Key) → slice_get reached i ≡ Some k → Stands c k
+  Searched-stands sound st i k at = let w = Searched-leads i k at in walks_stand c sound w.0 k (among_stands c w.0 ks w.1 st) w.2
 
-pub still_none : (c : Collection) (before after : List EntryId) (from target : EntryId) → ((e : EntryId) → Contains after e → Contains before e ⊎ (e ≡ from)) → NoneReaches c before target → (Reaches c (key_of from) (key_of target) → ⊥) → NoneReaches c after target
-still_none c before after from target only none h e m w = elim (only e m) [ inl old ↦ none e old w | inr same ↦ h (subst (λ x. Reaches c (key_of x) (key_of target)) same w) ]
+  pub Searched-all_stand : IsSound c → AllStand c ks → AllStand c reached
+  Searched-all_stand sound st = each_among (Stands c) reached (λ k m. let p = place_of reached k m in Searched-stands sound st p.0 k p.2)
+
+  -- what is at the place isn't the target, and what it names was put
+  pub Searched-next : (k : Key) (now : List Key) → slice_get reached n ≡ Some k → k ≢ t → Puts (next c k) reached now → Searched c ks t (n + 1) now
+  Searched-next k now at other p = record {
+    names = λ j m. kept j (s.names j m);
+    leads = λ j m. elim (p.only j m) [ inl l ↦ s.leads j l | inr r ↦ onward j r ];
+    others = λ i j l is. elim (before_or_at i j l is) [ inl b ↦ s.others i j b.0 b.1 | inr same ↦ λ e. other (sym same ∙ e) ];
+    closed = λ i j l is h m. elim (before_or_at i j l is) [ inl b ↦ kept h (s.closed i j b.0 b.1 h m) | inr same ↦ p.has h (subst (λ x. IsAmong h (next c x)) same m) ];
+  }
+    where
+      kept : (j : Key) → IsAmong j reached → IsAmong j now
+      kept j m = subst (IsAmong j) (sym p.begins.1) (among_left reached p.begins.0 m)
+
+      onward : (j : Key) → IsAmong j (next c k) → NamesReach c ks j
+      onward j m = let w = Searched-leads n k at in (w.0, w.1, Reaches-trans c w.0 k j w.2 (step m stay))
+
+      stays : (i : ℕ) → i < length reached → slice_get now i ≡ slice_get reached i
+      stays i l = ap (λ xs. slice_get xs i) p.begins.1 ∙ slice_get-append reached p.begins.0 i l
+
+      less_or_same : (i : ℕ) → i < n + 1 → (i < n) ⊎ (i ≡ n)
+      less_or_same i l = grind arith
+
+      before_or_at : (i : ℕ) (j : Key) → i < n + 1 → slice_get now i ≡ Some j → ((i < n) × (slice_get reached i ≡ Some j)) ⊎ (j ≡ k)
+      before_or_at i j l is = elim (less_or_same i l) [
+        | inl b ↦ inl (b, sym (stays i (omega (arith, slice_get_within reached n k at))) ∙ is)
+        | inr same ↦ inr (one (sym (stays n (slice_get_within reached n k at)) ∙ rw same at is))
+      ]
+        where
+          one : slice_get reached n ≡ Some j → j ≡ k
+          one f = cc
+
+  -- once all that was reached is before the place, no walk leads to the target
+  pub Searched-end : length reached ≤ n → NamesReach c ks t → ⊥
+  Searched-end l w = let p = place_of reached t (all w.0 t (s.names w.0 w.1) w.2) in let b = p.1 in s.others p.0 t (omega arith) p.2 refl
+    where
+      all : (k j : Key) → IsAmong k reached → Reaches c k j → IsAmong j reached
+      all k j m stay = m
+      all k j m (step {j = i} h v) = let p = place_of reached k m in let b = p.1 in all i j (s.closed p.0 k (omega arith) p.2 i h) v
 
 -- what follows from a fact of a value, if there is one
 pub if_ok : {T E : Type 0} (P Q : T → Type 0) → ((t : T) → P t → Q t) → (r : Result T E) → IfOk r P → IfOk r Q

@@ -50,7 +50,7 @@ fn type_id(ty: Type) -> Option<EntryId>
 }
 
 // The id in an item, if there is an item and it has one.
-fn place_id(place: Option<ItemKind>) -> Option<EntryId>
+pub(crate) fn place_id(place: Option<ItemKind>) -> Option<EntryId>
     ensures { map key_of (option_to_list result) ≡ place_keys place }
 {
     match place {

@@ -1,40 +1,54 @@
 //! Looking for a walk along ids.
 
-ghost use Rattle.std.specs.Prelude.{◌≡◌, ◌<◌, ◌++◌, ◌↔◌, ◌⊎◌, map, IsTrue, OnOk, IfOk, Contains};
-ghost use Rattle.wac_component.specs.Height.{height, keys_height};
+ghost use Rattle.std.specs.Prelude.{◌≡◌, ◌<◌, ◌↔◌, length, map, slice_get, IsTrue, OnOk, IfOk};
+ghost use Rattle.std.specs.Option.{option_to_list};
 ghost use Rattle.wac_component.specs.Key.{Stands, AllStand, next};
-ghost use Rattle.wac_component.specs.Naming.{key_of, NoneReaches};
-ghost use Rattle.wac_component.specs.Parts.{all_places, places_keys};
-ghost use Rattle.wac_component.specs.Reach.{Reaches};
+ghost use Rattle.wac_component.specs.Naming.{key_of, Puts};
+ghost use Rattle.wac_component.specs.Parts.{places, all_places, places_keys};
 ghost use Rattle.wac_component.specs.Replacing.{NamesReach};
-ghost use Rattle.wac_component.specs.declared.collection.naming.EntryId.{EntryId};
 
 use super::Types;
-use super::naming::{EntryId, named_ids};
-use crate::parts::{AllParts, NONE};
+use super::naming::{EntryId, place_id};
+use crate::parts::{AllParts, NONE, Parts};
+use indexmap::IndexSet;
 use std::alloc::AllocError;
-use std::collections::HashSet;
 
-// Whether two ids are one.
-fn same_id(a: &EntryId, b: &EntryId) -> bool
-    ensures { IsTrue result ↔ key_of a.now ≡ key_of b.now }
+// Puts an id last, if there is one that isn't there.
+fn put(reached: &mut IndexSet<EntryId>, id: Option<EntryId>) -> Result<(), AllocError>
+    ensures { OnOk result (Puts (map key_of (option_to_list id)) (map key_of reached.old.keys) (map key_of reached.new.keys)) }
 {
-    *a == *b
-}
-
-// Whether an id was seen.
-fn is_seen(seen: &HashSet<EntryId>, id: &EntryId) -> bool
-    ensures { IsTrue result → Contains seen.now.keys id.now }
-{
-    seen.contains(id)
-}
-
-// Remembers an id.
-fn add_seen(seen: &mut HashSet<EntryId>, id: EntryId) -> Result<(), AllocError>
-    ensures { (e : EntryId) → Contains seen.new.keys e → Contains seen.old.keys e ⊎ (e ≡ id) }
-{
-    seen.insert(id)?;
+    if let Some(id) = id {
+        reached.insert(id)?;
+    }
     Ok(())
+}
+
+// Puts those ids last that aren't there.
+fn put_ids(reached: &mut IndexSet<EntryId>, ids: &[EntryId]) -> Result<(), AllocError>
+    ensures { OnOk result (Puts (map key_of ids.now) (map key_of reached.old.keys) (map key_of reached.new.keys)) }
+{
+    for id in ids {
+        put(reached, Some(*id))?;
+    }
+    Ok(())
+}
+
+// Puts those ids in a list of items last that aren't there.
+fn put_parts(reached: &mut IndexSet<EntryId>, parts: &Parts<'_>) -> Result<(), AllocError>
+    ensures { OnOk result (Puts (places_keys (places parts.now)) (map key_of reached.old.keys) (map key_of reached.new.keys)) }
+{
+    for i in 0..parts.len() {
+        put(reached, place_id(parts.get(i)))?;
+    }
+    Ok(())
+}
+
+// The id at a place.
+fn id_at(reached: &IndexSet<EntryId>, index: usize) -> EntryId
+    requires { index < length reached.now.keys }
+    ensures { slice_get reached.now.keys index ≡ Some result }
+{
+    *reached.get_index(index).unwrap()
 }
 
 impl Types {
@@ -53,70 +67,34 @@ impl Types {
         }
     }
 
-    // The ids in an entry. They stand, and are lower.
-    fn named_by(&self, id: EntryId) -> Result<Vec<EntryId>, AllocError>
+    // Puts those ids in an entry last that aren't there.
+    fn put_named(&self, reached: &mut IndexSet<EntryId>, id: EntryId) -> Result<(), AllocError>
         requires { Stands self.now (key_of id) }
-        ensures names { IfOk result (λ ids. map key_of ids.items ≡ next self.now (key_of id)) }
-        ensures standing { IfOk result (λ ids. AllStand self.now (map key_of ids.items)) }
-        ensures lower { IfOk result (λ ids. keys_height self.now (map key_of ids.items) < height self.now (key_of id)) }
+        ensures { OnOk result (Puts (next self.now (key_of id)) (map key_of reached.old.keys) (map key_of reached.new.keys)) }
     {
-        named_ids(*self.defined.allocator(), &self.parts_at(id))
+        let all = self.parts_at(id);
+        put_parts(reached, &all.0)?;
+        put_parts(reached, &all.1)?;
+        put_parts(reached, &all.2)?;
+        Ok(())
     }
 
-    // Whether a walk along ids leads from one id to another. No id that was seen leads there.
-    #[cycle(walks)]
-    fn leads_to(
-        &self,
-        from: EntryId,
-        target: &EntryId,
-        seen: &mut HashSet<EntryId>,
-    ) -> Result<bool, AllocError>
-        requires standing { Stands self.now (key_of from) }
-        requires seen { NoneReaches self.now seen.old.keys target.now }
-        ensures reaches { IfOk result (λ leads. IsTrue leads ↔ Reaches self.now (key_of from) (key_of target.now)) }
-        ensures seen { NoneReaches self.now seen.new.keys target.now }
-    {
-        if same_id(&from, target) {
-            return Ok(true);
-        }
-        if is_seen(seen, &from) {
-            return Ok(false);
-        }
-        let ids = self.named_by(from)?;
-        if self.any_leads_to(&ids, target, seen)? {
-            return Ok(true);
-        }
-        add_seen(seen, from)?;
-        Ok(false)
-    }
-
-    // Whether a walk along ids leads from one of these to another. No id that was seen leads there.
-    #[cycle(walks)]
-    fn any_leads_to(
-        &self,
-        ids: &[EntryId],
-        target: &EntryId,
-        seen: &mut HashSet<EntryId>,
-    ) -> Result<bool, AllocError>
-        requires standing { AllStand self.now (map key_of ids.now) }
-        requires seen { NoneReaches self.now seen.old.keys target.now }
-        ensures reaches { IfOk result (λ leads. IsTrue leads ↔ NamesReach self.now (map key_of ids.now) (key_of target.now)) }
-        ensures seen { NoneReaches self.now seen.new.keys target.now }
-    {
-        for id in ids {
-            if self.leads_to(*id, target, seen)? {
-                return Ok(true);
-            }
-        }
-        Ok(false)
-    }
-
-    // Whether a walk along ids leads from one of these to another.
+    // Whether a walk along ids leads from one of these to another. Each id is gone through once.
     pub(crate) fn names_lead_to(&self, ids: &[EntryId], target: EntryId) -> Result<bool, AllocError>
         requires { AllStand self.now (map key_of ids.now) }
         ensures { IfOk result (λ leads. IsTrue leads ↔ NamesReach self.now (map key_of ids.now) (key_of target)) }
     {
-        let mut seen = HashSet::new(*self.defined.allocator());
-        self.any_leads_to(ids, &target, &mut seen)
+        let mut reached = IndexSet::new(*self.defined.allocator());
+        put_ids(&mut reached, ids)?;
+        let mut next = 0;
+        while next < reached.len() {
+            let id = id_at(&reached, next);
+            if id == target {
+                return Ok(true);
+            }
+            self.put_named(&mut reached, id)?;
+            next += 1;
+        }
+        Ok(false)
     }
 }
