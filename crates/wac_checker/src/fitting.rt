@@ -371,6 +371,7 @@ fn exports_fit(
     ensures grown { IsGrownBy at.now bt.now swapped (pairs_of known.old) (pairs_of known.new) }
     ensures yes { OnYes result (FollowsAbove at.now bt.now swapped (pairs_of known.new) (keys_height at.now (named_keys item_keys (named (λ k. k) a.now.entries)) + keys_height bt.now (named_keys item_keys (named (λ k. k) b.now.entries))) (AreServed at.now bt.now (named (λ k. k) a.now.entries) (named (λ k. k) b.now.entries))) }
 {
+    known.reserve(b.len())?;
     for i in 0..b.len() {
         let (name, wanted) = extern_at(b, i);
         let Some(given) = extern_named(a, name) else {
