@@ -1,4 +1,4 @@
-use Rattle.std.proofs.Common.{◌≡◌, ◌++◌, Contains, true, refl, ap}
+use Rattle.std.proofs.Common.{◌≡◌, Contains, true, refl}
 use Rattle.wac_checker.specs.Known.{few_of}
 use Rattle.wac_checker.proofs.KnownLemmas.{pair_with, set_added, set_has}
 use Rattle.wac_checker.proofs.known.Known.add.Goals as goal
