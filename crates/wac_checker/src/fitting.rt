@@ -121,7 +121,8 @@ fn modules_fit(alloc: Global, a: ModuleTypeId, at: &Types, b: ModuleTypeId, bt: 
     requires right { Stands bt.now (module_key b) }
     ensures { IsTrue result → EntriesFit at.now bt.now (Entries.Modules a b) }
 {
-    module_fits(SubtypeCheck::Covariant, alloc, &at[a], &bt[b]).is_ok()
+    let answer = module_fits(SubtypeCheck::Covariant, alloc, &at[a], &bt[b]);
+    answer.ok().is_some()
 }
 
 // Compares the contents of two entries.

@@ -1,14 +1,16 @@
 //! The pairs that a comparison has named, each once.
 
-ghost use Rattle.std.specs.Prelude.{◌≡◌, ◌≤◌, ◌<◌, ◌++◌, ◌∷◌, [], ◌⊎◌, Contains, IsTrue, ◌↔◌, false, OnOk, length, slice_get, Some};
+ghost use Rattle.std.specs.Prelude.{◌≡◌, ◌≤◌, ◌<◌, ◌++◌, ◌∷◌, [], ◌⊎◌, Contains, IsTrue, ◌↔◌, false, IfErr, OnOk, length, slice_get, Some};
 ghost use Rattle.wac_component.specs.Collection.{Collection};
 ghost use Rattle.wac_checker.specs.Known.{few_of, pairs_of, IsGrown};
 ghost use Rattle.wac_checker.specs.Steps.{ArePairsOf};
+ghost use Rattle.wac_mismatch.specs.declared.error.SubtypeError.TheVariants.{Memory};
 
 use super::pairs::{Entries, EntryPair};
 use indexmap::IndexSet;
 use std::alloc::{AllocError, Global};
 use std::marker::Model;
+use wac_mismatch::SubtypeError;
 
 // So many pairs are looked through one after another, and more are hashed: most comparisons name few.
 const FEW: usize = 4;
@@ -143,8 +145,9 @@ impl Known {
     }
 
     /// Puts those last that aren't there.
-    pub(crate) fn add_all(&mut self, pairs: &IndexSet<EntryPair>) -> Result<(), AllocError>
-        ensures { (c d : Collection) → ArePairsOf c d pairs.now.keys → IsGrown c d (pairs_of self.old) (pairs_of self.new) }
+    pub(crate) fn add_all(&mut self, pairs: &IndexSet<EntryPair>) -> Result<(), SubtypeError>
+        ensures memory { IfErr result (λ e. e ≡ Memory) }
+        ensures grown { (c d : Collection) → ArePairsOf c d pairs.now.keys → IsGrown c d (pairs_of self.old) (pairs_of self.new) }
     {
         for i in 0..pairs.len() {
             let pair = pair_at(pairs, i);
