@@ -1,6 +1,7 @@
 -- When two items fit, where the pairs do that they name.
-use Rattle.std.proofs.Common.{IsTrue, ◌≡◌, ◌==◌, ◌&&◌, ◌≤◌, ◌<◌, ◌+◌, ◌⊎◌, inl, inr, ℕ, List, Bool, true, false, refl, ap, sym, ◌∙◌, arith}
+use Rattle.std.proofs.Common.{IsTrue, ◌≡◌, ◌==◌, ◌&&◌, ◌≤◌, ◌<◌, ◌+◌, ◌⊎◌, inl, inr, ℕ, List, map, string_bytes, String, Global, Bool, true, false, refl, ap, sym, ◌∙◌, arith}
 use Rattle.std.specs.Prelude.{Result, Ok, Err, MatchResult, Contains}
+use Rattle.std.specs.List.{flat_map}
 use Rattle.std.specs.Result.{is_ok}
 use Rattle.std.specs.declared.alloc.AllocError.{AllocError}
 use Rattle.wac_model.specs.Text.{Text}
@@ -11,7 +12,8 @@ use Rattle.wac_mismatch.specs.declared.error.SubtypeError.{SubtypeError}
 use Rattle.wac_component.specs.Id.{Id}
 use Rattle.wac_component.specs.Collection.{Collection, DefinedContent}
 use Rattle.wac_component.specs.Height.{height, keys_height}
-use Rattle.wac_component.specs.Key.{Key, Stands, defined_key, interface_key, value_keys, item_keys, named_keys, defined_keys}
+use Rattle.wac_component.specs.Key.{Stands, defined_key, interface_key, value_keys, item_keys, named_keys, defined_keys}
+use Rattle.wac_component.specs.Content.{types_of}
 use Rattle.wac_component.specs.Tree.{value_tree, content_tree, item_tree, func_tree, externs, items_of}
 use Rattle.wac_component.specs.declared.items.ItemKind.{ItemKind}
 use Rattle.wac_component.specs.declared.items.ValueType.{ValueType}
@@ -19,13 +21,15 @@ use Rattle.wac_component.specs.declared.items.ValueType.TheVariants.{Defined}
 use Rattle.wac_checker.specs.Known.{FitBelow, FollowsAbove, OnYes}
 use Rattle.wac_checker.specs.Pairs.{AreOfItems, EntriesFit, entries_height}
 use Rattle.wac_checker.specs.Steps.{IsClosed}
+use Rattle.wac_checker.specs.Content.{field_tree}
 use Rattle.wac_checker.specs.Externs.{AreServed}
 use Rattle.wac_checker.proofs.ExternLemmas.{interfaces_fit}
 use Rattle.wac_checker.specs.declared.pairs.Entries.{Entries}
 use Rattle.wac_checker.specs.declared.pairs.Entries.TheVariants.{DefinedTypes, Funcs, Interfaces}
 use Rattle.wac_checker.specs.declared.pairs.EntryPair.{EntryPair}
 use Rattle.wac_checker.proofs.ItemLemmas.{equal_leaves}
-use Rattle.wac_checker.proofs.ItemPartLemmas.{one_fits, ids_same}
+use Rattle.wac_checker.proofs.ItemPartLemmas.{ids_same}
+use Rattle.wac_checker.proofs.OneLemmas.{fields_one}
 use Rattle.wac_checker.proofs.KnownLemmas.{pair_with, known_fits, yes_so}
 
 -- two entries are one, or they are named
@@ -35,11 +39,6 @@ AreNamedUnless t ps e s = (t ≡ true) ⊎ Contains ps (pair_with e s)
 module _ (l r : Collection) (s : Bool) (ps : List EntryPair) (answer : Result Bool AllocError) where
   pub entries_follow : (x y : ItemKind) (e : Entries) (t : Bool) → AreOfItems l r x y e → (t ≡ true → Fits (item_tree l x) (item_tree r y)) → OnYes answer (AreNamedUnless t ps e s) → OnYes answer (FollowsAbove l r s ps (keys_height l (item_keys x) + keys_height r (item_keys y)) (Fits (item_tree l x) (item_tree r y)))
   entries_follow x y e t of same named = yes_so answer _ _ named (λ either h above all. elim either [ inl one ↦ same one | inr there ↦ of.enough (known_fits l r s ps e h there all (omega (arith, of.left_lower, of.right_lower, above))) ])
-
-  -- of what two ids name
-  pub ids_follow : (a b : Id) (made : Id → ItemKind) (key : Id → Key) (e : Entries) (t : Bool) → (l.number ≡ r.number → l ≡ r) → Stands l (key a) → Stands r (key b) → AreOfItems l r (made a) (made b) e → t ≡ (a.number == b.number && a.index == b.index) → OnYes answer (AreNamedUnless t ps e s) → OnYes answer (FollowsAbove l r s ps (keys_height l (item_keys (made a)) + keys_height r (item_keys (made b))) (Fits (item_tree l (made a)) (item_tree r (made b))))
-  ids_follow a b made key e t one h k of test named =
-      entries_follow (made a) (made b) e t of (λ yes. let same = ids_same a b t test yes in one_fits l r (made a) (made b) (key a) (key b) one h k (ap made same) (ap key same)) named
 
   -- of values
   pub values_follow : (x y : ItemKind) (k : Kind) (v w : ValueType) → item_tree l x ≡ leaf k (value (value_tree l v)) → item_tree r y ≡ leaf k (value (value_tree r w)) → item_keys x ≡ value_keys v → item_keys y ≡ value_keys w → OnYes answer (FollowsAbove l r s ps (keys_height l (value_keys v) + keys_height r (value_keys w)) (value_tree l v ≡ value_tree r w)) → OnYes answer (FollowsAbove l r s ps (keys_height l (item_keys x) + keys_height r (item_keys y)) (Fits (item_tree l x) (item_tree r y)))
@@ -59,6 +58,12 @@ module _ (l r : Collection) (s : Bool) (ps : List EntryPair) (answer : Result Bo
             let fits = known_fits l r s ps (DefinedTypes x y) n there all (omega (arith, left_lower, right_lower, above)) in
             sym left ∙ fits item ∙ right)
       ])
+
+-- fields whose names are one, and their types where the named pairs fit
+pub fields_follow : (l r : Collection) (s : Bool) (ps : List EntryPair) (answer : Result Bool AllocError) (es fs : List (String Global × ValueType)) (ks js : List (String Global)) (vs ws : List ValueType) → ks ≡ map (λ (e : String Global × ValueType). e.0) es → js ≡ map (λ (e : String Global × ValueType). e.0) fs → vs ≡ types_of es → ws ≡ types_of fs → map string_bytes ks ≡ map string_bytes js → OnYes answer (FollowsAbove l r s ps (keys_height l (flat_map value_keys vs) + keys_height r (flat_map value_keys ws)) (map (value_tree l) vs ≡ map (value_tree r) ws)) → OnYes answer (FollowsAbove l r s ps (keys_height l (flat_map value_keys (types_of es)) + keys_height r (flat_map value_keys (types_of fs))) (map (field_tree l) es ≡ map (field_tree r) fs))
+fields_follow l r s ps answer es fs ks js vs ws left_names right_names left right same so =
+    let names = rw (left_names, right_names) at same in
+    yes_so answer _ _ (rw (left, right) at so) (λ gives h above all. fields_one l r es fs names (gives h above all))
 
 -- the contents of two defined types that are one where the named pairs fit
 pub contents_follow : (l r : Collection) (s : Bool) (ps : List EntryPair) (answer : Result Bool AllocError) (a b : Id) (e f : DefinedContent) (n : ℕ) (P : Type 0) → value_tree l (Defined a) ≡ content_tree (value_tree l) e → value_tree r (Defined b) ≡ content_tree (value_tree r) f → keys_height l (defined_keys e) < height l (defined_key a) → keys_height r (defined_keys f) < height r (defined_key b) → n ≤ keys_height l (defined_keys e) + keys_height r (defined_keys f) → (P → content_tree (value_tree l) e ≡ content_tree (value_tree r) f) → OnYes answer (FollowsAbove l r s ps n P) → OnYes answer (FitBelow l r s ps (height l (defined_key a) + height r (defined_key b)) → value_tree l (Defined a) ≡ value_tree r (Defined b))

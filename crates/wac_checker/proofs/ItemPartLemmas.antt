@@ -82,11 +82,6 @@ ids_same a b t e h =
     let indices : a.index ≡ b.index = grind (arith, common_steps) in
     λ i. record { number = numbers i; index = indices i }
 
--- of what two ids name
-pub ids_found : (check : SubtypeCheck) (c d : Collection) (a b : Id) (made : Id → ItemKind) (key : Id → Key) (e : Entries) (t : Bool) (p : Part) → (c.number ≡ d.number → c ≡ d) → Stands c (key a) → Stands d (key b) → AreOfItems c d (made a) (made b) e → t ≡ (a.number == b.number && a.index == b.index) → AreLeftUnless t e p → AreItemsCompared check c d (made a) (made b) p
-ids_found check c d a b made key e t p one h k of test left =
-    items_left check c d (made a) (made b) t e p (λ yes. let same = ids_same a b t test yes in one_fits c d (made a) (made b) (key a) (key b) one h k (ap made same) (ap key same)) of left
-
 module _ (check : SubtypeCheck) (c d : Collection) (x y : ItemKind) (k : Kind) (v w : ValueType)
     (left : item_tree c x ≡ leaf k (value (value_tree c v))) (right : item_tree d y ≡ leaf k (value (value_tree d w))) (left_keys : item_keys x ≡ value_keys v) (right_keys : item_keys y ≡ value_keys w) where
   of_values : (e : Entries) → AreOf c d v w e → AreOfItems c d x y e

@@ -12,6 +12,7 @@ pub mod CoreLemmas
 pub mod CacheGrowth
 pub mod PartLemmas
 pub mod PairLemmas
+pub mod PairedLemmas
 pub mod FuncPartLemmas
 pub mod StepLemmas
 pub mod CountLemmas

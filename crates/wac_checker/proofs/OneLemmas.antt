@@ -1,5 +1,5 @@
 -- Values whose members are one.
-use Rattle.std.proofs.Common.{◌≡◌, ◌≤◌, ℕ, suc, zero, List, [], ◌∷◌, ◌++◌, map, Bool, Option, Some, None, is_some, refl, ap, sym, ◌∙◌, slice_get, string_bytes, String, Global, arith}
+use Rattle.std.proofs.Common.{◌≡◌, ◌≤◌, List, [], ◌∷◌, ◌++◌, map, Bool, Option, Some, None, is_some, refl, ap, sym, ◌∙◌, string_bytes, String, Global, arith}
 use Rattle.std.specs.List.{flat_map}
 use Rattle.std.specs.Option.{option_map, option_to_list}
 use Rattle.wac_component.specs.Height.{keys_height}
@@ -62,14 +62,18 @@ funcs_one c d f g async params results =
     let same_params = param_trees c f.params.entries ∙ params ∙ sym (param_trees d g.params.entries) in
     λ i. record { params = same_params i; «result» = results i; is_async = async i }
 
--- a field at a place
-pub field_tree_at : (c : Collection) (es : Fields) (i : ℕ) (n : Text) (v : ValueType) → slice_get (names es) i ≡ Some n → slice_get (types_of es) i ≡ Some v → slice_get (map (field_tree c) es) i ≡ Some (n, value_tree c v)
-field_tree_at c [] i n v l m = absurd (cc)
-field_tree_at c (e ∷ es) zero n v l m =
-    let same_name : string_bytes e.0 ≡ n = cc in
-    let same_type : e.1 ≡ v = cc in
-    rw (same_name, same_type) refl
-field_tree_at c (e ∷ es) (suc i) n v l m = field_tree_at c es i n v l m
+-- fields whose names and types are one
+pub fields_one : (c d : Collection) (es fs : Fields) → map string_bytes (map (λ (e : String Global × ValueType). e.0) es) ≡ map string_bytes (map (λ (e : String Global × ValueType). e.0) fs) → map (value_tree c) (types_of es) ≡ map (value_tree d) (types_of fs) → map (field_tree c) es ≡ map (field_tree d) fs
+fields_one c d [] [] n t = refl
+fields_one c d [] (f ∷ fs) n t = absurd (cc)
+fields_one c d (e ∷ es) [] n t = absurd (cc)
+fields_one c d (e ∷ es) (f ∷ fs) n t =
+    let same_name : string_bytes e.0 ≡ string_bytes f.0 = cc in
+    let same_type : value_tree c e.1 ≡ value_tree d f.1 = cc in
+    let names_after : map string_bytes (map (λ (x : String Global × ValueType). x.0) es) ≡ map string_bytes (map (λ (x : String Global × ValueType). x.0) fs) = cc in
+    let types_after : map (value_tree c) (types_of es) ≡ map (value_tree d) (types_of fs) = cc in
+    let others = fields_one c d es fs names_after types_after in
+    rw (same_name, same_type, others) refl
 
 -- the types of a result are no higher than both
 pub first_lower : (c : Collection) (o e : Option ValueType) → keys_height c (flat_map value_keys (option_to_list o)) ≤ keys_height c (flat_map value_keys (option_to_list o ++ option_to_list e))

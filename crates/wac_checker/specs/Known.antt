@@ -1,15 +1,21 @@
 -- The pairs that a comparison has named, and what follows where they fit.
-use Rattle.std.specs.Prelude.{◌≡◌, ◌<◌, ◌++◌, ℕ, List, Bool, true, false, Result, Ok, Err}
+use Rattle.std.specs.Prelude.{◌≡◌, ◌<◌, ◌++◌, ℕ, List, [], Bool, true, false, Option, Some, None, Result, Ok, Err}
 use Rattle.std.specs.declared.alloc.AllocError.{AllocError}
 use Rattle.wac_component.specs.Collection.{Collection}
 use Rattle.wac_checker.specs.Pairs.{left_of, right_of}
 use Rattle.wac_checker.specs.Steps.{AllFitBelow, ArePairsOf}
+use Rattle.wac_checker.specs.declared.known.Few.{Few}
 use Rattle.wac_checker.specs.declared.known.Known.{Known}
 use Rattle.wac_checker.specs.declared.pairs.EntryPair.{EntryPair}
 
+-- the first pairs
+abbrev pub few_of : Option Few → List EntryPair
+few_of None = []
+few_of (Some f) = f
+
 -- the pairs in the order in which they were named
 abbrev pub pairs_of : Known → List EntryPair
-pairs_of k = k.few.items ++ k.many.keys
+pairs_of k = few_of k.few ++ k.many.keys
 
 -- more pairs are named, last: where those before stood, none twice, so do all
 pub record IsGrown (c d : Collection) (ps qs : List EntryPair) : Type 0 where

@@ -3,6 +3,7 @@ pub mod Parts
 pub mod Pairs
 pub mod Steps
 pub mod Items
+pub mod Paired
 pub mod Known
 pub mod Verdict
 pub mod Externs

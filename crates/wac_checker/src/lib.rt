@@ -11,6 +11,7 @@ pub(crate) mod items;
 pub(crate) mod known;
 pub mod laws;
 pub(crate) mod leaves;
+pub(crate) mod paired;
 pub(crate) mod pairs;
 pub(crate) mod steps;
 pub(crate) mod values;

@@ -12,6 +12,7 @@ use super::pairs::{Entries, EntryPair, Found, Next, Part, Step};
 use super::values::defined_part;
 use indexmap::IndexSet;
 use std::alloc::{AllocError, Global};
+use std::mem;
 use wac_component::Types;
 use wac_mismatch::refusals::{turned_check, under};
 use wac_mismatch::{Fault, Frame, SubtypeCheck, SubtypeError};
@@ -90,7 +91,11 @@ fn framed(error: SubtypeError, frame: Result<Frame, AllocError>) -> SubtypeError
 {
     match frame {
         Ok(frame) => under(error, frame),
-        Err(_) => SubtypeError::Memory,
+        Err(_) => {
+            // by a call, since what is dropped unsaid is proved here, field by field
+            mem::drop(error);
+            SubtypeError::Memory
+        }
     }
 }
 
@@ -198,7 +203,10 @@ fn under_steps(
     match error {
         SubtypeError::Mismatch { frames, fault } => match frames_to(alloc, steps, frames, at, bt) {
             Ok(frames) => SubtypeError::Mismatch { frames, fault },
-            Err(_) => SubtypeError::Memory,
+            Err(_) => {
+                mem::drop(fault);
+                SubtypeError::Memory
+            }
         },
         SubtypeError::Memory => SubtypeError::Memory,
     }

@@ -2,7 +2,7 @@
 
 ghost use Rattle.std.specs.Prelude.{◌≡◌, Ok, IfOk, string_bytes};
 ghost use Rattle.wac_mismatch.specs.Place.{expected_of, found_of, turned};
-ghost use Rattle.wac_mismatch.specs.Steps.{IsHere, IsUnder, IsParameter, IsField, IsCase, IsExport, IsImportOf, IsCoreImportOf};
+ghost use Rattle.wac_mismatch.specs.Steps.{IsHere, IsUnder, IsExport, IsCoreImportOf};
 
 use crate::{Fault, Frame, SubtypeCheck, SubtypeError};
 use std::alloc::{AllocError, Global};
@@ -61,52 +61,12 @@ pub fn under(error: SubtypeError, frame: Frame) -> SubtypeError
     }
 }
 
-/// The refusal below the parameter of this name.
-pub fn under_parameter(error: SubtypeError, name: &String) -> SubtypeError
-    ensures { IsUnder (IsParameter (string_bytes name.now)) error result }
-{
-    match name.clone() {
-        Ok(name) => under(error, Frame::Parameter(name)),
-        Err(_) => SubtypeError::Memory,
-    }
-}
-
-/// The refusal below the field of this name.
-pub fn under_field(error: SubtypeError, name: &String) -> SubtypeError
-    ensures { IsUnder (IsField (string_bytes name.now)) error result }
-{
-    match name.clone() {
-        Ok(name) => under(error, Frame::Field(name)),
-        Err(_) => SubtypeError::Memory,
-    }
-}
-
-/// The refusal below the case of this name.
-pub fn under_case(error: SubtypeError, name: &String) -> SubtypeError
-    ensures { IsUnder (IsCase (string_bytes name.now)) error result }
-{
-    match name.clone() {
-        Ok(name) => under(error, Frame::Case(name)),
-        Err(_) => SubtypeError::Memory,
-    }
-}
-
 /// The refusal below the export of this name.
 pub fn under_export(error: SubtypeError, name: &String) -> SubtypeError
     ensures { IsUnder (IsExport (string_bytes name.now)) error result }
 {
     match name.clone() {
         Ok(name) => under(error, Frame::Export(name)),
-        Err(_) => SubtypeError::Memory,
-    }
-}
-
-/// The refusal below the import of this name.
-pub fn under_import(error: SubtypeError, name: &String) -> SubtypeError
-    ensures { IsUnder (IsImportOf (string_bytes name.now)) error result }
-{
-    match name.clone() {
-        Ok(name) => under(error, Frame::Import(name)),
         Err(_) => SubtypeError::Memory,
     }
 }

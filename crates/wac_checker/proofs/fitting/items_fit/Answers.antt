@@ -1,36 +1,37 @@
-use Rattle.std.proofs.Common.{refl}
-use Rattle.wac_model.specs.ItemTree.{item}
-use Rattle.wac_component.specs.Key.{func_key, interface_key, world_key, module_key}
-use Rattle.wac_component.specs.declared.items.ItemKind.TheVariants.{Func, Instance, Component, Module, Value}
-use Rattle.wac_checker.specs.declared.pairs.Entries.TheVariants.{Funcs, Interfaces, Worlds, Modules}
+use Rattle.std.proofs.Common.{ap}
+use Rattle.wac_model.specs.ItemTree.{resource}
+use Rattle.wac_component.specs.Tree.{root_name}
 use Rattle.wac_checker.specs.Known.{pairs_of}
-use Rattle.wac_checker.proofs.ItemPartLemmas.{of_funcs, of_interfaces, of_worlds, of_modules}
-use Rattle.wac_checker.proofs.FittingLemmas.{ids_follow, values_follow}
+use Rattle.wac_checker.proofs.ItemLemmas.{equal_leaves}
+use Rattle.wac_checker.proofs.FittingLemmas.{entries_follow, values_follow, leaf_follows}
 use Rattle.wac_checker.proofs.fitting.items_fit.Goals as goal
 
-pub returns-in-Func-Func-clause-yes : goal.returns-in-Func-Func-clause-yes
-returns-in-Func-Func-clause-yes c =
-    let left = (rw c.in-Func-Func.is-0 at c.requires.left).0 in
-    let right = (rw c.in-Func-Func.is-1 at c.requires.right).0 in
-    rw (c.in-Func-Func.is-0, c.in-Func-Func.is-1) (ids_follow c.args.at.now c.args.bt.now c.args.swapped (pairs_of c.name_unless.new.known) c.name_unless.result c.in-Func-Func.x c.in-Func-Func.y Func func_key (Funcs c.in-Func-Func.x c.in-Func-Func.y) c.eq.result c.requires.one left right (of_funcs c.args.at.now c.args.bt.now c.in-Func-Func.x c.in-Func-Func.y left right) c.eq.ensures c.name_unless.ensures.yes)
+pub returns-in-Entries-clause-grown : goal.returns-in-Entries-clause-grown
+returns-in-Entries-clause-grown c = c.name_unless.ensures.grown c.args.at.now c.args.bt.now (c.in-Entries.ensures.paired c.args.at.now c.args.bt.now c.requires.left c.requires.right c.requires.one).0.stand
 
-pub returns-in-Instance-Instance-clause-yes : goal.returns-in-Instance-Instance-clause-yes
-returns-in-Instance-Instance-clause-yes c =
-    let left = (rw c.in-Instance-Instance.is-0 at c.requires.left).0 in
-    let right = (rw c.in-Instance-Instance.is-1 at c.requires.right).0 in
-    rw (c.in-Instance-Instance.is-0, c.in-Instance-Instance.is-1) (ids_follow c.args.at.now c.args.bt.now c.args.swapped (pairs_of c.name_unless-in-Instance-Instance.new.known) c.name_unless-in-Instance-Instance.result c.in-Instance-Instance.x c.in-Instance-Instance.y Instance interface_key (Interfaces c.in-Instance-Instance.x c.in-Instance-Instance.y) c.eq-in-Instance-Instance.result c.requires.one left right (of_interfaces c.args.at.now c.args.bt.now c.in-Instance-Instance.x c.in-Instance-Instance.y left right) c.eq-in-Instance-Instance.ensures c.name_unless-in-Instance-Instance.ensures.yes)
+pub returns-in-Entries-clause-yes : goal.returns-in-Entries-clause-yes
+returns-in-Entries-clause-yes c =
+    let of = c.in-Entries.ensures.paired c.args.at.now c.args.bt.now c.requires.left c.requires.right c.requires.one in
+    entries_follow c.args.at.now c.args.bt.now c.args.swapped (pairs_of c.name_unless.new.known) c.name_unless.result c.args.a c.args.b c.in-Entries.entries c.in-Entries.same of.0 of.1 c.name_unless.ensures.yes
 
-pub returns-in-Component-Component-clause-yes : goal.returns-in-Component-Component-clause-yes
-returns-in-Component-Component-clause-yes c =
-    let left = (rw c.in-Component-Component.is-0 at c.requires.left).0 in
-    let right = (rw c.in-Component-Component.is-1 at c.requires.right).0 in
-    rw (c.in-Component-Component.is-0, c.in-Component-Component.is-1) (ids_follow c.args.at.now c.args.bt.now c.args.swapped (pairs_of c.name_unless-in-Component-Component.new.known) c.name_unless-in-Component-Component.result c.in-Component-Component.x c.in-Component-Component.y Component world_key (Worlds c.in-Component-Component.x c.in-Component-Component.y) c.eq-in-Component-Component.result c.requires.one left right (of_worlds c.args.at.now c.args.bt.now c.in-Component-Component.x c.in-Component-Component.y left right) c.eq-in-Component-Component.ensures c.name_unless-in-Component-Component.ensures.yes)
+pub values_fit-requires-clause-left : goal.values_fit-requires-clause-left
+values_fit-requires-clause-left c = rw (c.in-Values.ensures.paired c.args.at.now c.args.bt.now c.requires.left c.requires.right c.requires.one).left_keys at c.requires.left
 
-pub returns-in-Module-Module-clause-yes : goal.returns-in-Module-Module-clause-yes
-returns-in-Module-Module-clause-yes c =
-    let left = (rw c.in-Module-Module.is-0 at c.requires.left).0 in
-    let right = (rw c.in-Module-Module.is-1 at c.requires.right).0 in
-    rw (c.in-Module-Module.is-0, c.in-Module-Module.is-1) (ids_follow c.args.at.now c.args.bt.now c.args.swapped (pairs_of c.name_unless-in-Module-Module.new.known) c.name_unless-in-Module-Module.result c.in-Module-Module.x c.in-Module-Module.y Module module_key (Modules c.in-Module-Module.x c.in-Module-Module.y) c.eq-in-Module-Module.result c.requires.one left right (of_modules c.args.at.now c.args.bt.now c.in-Module-Module.x c.in-Module-Module.y left right) c.eq-in-Module-Module.ensures c.name_unless-in-Module-Module.ensures.yes)
+pub values_fit-requires-clause-right : goal.values_fit-requires-clause-right
+values_fit-requires-clause-right c = rw (c.in-Values.ensures.paired c.args.at.now c.args.bt.now c.requires.left c.requires.right c.requires.one).right_keys at c.requires.right
 
-pub returns-in-Value-Value-clause-yes : goal.returns-in-Value-Value-clause-yes
-returns-in-Value-Value-clause-yes c = rw (c.in-Value-Value.is-0, c.in-Value-Value.is-1) (values_follow c.args.at.now c.args.bt.now c.args.swapped (pairs_of c.values_fit.new.known) c.values_fit.result (Value c.in-Value-Value.x) (Value c.in-Value-Value.y) item c.in-Value-Value.x c.in-Value-Value.y refl refl refl refl c.values_fit.ensures.yes)
+pub returns-in-Values-clause-yes : goal.returns-in-Values-clause-yes
+returns-in-Values-clause-yes c =
+    let of = c.in-Values.ensures.paired c.args.at.now c.args.bt.now c.requires.left c.requires.right c.requires.one in
+    values_follow c.args.at.now c.args.bt.now c.args.swapped (pairs_of c.values_fit.new.known) c.values_fit.result c.args.a c.args.b of.kind c.in-Values.x c.in-Values.y of.left of.right of.left_keys of.right_keys c.values_fit.ensures.yes
+
+pub same_roots-requires-clause-left : goal.same_roots-requires-clause-left
+same_roots-requires-clause-left c = (c.in-Resources.ensures.paired c.args.at.now c.args.bt.now c.requires.left c.requires.right c.requires.one).left_stands
+
+pub same_roots-requires-clause-right : goal.same_roots-requires-clause-right
+same_roots-requires-clause-right c = (c.in-Resources.ensures.paired c.args.at.now c.args.bt.now c.requires.left c.requires.right c.requires.one).right_stands
+
+pub returns-in-Resources-clause-yes : goal.returns-in-Resources-clause-yes
+returns-in-Resources-clause-yes c =
+    let of = c.in-Resources.ensures.paired c.args.at.now c.args.bt.now c.requires.left c.requires.right c.requires.one in
+    leaf_follows c.same_roots.result _ (λ yes h above all. rw (of.left, of.right) (equal_leaves of.kind (resource (root_name c.args.at.now c.in-Resources.x)) (resource (root_name c.args.bt.now c.in-Resources.y)) (ap resource (c.same_roots.ensures yes))))

@@ -1,22 +1,34 @@
-use Rattle.std.proofs.Common.{refl}
-use Rattle.wac_model.specs.ItemTree.{item}
-use Rattle.wac_component.specs.Key.{func_key, interface_key, world_key, module_key}
-use Rattle.wac_checker.specs.declared.pairs.Entries.TheVariants.{Funcs, Interfaces, Worlds, Modules}
-use Rattle.wac_component.specs.declared.items.ItemKind.TheVariants.{Func, Instance, Component, Module, Value}
-use Rattle.wac_checker.proofs.ItemPartLemmas.{ids_found, values_found, of_funcs, of_interfaces, of_worlds, of_modules}
+use Rattle.wac_component.specs.Tree.{root_name}
+use Rattle.wac_checker.proofs.ItemLemmas.{fits_resources}
+use Rattle.wac_checker.proofs.ItemPartLemmas.{items_left, leaf_found, values_found}
 use Rattle.wac_checker.proofs.items.compare_items.Goals as goal
 
-pub returns-in-Func-Func : goal.returns-in-Func-Func
-returns-in-Func-Func c = rw (c.in-Func-Func.is-0, c.in-Func-Func.is-1) (ids_found c.args.check c.args.at.now c.args.bt.now c.in-Func-Func.x c.in-Func-Func.y Func func_key (Funcs c.in-Func-Func.x c.in-Func-Func.y) c.eq.result c.left_part.result c.requires.one (rw c.in-Func-Func.is-0 at c.requires.left).0 (rw c.in-Func-Func.is-1 at c.requires.right).0 (of_funcs c.args.at.now c.args.bt.now c.in-Func-Func.x c.in-Func-Func.y (rw c.in-Func-Func.is-0 at c.requires.left).0 (rw c.in-Func-Func.is-1 at c.requires.right).0) c.eq.ensures c.left_part.ensures)
+pub returns-in-Entries : goal.returns-in-Entries
+returns-in-Entries c =
+    let of = c.in-Entries.ensures.paired c.args.at.now c.args.bt.now c.requires.left c.requires.right c.requires.one in
+    items_left c.args.check c.args.at.now c.args.bt.now c.args.a c.args.b c.in-Entries.same c.in-Entries.entries c.left_part.result of.1 of.0 c.left_part.ensures
 
-pub returns-in-Instance-Instance : goal.returns-in-Instance-Instance
-returns-in-Instance-Instance c = rw (c.in-Instance-Instance.is-0, c.in-Instance-Instance.is-1) (ids_found c.args.check c.args.at.now c.args.bt.now c.in-Instance-Instance.x c.in-Instance-Instance.y Instance interface_key (Interfaces c.in-Instance-Instance.x c.in-Instance-Instance.y) c.eq-in-Instance-Instance.result c.left_part-in-Instance-Instance.result c.requires.one (rw c.in-Instance-Instance.is-0 at c.requires.left).0 (rw c.in-Instance-Instance.is-1 at c.requires.right).0 (of_interfaces c.args.at.now c.args.bt.now c.in-Instance-Instance.x c.in-Instance-Instance.y (rw c.in-Instance-Instance.is-0 at c.requires.left).0 (rw c.in-Instance-Instance.is-1 at c.requires.right).0) c.eq-in-Instance-Instance.ensures c.left_part-in-Instance-Instance.ensures)
+pub compare_values-requires-clause-left : goal.compare_values-requires-clause-left
+compare_values-requires-clause-left c = rw (c.in-Values.ensures.paired c.args.at.now c.args.bt.now c.requires.left c.requires.right c.requires.one).left_keys at c.requires.left
 
-pub returns-in-Component-Component : goal.returns-in-Component-Component
-returns-in-Component-Component c = rw (c.in-Component-Component.is-0, c.in-Component-Component.is-1) (ids_found c.args.check c.args.at.now c.args.bt.now c.in-Component-Component.x c.in-Component-Component.y Component world_key (Worlds c.in-Component-Component.x c.in-Component-Component.y) c.eq-in-Component-Component.result c.left_part-in-Component-Component.result c.requires.one (rw c.in-Component-Component.is-0 at c.requires.left).0 (rw c.in-Component-Component.is-1 at c.requires.right).0 (of_worlds c.args.at.now c.args.bt.now c.in-Component-Component.x c.in-Component-Component.y (rw c.in-Component-Component.is-0 at c.requires.left).0 (rw c.in-Component-Component.is-1 at c.requires.right).0) c.eq-in-Component-Component.ensures c.left_part-in-Component-Component.ensures)
+pub compare_values-requires-clause-right : goal.compare_values-requires-clause-right
+compare_values-requires-clause-right c = rw (c.in-Values.ensures.paired c.args.at.now c.args.bt.now c.requires.left c.requires.right c.requires.one).right_keys at c.requires.right
 
-pub returns-in-Module-Module : goal.returns-in-Module-Module
-returns-in-Module-Module c = rw (c.in-Module-Module.is-0, c.in-Module-Module.is-1) (ids_found c.args.check c.args.at.now c.args.bt.now c.in-Module-Module.x c.in-Module-Module.y Module module_key (Modules c.in-Module-Module.x c.in-Module-Module.y) c.eq-in-Module-Module.result c.left_part-in-Module-Module.result c.requires.one (rw c.in-Module-Module.is-0 at c.requires.left).0 (rw c.in-Module-Module.is-1 at c.requires.right).0 (of_modules c.args.at.now c.args.bt.now c.in-Module-Module.x c.in-Module-Module.y (rw c.in-Module-Module.is-0 at c.requires.left).0 (rw c.in-Module-Module.is-1 at c.requires.right).0) c.eq-in-Module-Module.ensures c.left_part-in-Module-Module.ensures)
+pub returns-in-Values : goal.returns-in-Values
+returns-in-Values c =
+    let of = c.in-Values.ensures.paired c.args.at.now c.args.bt.now c.requires.left c.requires.right c.requires.one in
+    values_found c.args.check c.args.at.now c.args.bt.now c.args.a c.args.b of.kind c.in-Values.x c.in-Values.y of.left of.right of.left_keys of.right_keys c.compare_values.result c.compare_values.ensures
 
-pub returns-in-Value-Value : goal.returns-in-Value-Value
-returns-in-Value-Value c = rw (c.in-Value-Value.is-0, c.in-Value-Value.is-1) (values_found c.args.check c.args.at.now c.args.bt.now (Value c.in-Value-Value.x) (Value c.in-Value-Value.y) item c.in-Value-Value.x c.in-Value-Value.y refl refl refl refl c.compare_values.result c.compare_values.ensures)
+pub same_resources-requires-clause-left : goal.same_resources-requires-clause-left
+same_resources-requires-clause-left c = (c.in-Resources.ensures.paired c.args.at.now c.args.bt.now c.requires.left c.requires.right c.requires.one).left_stands
+
+pub same_resources-requires-clause-right : goal.same_resources-requires-clause-right
+same_resources-requires-clause-right c = (c.in-Resources.ensures.paired c.args.at.now c.args.bt.now c.requires.left c.requires.right c.requires.one).right_stands
+
+pub returns-in-Resources : goal.returns-in-Resources
+returns-in-Resources c =
+    let of = c.in-Resources.ensures.paired c.args.at.now c.args.bt.now c.requires.left c.requires.right c.requires.one in
+    leaf_found c.args.check c.args.at.now c.args.bt.now c.args.a c.args.b c.same_resources.result c.leaf_part.result (rw (of.left, of.right) (fits_resources c.same_resources.result c.args.check of.kind (root_name c.args.at.now c.in-Resources.x) (root_name c.args.bt.now c.in-Resources.y) c.same_resources.ensures)) c.leaf_part.ensures
+
+pub other_items-requires-clause-differ : goal.other_items-requires-clause-differ
+other_items-requires-clause-differ c = c.in-Others.ensures.paired c.args.at.now c.args.bt.now c.requires.left c.requires.right c.requires.one

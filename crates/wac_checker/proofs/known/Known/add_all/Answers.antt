@@ -8,5 +8,5 @@ loop-i-init c = λ c1 d h. grown_not c1 d (pairs_of c.args.self.now)
 pub loop-i-preserved : goal.loop-i-preserved
 loop-i-preserved c = λ c1 d h. grown_twice c1 d _ _ _ (c.loop-i.invariant c1 d h) (grown_by_one c1 d (pairs_of c.loop-i.self) c.pair_at-pair.result.now (pairs_of c.add.new.self) (h.1 c.pair_at-pair.result.now (pair_at c.args.pairs.now.keys c.loop-i.i c.pair_at-pair.result.now c.pair_at-pair.ensures)) c.add.ensures.added)
 
-pub returns-in_err-add : goal.returns-in_err-add
-returns-in_err-add c = λ c1 d h. grown_twice c1 d _ _ _ (c.loop-i.invariant c1 d h) (grown_by_one c1 d (pairs_of c.loop-i.self) c.pair_at-pair.result.now (pairs_of c.add.new.self) (h.1 c.pair_at-pair.result.now (pair_at c.args.pairs.now.keys c.loop-i.i c.pair_at-pair.result.now c.pair_at-pair.ensures)) c.add.ensures.added)
+pub returns-in_err-add-clause-grown : goal.returns-in_err-add-clause-grown
+returns-in_err-add-clause-grown c = λ c1 d h. grown_twice c1 d _ _ _ (c.loop-i.invariant c1 d h) (grown_by_one c1 d (pairs_of c.loop-i.self) c.pair_at-pair.result.now (pairs_of c.add.new.self) (h.1 c.pair_at-pair.result.now (pair_at c.args.pairs.now.keys c.loop-i.i c.pair_at-pair.result.now c.pair_at-pair.ensures)) c.add.ensures.added)

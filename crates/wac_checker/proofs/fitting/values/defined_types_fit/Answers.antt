@@ -13,7 +13,7 @@ use Rattle.wac_checker.proofs.PairLemmas.{trees_one}
 use Rattle.wac_checker.proofs.CaseLemmas.{variants_one}
 use Rattle.wac_checker.proofs.OneLemmas.{records_one, payloads_one, results_one, first_lower, second_lower}
 use Rattle.wac_checker.proofs.FittingLemmas.{contents_follow}
-use Rattle.wac_checker.proofs.fitting.defined_types_fit.Goals as goal
+use Rattle.wac_checker.proofs.fitting.values.defined_types_fit.Goals as goal
 
 pub returns-else-not-branch-clause-grown : goal.returns-else-not-branch-clause-grown
 returns-else-not-branch-clause-grown c = grown_twice _ _ _ _ _ c.options_fit.ensures.grown c.options_fit-in-Result-Result.ensures.grown

@@ -6,7 +6,7 @@ use Rattle.wac_checker.specs.Known.{pairs_of}
 use Rattle.wac_checker.proofs.KnownLemmas.{grown_twice, follows_both, yes_of}
 use Rattle.wac_checker.proofs.ListLemmas.{same_list}
 use Rattle.wac_checker.proofs.ValueLemmas.{same_at}
-use Rattle.wac_checker.proofs.fitting.items_of_tuples_fit.Goals as goal
+use Rattle.wac_checker.proofs.fitting.values.lists_fit.Goals as goal
 
 pub values_fit-requires-clause-left : goal.values_fit-requires-clause-left
 values_fit-requires-clause-left c = AllStand-member c.args.at.now c.args.a.now c.loop-i.i c.item_at.result c.item_at.ensures c.requires.left

@@ -8,7 +8,7 @@ use Rattle.wac_checker.proofs.KnownLemmas.{grown_twice, follows_both, yes_of}
 use Rattle.wac_checker.proofs.ListLemmas.{same_list}
 use Rattle.wac_checker.proofs.NameLemmas.{same_text}
 use Rattle.wac_checker.proofs.CaseLemmas.{entry_at, case_stands, case_lower}
-use Rattle.wac_checker.proofs.fitting.cases_fit.Goals as goal
+use Rattle.wac_checker.proofs.fitting.values.cases_fit.Goals as goal
 
 pub options_fit-requires-clause-left : goal.options_fit-requires-clause-left
 options_fit-requires-clause-left c = case_stands c.args.at.now c.args.a.now.entries c.loop-i.i c.case_at.result.1.now c.case_at.ensures.ty c.requires.left

@@ -4,7 +4,7 @@ use Rattle.wac_component.specs.Height.{keys_height}
 use Rattle.wac_component.specs.Key.{value_keys}
 use Rattle.wac_component.specs.Tree.{value_tree}
 use Rattle.wac_checker.specs.Known.{pairs_of, IsGrownBy, FollowsAbove}
-use Rattle.wac_checker.proofs.fitting.items_of_tuples_fit.Given as goal
+use Rattle.wac_checker.proofs.fitting.values.lists_fit.Given as goal
 
 abbrev pub invariant-loop-i : goal.invariant-loop-i
 invariant-loop-i l = record {

@@ -1,7 +1,7 @@
 use Rattle.std.proofs.Common.{arith}
 use Rattle.wac_checker.proofs.FittingLemmas.{defined_follow}
 use Rattle.wac_checker.specs.Known.{pairs_of}
-use Rattle.wac_checker.proofs.fitting.values_fit.Goals as goal
+use Rattle.wac_checker.proofs.fitting.values.values_fit.Goals as goal
 
 pub returns-in-Defined-b-clause-yes : goal.returns-in-Defined-b-clause-yes
 returns-in-Defined-b-clause-yes c =

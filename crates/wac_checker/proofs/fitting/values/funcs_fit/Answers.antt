@@ -6,7 +6,7 @@ use Rattle.wac_checker.specs.Known.{pairs_of}
 use Rattle.wac_checker.proofs.FuncLemmas.{params_stand, params_lower, result_stands, result_lower}
 use Rattle.wac_checker.proofs.KnownLemmas.{grown_twice, follow_two, yes_of, yes_so}
 use Rattle.wac_checker.proofs.OneLemmas.{funcs_one}
-use Rattle.wac_checker.proofs.fitting.funcs_fit.Goals as goal
+use Rattle.wac_checker.proofs.fitting.values.funcs_fit.Goals as goal
 
 pub fields_fit-requires-clause-left : goal.fields_fit-requires-clause-left
 fields_fit-requires-clause-left c = params_stand c.args.at.now c.args.a.now c.requires.left

@@ -1,0 +1,81 @@
+//! What two items name, told from their cases.
+
+ghost use Rattle.wac_checker.specs.Paired.{IsPairing};
+ghost use Rattle.wac_component.specs.declared.items.ItemKind.TheVariants.{«Type» as OfType};
+
+use super::pairs::Entries;
+use wac_component::{ItemKind, ResourceId, Type, ValueType};
+
+// What two items or types are read as. Of two entries it says whether they are one.
+#[derive(Clone, Copy)]
+pub(crate) enum Paired {
+    Entries(bool, Entries),
+    Values(ValueType, ValueType),
+    Resources(ResourceId, ResourceId),
+    // They are of different cases.
+    Others,
+}
+
+// Reads two items.
+pub(crate) fn paired_items(a: &ItemKind, b: &ItemKind) -> Paired
+    ensures { IsPairing a.now b.now result }
+{
+    match *a {
+        ItemKind::Type(x) => match *b {
+            ItemKind::Type(y) => paired_types(x, y),
+            _ => Paired::Others,
+        },
+        ItemKind::Func(x) => match *b {
+            ItemKind::Func(y) => Paired::Entries(x == y, Entries::Funcs(x, y)),
+            _ => Paired::Others,
+        },
+        ItemKind::Instance(x) => match *b {
+            ItemKind::Instance(y) => Paired::Entries(x == y, Entries::Interfaces(x, y)),
+            _ => Paired::Others,
+        },
+        ItemKind::Component(x) => match *b {
+            ItemKind::Component(y) => Paired::Entries(x == y, Entries::Worlds(x, y)),
+            _ => Paired::Others,
+        },
+        ItemKind::Module(x) => match *b {
+            ItemKind::Module(y) => Paired::Entries(x == y, Entries::Modules(x, y)),
+            _ => Paired::Others,
+        },
+        ItemKind::Value(x) => match *b {
+            ItemKind::Value(y) => Paired::Values(x, y),
+            _ => Paired::Others,
+        },
+    }
+}
+
+// Reads two types.
+fn paired_types(a: Type, b: Type) -> Paired
+    ensures { IsPairing (OfType a) (OfType b) result }
+{
+    match a {
+        Type::Resource(x) => match b {
+            Type::Resource(y) => Paired::Resources(x, y),
+            _ => Paired::Others,
+        },
+        Type::Func(x) => match b {
+            Type::Func(y) => Paired::Entries(x == y, Entries::Funcs(x, y)),
+            _ => Paired::Others,
+        },
+        Type::Value(x) => match b {
+            Type::Value(y) => Paired::Values(x, y),
+            _ => Paired::Others,
+        },
+        Type::Interface(x) => match b {
+            Type::Interface(y) => Paired::Entries(x == y, Entries::Interfaces(x, y)),
+            _ => Paired::Others,
+        },
+        Type::World(x) => match b {
+            Type::World(y) => Paired::Entries(x == y, Entries::Worlds(x, y)),
+            _ => Paired::Others,
+        },
+        Type::Module(x) => match b {
+            Type::Module(y) => Paired::Entries(x == y, Entries::Modules(x, y)),
+            _ => Paired::Others,
+        },
+    }
+}
