@@ -21,7 +21,7 @@ use Rattle.wac_refusals.specs.declared.error.AggregateError.TheVariants.{Memory}
 use Rattle.wac_imports.specs.Import.{AreFiled}
 use Rattle.wac_imports.specs.Left.{listed}
 use Rattle.wac_imports.proofs.Listed.{of_Contains}
-use Rattle.wac_uses.specs.Said.{said}
+use Rattle.wac_refusals.specs.Said.{said}
 use Rattle.wac_taking.specs.Refused.{HasReason}
 use Rattle.wac_taking.specs.Takes.{MayTake}
 use Rattle.wac_taking.specs.declared.state.Merging.{Merging}

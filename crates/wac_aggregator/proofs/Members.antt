@@ -29,7 +29,7 @@ use Rattle.wac_call_lists.specs.Reason.{Refusal}
 use Rattle.wac_refusals.specs.declared.error.AggregateError.{AggregateError}
 use Rattle.wac_refusals.specs.declared.error.AggregateError.TheVariants.{Memory}
 use Rattle.wac_taking.specs.Members.{HasTakenIn, TakesMembers, IsOfMerging, IsMemberRefusal, AnswersMembers, roots_of}
-use Rattle.wac_uses.specs.Said.{said}
+use Rattle.wac_refusals.specs.Said.{said}
 use Rattle.wac_taking.specs.Takes.{shared_in, shared_keys, state_of, MayTake, Takes}
 use Rattle.wac_taking.specs.declared.state.Merging.{Merging}
 use Rattle.wac_taking.proofs.GrowLemmas.{built_met}

@@ -19,8 +19,8 @@ use Rattle.wac_call_lists.proofs.WitReasons.{fits_case}
 use Rattle.wac_imports.specs.Import.{ImportContent, ImportsContent, import_of}
 use Rattle.wac_refusals.specs.declared.error.AggregateError.{AggregateError}
 use Rattle.wac_refusals.specs.declared.error.AggregateError.TheVariants.{Memory}
-use Rattle.wac_uses.specs.Differ.{UsesDiffer}
-use Rattle.wac_uses.specs.Said.{said}
+use Rattle.wac_refusals.specs.Differ.{UsesDiffer}
+use Rattle.wac_refusals.specs.Said.{said}
 use Rattle.wac_taking.specs.Refused.{HasReason, IsRefused, IsMergeRefusal, SaysMismatch}
 use Rattle.wac_taking.specs.Takes.{state_of, IsOwnersImport, MayTake, Takes}
 use Rattle.wac_taking.specs.declared.state.Merging.{Merging}

@@ -28,7 +28,7 @@ use Rattle.wac_call_lists.proofs.Members.{Leads-trans, members_stand, named_memb
 use Rattle.wac_imports.specs.Import.{ImportContent, AreFiled}
 use Rattle.wac_refusals.specs.declared.error.AggregateError.{AggregateError}
 use Rattle.wac_taking.specs.Members.{HasTakenIn, HasAllOf, roots_of, Hinders, at_entry, in_cycle, IsNotTaken, IsOfMerging, IsMemberRefusal}
-use Rattle.wac_uses.specs.Said.{said}
+use Rattle.wac_refusals.specs.Said.{said}
 use Rattle.wac_taking.specs.Refused.{HasReason}
 use Rattle.wac_taking.specs.declared.state.Merging.{Merging}
 use Rattle.wac_taking.proofs.Identifiers.{is_interface, has_identifier}

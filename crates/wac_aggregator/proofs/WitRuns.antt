@@ -14,7 +14,7 @@ use Rattle.wac_call_lists.proofs.WitStates.{state_compatible, not_refused, wit_r
 use Rattle.wac_imports.specs.Import.{AreFiled}
 use Rattle.wac_refusals.specs.declared.error.AggregateError.{AggregateError}
 use Rattle.wac_refusals.specs.declared.error.AggregateError.TheVariants.{Memory}
-use Rattle.wac_uses.proofs.Saying.{says_why}
+use Rattle.wac_refusals.proofs.Saying.{says_why}
 use Rattle.wac_taking.specs.Refused.{HasReason}
 use Rattle.wac_taking.specs.Takes.{MayTake, shared_in}
 use Rattle.wac_taking.specs.declared.state.Merging.{Merging}

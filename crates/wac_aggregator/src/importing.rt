@@ -13,7 +13,7 @@ ghost use Rattle.wac_imports.specs.Import.{import_of};
 ghost use Rattle.wac_names.specs.Class.{class_of};
 ghost use Rattle.wac_refusals.specs.declared.error.AggregateError.TheVariants.{Memory};
 ghost use Rattle.wac_taking.specs.Members.{AnswersMembers};
-ghost use Rattle.wac_uses.specs.Said.{said};
+ghost use Rattle.wac_refusals.specs.Said.{said};
 ghost use Rattle.wac_taking.specs.Takes.{MayTake};
 ghost use Rattle.wac_aggregator.specs.Advances.{Advances, IsAdded, IsRefusedCall};
 ghost use Rattle.wac_aggregator.specs.Wit.{MayHandIn};

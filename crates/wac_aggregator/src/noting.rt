@@ -13,12 +13,10 @@ ghost use Rattle.wac_aggregator.specs.Advances.{IsMerged};
 
 use super::cases::is_one_instance;
 use std::alloc::AllocError;
-use wac_clashes::mismatch;
 use wac_component::ItemKind;
 use wac_names::NameClass;
-use wac_refusals::AggregateError;
+use wac_refusals::{AggregateError, check_uses_of, mismatch};
 use wac_taking::{Merging, meet_own};
-use wac_uses::check_uses_of;
 
 /// Merges an item that was taken in into the import of a class.
 pub(crate) fn note_import(

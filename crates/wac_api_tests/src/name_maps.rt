@@ -5,8 +5,8 @@ use std::alloc::Global;
 use std::cmp::Ordering;
 use std::process::Abort;
 use std::test::Fail;
-use wac_interners::{Countdown, Numbers};
 use wac_names::version_cmp;
+use wac_script_session::{Countdown, Numbers};
 use wac_types::{NameError, NameMap, NameMapIntern};
 
 type Map = NameMap<usize, u32>;

@@ -1,2 +1,4 @@
 pub mod Calls
 pub mod Collections
+pub mod Places
+pub mod PlaceLaws

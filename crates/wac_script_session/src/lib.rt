@@ -1,6 +1,7 @@
 //! What a script has built so far, and the answers to its queries.
 //!
-//! A [`Session`] carries out one command after the other, as they are read by `wac_script_syntax`.
+//! A [`Session`] carries out one command after the other, as they are read by `wac_script_syntax`. [`Numbers`] and [`Countdown`]
+//! number texts, for maps of names.
 //!
 //! | Query | Answer |
 //! |---|---|
@@ -39,6 +40,7 @@ mod comparisons;
 mod core_externs;
 mod growth;
 mod imports;
+mod interners;
 mod kinds;
 mod lines;
 mod name_maps;
@@ -49,4 +51,5 @@ mod session;
 mod targets;
 mod visits;
 
+pub use interners::{Countdown, Numbers};
 pub use session::Session;

@@ -14,8 +14,8 @@ use Rattle.wac_names.specs.Class.{class_of}
 use Rattle.wac_narrowing.specs.State.{State}
 use Rattle.wac_refusals.specs.declared.error.AggregateError.{AggregateError}
 use Rattle.wac_taking.specs.Growing.{AreMetWith}
-use Rattle.wac_uses.specs.Differ.{AreRefusedLists}
-use Rattle.wac_uses.specs.Said.{said}
+use Rattle.wac_refusals.specs.Differ.{AreRefusedLists}
+use Rattle.wac_refusals.specs.Said.{said}
 use Rattle.wac_taking.specs.Refused.{IsRefused, AreRefusedItems}
 use Rattle.wac_taking.specs.Takes.{state_of, shared_in, shared_keys, MayTake, MayPut}
 use Rattle.wac_taking.specs.declared.state.Merging.{Merging}

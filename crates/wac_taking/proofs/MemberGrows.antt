@@ -48,12 +48,12 @@ use Rattle.wac_refusals.specs.declared.error.AggregateError.{AggregateError}
 use Rattle.wac_refusals.specs.declared.error.AggregateError.TheVariants.{Memory}
 use Rattle.wac_taking.specs.Growing.{AreMetWith}
 use Rattle.wac_taking.specs.Members.{HasTakenIn, TakesMembers, at_entry, in_cycle, IsNotTaken, IsMemberRefusal, roots_of}
-use Rattle.wac_uses.specs.Differ.{SaysUsesDiffer, of_interfaces, of_names, AreRefusedLists}
+use Rattle.wac_refusals.specs.Differ.{SaysUsesDiffer, of_interfaces, of_names, AreRefusedLists}
 use Rattle.wac_alike.proofs.Answering.{filter_to}
-use Rattle.wac_uses.proofs.Saying.{not_memory}
+use Rattle.wac_refusals.proofs.Saying.{not_memory}
 use Rattle.wac_taking.specs.Refused.{HasApartLeaves, AreRefusedItems}
 use Rattle.wac_taking.specs.Takes.{MayTake, MayPut, shared_in, shared_keys, state_of}
-use Rattle.wac_uses.specs.Uses.{AreOfOne, UsesAgree}
+use Rattle.wac_refusals.specs.Uses.{AreOfOne, UsesAgree}
 use Rattle.wac_taking.specs.declared.state.Merging.{Merging}
 use Rattle.wac_taking.proofs.Identifiers.{has_identifier}
 use Rattle.wac_taking.proofs.MemberParts.{IsLeafTree, AreLeaves, leaf_tree, leaf_is, leaf_fits, taken_leaves, taken_trees, used_of, used_by, AreMore-put, TakesMembers-put}

@@ -34,8 +34,8 @@ use Rattle.wac_narrowing.proofs.Tracing.{traced_added}
 use Rattle.wac_reasons.proofs.Moving.{identifier_is}
 use Rattle.wac_refusals.specs.declared.error.AggregateError.{AggregateError}
 use Rattle.wac_taking.specs.Members.{HasTakenIn, HasAllOf, roots_of, AreMore, TakesMembers, Hinders, at_entry, in_cycle, IsOfMerging, IsMemberRefusal, AnswersMembers, IsUsedBy}
-use Rattle.wac_uses.specs.Said.{said}
-use Rattle.wac_uses.proofs.Saying.{not_memory}
+use Rattle.wac_refusals.specs.Said.{said}
+use Rattle.wac_refusals.proofs.Saying.{not_memory}
 use Rattle.wac_taking.specs.Refused.{IsOfUnidentified, IsRefusedBy}
 use Rattle.wac_taking.specs.Takes.{AreKnown, OnlyGrows, IsTakenUse, MayTake, shared_in, shared_keys, state_of}
 use Rattle.wac_taking.specs.declared.state.Merging.{Merging}

@@ -26,7 +26,7 @@ use Rattle.wac_refusals.specs.declared.error.AggregateError.{AggregateError}
 use Rattle.wac_refusals.specs.declared.error.AggregateError.TheVariants.{Kinds, Mismatch, UsedInterface, UsedName, NoIdentifier, OwnerWithoutIdentifier, Taken, Cycle, Memory}
 use Rattle.wac_refusals.specs.declared.frame.MergeFrame.{MergeFrame}
 use Rattle.wac_mismatch.specs.declared.error.SubtypeError.{SubtypeError}
-use Rattle.wac_clashes.specs.Clashes.{IsMismatch}
+use Rattle.wac_refusals.specs.Clashes.{IsMismatch}
 use Rattle.wac_model.specs.Order.{Fits}
 use Rattle.wac_component.specs.Growth.{Extends}
 use Rattle.wac_component.specs.Tree.{item_tree}
@@ -38,12 +38,12 @@ use Rattle.wac_component.proofs.Among.{Contains-first, each_found}
 use Rattle.wac_call_lists.specs.WitList.{IsLeafItem}
 use Rattle.wac_call_lists.proofs.ByUses.{leaf_item, leaf_uses}
 use Rattle.wac_merge.specs.Items.{Externs, extern_keys}
-use Rattle.wac_uses.proofs.UseLemmas.{second_uses}
-use Rattle.wac_uses.proofs.UseLists.{one_alone}
+use Rattle.wac_refusals.proofs.UseLemmas.{second_uses}
+use Rattle.wac_refusals.proofs.UseLists.{one_alone}
 use Rattle.wac_taking.proofs.GrowLemmas.{below_both}
 use Rattle.wac_taking.specs.Growing.{IsMetWith, AreMetWith, AreApartIn, with_own, StaysAlong}
-use Rattle.wac_uses.specs.Differ.{SaysUsesDiffer, of_interfaces, of_names, UsesDiffer}
-use Rattle.wac_uses.specs.Said.{said}
+use Rattle.wac_refusals.specs.Differ.{SaysUsesDiffer, of_interfaces, of_names, UsesDiffer}
+use Rattle.wac_refusals.specs.Said.{said}
 use Rattle.wac_taking.specs.Refused.{HasReason, SaysMismatch, HasApartLeaves}
 
 -- what is open and comes from sources, and what is open, and comes from sources

@@ -14,8 +14,8 @@ use Rattle.wac_narrowing.specs.Identified.{used_names, use_names, use_names_at}
 use Rattle.wac_narrowing.specs.State.{State}
 use Rattle.wac_narrowing.specs.Taking.{AreTakenKeys, no_keys, one_key, IsTakenItem, IsTakenKey}
 use Rattle.wac_refusals.specs.declared.error.AggregateError.{AggregateError}
-use Rattle.wac_uses.specs.Differ.{UsesDiffer}
-use Rattle.wac_uses.proofs.UseLemmas.{second_uses}
+use Rattle.wac_refusals.specs.Differ.{UsesDiffer}
+use Rattle.wac_refusals.proofs.UseLemmas.{second_uses}
 use Rattle.wac_taking.proofs.Identifiers.{is_interface, has_identifier}
 use Rattle.wac_taking.proofs.Plain.{plain_within}
 use Rattle.wac_taking.proofs.Within.{within_left, within_right}

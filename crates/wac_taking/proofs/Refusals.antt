@@ -16,8 +16,8 @@ use Rattle.wac_call_lists.specs.Reason.{no_identifier, owner_without_identifier,
 use Rattle.wac_narrowing.specs.State.{State}
 use Rattle.wac_reasons.specs.Trial.{IsAccounted}
 use Rattle.wac_refusals.specs.declared.error.AggregateError.{AggregateError}
-use Rattle.wac_uses.specs.Said.{said}
-use Rattle.wac_uses.proofs.Passing.{passed_on}
+use Rattle.wac_refusals.specs.Said.{said}
+use Rattle.wac_refusals.proofs.Passing.{passed_on}
 use Rattle.wac_taking.specs.Refused.{IsOfUnidentified, IsRefusedBy, IsRefused, AreRefusedUses}
 use Rattle.wac_taking.specs.Takes.{state_of, AreNear, MayTake, AreWithin, OpenlyFrom, TakesBy}
 use Rattle.wac_taking.specs.declared.state.Merging.{Merging}

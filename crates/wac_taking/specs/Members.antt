@@ -16,7 +16,7 @@ use Rattle.wac_narrowing.specs.Laws.{IsArrowed}
 use Rattle.wac_narrowing.specs.State.{IsOneWith}
 use Rattle.wac_narrowing.specs.Traced.{Root, Arrows}
 use Rattle.wac_refusals.specs.declared.error.AggregateError.{AggregateError}
-use Rattle.wac_uses.specs.Said.{said}
+use Rattle.wac_refusals.specs.Said.{said}
 use Rattle.wac_taking.specs.Takes.{shared_in, shared_keys}
 use Rattle.wac_taking.specs.declared.state.Merging.{Merging}
 

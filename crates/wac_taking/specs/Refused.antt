@@ -17,8 +17,8 @@ use Rattle.wac_narrowing.specs.State.{State, IsKept}
 use Rattle.wac_reasons.specs.Trial.{IsTrial, IsAccounted, AreOpenItems}
 use Rattle.wac_refusals.specs.declared.error.AggregateError.{AggregateError}
 use Rattle.wac_refusals.specs.declared.error.AggregateError.TheVariants.{Memory}
-use Rattle.wac_uses.specs.Said.{said}
-use Rattle.wac_uses.specs.Differ.{UsesDiffer}
+use Rattle.wac_refusals.specs.Said.{said}
+use Rattle.wac_refusals.specs.Differ.{UsesDiffer}
 use Rattle.wac_taking.specs.Growing.{with_own, AreAllOpen}
 use Rattle.wac_taking.specs.Takes.{AreKnown, AreNear, state_of}
 use Rattle.wac_taking.specs.declared.state.Merging.{Merging}

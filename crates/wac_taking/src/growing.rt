@@ -15,7 +15,7 @@ ghost use Rattle.wac_narrowing.specs.Narrows.{grown};
 ghost use Rattle.wac_narrowing.specs.Taking.{IsTakenKey};
 ghost use Rattle.wac_taking.specs.Growing.{IsMetWith, AreMetWith};
 ghost use Rattle.wac_taking.specs.Members.{AnswersMembers};
-ghost use Rattle.wac_uses.specs.Said.{said};
+ghost use Rattle.wac_refusals.specs.Said.{said};
 ghost use Rattle.wac_taking.specs.Refused.{IsRefused, IsMergeRefusal, AreRefusedItems};
 ghost use Rattle.wac_taking.specs.Takes.{MayTake, MayPut, Takes, shared_in};
 
@@ -23,15 +23,13 @@ use super::meeting::meet_own;
 use super::state::Merging;
 use indexmap::IndexMap;
 use std::alloc::{AllocError, Global};
-use wac_clashes::mismatch;
 use wac_component::laws::names_in_an_interface_are_distinct;
 use wac_component::{Interface, InterfaceId, ItemKind, ReplaceError, Types, UsedType};
 use wac_core_merge::add_new;
 use wac_merge::{extern_named, put_extern};
 use wac_mismatch::SubtypeCheck;
 use wac_names::are_semver_compatible;
-use wac_refusals::{AggregateError, MergeFrame};
-use wac_uses::{check_uses, check_uses_of};
+use wac_refusals::{AggregateError, MergeFrame, check_uses, check_uses_of, mismatch};
 
 // Where exports are met, for what is told of those that have no meet: the direction, and the identifier of the interface,
 // unless it is on the track of the item that was handed in.

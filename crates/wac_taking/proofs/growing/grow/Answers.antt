@@ -12,7 +12,7 @@ use Rattle.wac_taking.proofs.GrowLemmas.{found_among, uses_put, with_new_named}
 use Rattle.wac_taking.proofs.GrowReasons.{grown_uses_refused, grown_items_refused, grown_cycle_refused}
 use Rattle.wac_taking.proofs.Grows.{new_named, still_stands, Takes-grown}
 use Rattle.wac_taking.proofs.MemberGrows.{TakesMembers-grown, member_uses_refused, member_items_refused, member_cycle_refused, memory_apart}
-use Rattle.wac_uses.proofs.Passing.{passed_on}
+use Rattle.wac_refusals.proofs.Passing.{passed_on}
 use Rattle.wac_taking.proofs.TakeLemmas.{lookup-shared, shared_stands}
 use Rattle.wac_taking.proofs.growing.grow.Goals as goal
 

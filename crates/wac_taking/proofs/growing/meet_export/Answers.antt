@@ -13,7 +13,7 @@ use Rattle.wac_narrowing.specs.Laws.{LeadsAlongArrows}
 use Rattle.wac_reasons.proofs.Accounts.{accounted_none, none_roots}
 use Rattle.wac_taking.specs.Growing.{with_own}
 use Rattle.wac_taking.proofs.MergeReasons.{met_open, met_along, merge_refused, leaves_apart}
-use Rattle.wac_uses.proofs.Passing.{passed_on}
+use Rattle.wac_refusals.proofs.Passing.{passed_on}
 use Rattle.wac_taking.proofs.growing.meet_export.Goals as goal
 
 pub meet_items-requires-clause-existing : goal.meet_items-requires-clause-existing

@@ -9,7 +9,7 @@ use Rattle.wac_checker.proofs.ExternLemmas.{named_stands}
 use Rattle.wac_merge.specs.Items.{extern_list}
 use Rattle.wac_merge.proofs.LoopLemmas.{name_has, name_not_done, done_more}
 use Rattle.wac_taking.specs.Growing.{AreMetWith, with_own}
-use Rattle.wac_uses.proofs.Passing.{passed_on}
+use Rattle.wac_refusals.proofs.Passing.{passed_on}
 use Rattle.wac_taking.proofs.MergeReasons.{leaves_apart_on}
 use Rattle.wac_call_lists.specs.WitList.{IsLeafItem}
 use Rattle.wac_model.specs.Text.{Text}

@@ -3,7 +3,7 @@ use Rattle.wac_component.specs.Key.{item_keys}
 use Rattle.wac_component.proofs.Extended.{AllStand-Extends}
 use Rattle.wac_taking.specs.Growing.{IsMetIfAny}
 use Rattle.wac_taking.proofs.MergeReasons.{says_mismatch, apart_before}
-use Rattle.wac_uses.proofs.Passing.{passed_on}
+use Rattle.wac_refusals.proofs.Passing.{passed_on}
 use Rattle.wac_taking.proofs.growing.meet_items.Goals as goal
 
 pub returns-in-Some : goal.returns-in-Some

@@ -43,7 +43,7 @@ use Rattle.wac_taking.proofs.Alike.{same_resource, same_defined_type, owners_low
 use Rattle.wac_taking.proofs.Arms.{taken_item, taken_value, taken_content, Takes-set, Takes-place, Takes-use, used_index}
 use Rattle.wac_taking.proofs.Plain.{used_named, contains_at, OnlyGrows-trans}
 use Rattle.wac_taking.proofs.Members.{wit_within, reached_closed, used_closed, TakesMembers-none, TakesMembers-then, TakesMembers-within, member_refused_within, member_refused_after, member_refused_unidentified, known_refused, used_from, content_known, interface_members}
-use Rattle.wac_uses.proofs.Passing.{passed_on}
+use Rattle.wac_refusals.proofs.Passing.{passed_on}
 use Rattle.wac_taking.proofs.Refusals.{refused_later, refused_near, refused_apart, refused_part, refused_item, refused_then, refused_uses, refused_owner, refused_use, refused_used, uses_within}
 use Rattle.wac_taking.specs.Refused.{IsRefused, IsOfUnidentified}
 use Rattle.wac_taking.specs.Members.{TakesMembers, IsMemberRefusal, IsUsedBy}

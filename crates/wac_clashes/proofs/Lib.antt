@@ -1,5 +1,0 @@
-pub mod Apart
-pub mod Cores
-pub mod Reading
-pub mod Turns
-pub mod Ways

@@ -1,0 +1,10 @@
+pub mod UseLists
+pub mod Passing
+pub mod Saying
+pub mod UseLemmas
+pub mod Users
+pub mod Apart
+pub mod Cores
+pub mod Reading
+pub mod Turns
+pub mod Ways

@@ -1,5 +1,0 @@
-pub mod UseLists
-pub mod Passing
-pub mod Saying
-pub mod UseLemmas
-pub mod Users
