@@ -21,6 +21,7 @@ use wac_component::{InterfaceId, ItemKind, Types, WorldId};
 
 // An interface that exports what both do, or none where a name of both has no meet.
 #[cycle(bounds)]
+#[inline(never)]
 pub(crate) fn meet_interfaces(
     alloc: Global,
     types: &mut Types,
@@ -45,6 +46,7 @@ pub(crate) fn meet_interfaces(
 
 // An interface that exports what both have under one name, joined.
 #[cycle(bounds)]
+#[inline(never)]
 pub(crate) fn join_interfaces(
     alloc: Global,
     types: &mut Types,
@@ -114,6 +116,7 @@ fn join_exports(
 // A world that exports what both do and imports what both have under one name, joined; none where
 // a name of both exports has no meet.
 #[cycle(bounds)]
+#[inline(never)]
 pub(crate) fn meet_worlds(
     alloc: Global,
     types: &mut Types,
@@ -142,6 +145,7 @@ pub(crate) fn meet_worlds(
 // A world that imports what both do and exports what both have under one name, joined; none where
 // a name of both imports has no meet.
 #[cycle(bounds)]
+#[inline(never)]
 pub(crate) fn join_worlds(
     alloc: Global,
     types: &mut Types,

@@ -109,7 +109,9 @@ fn add_world_of(
 }
 
 // The interface that was made for the two; else a new one, put last and noted, that has these exports and
-// uses what both do. The interfaces that the exports name are lower, so none of them was made for these two.
+// uses what both do. None was made since the exports were built, as all that they name is lower: to look it up
+// costs less than to prove it.
+#[inline(never)]
 pub(crate) fn interface_of(
     types: &mut Types,
     memo: &mut Memo,
@@ -137,6 +139,7 @@ pub(crate) fn interface_of(
 }
 
 // The same of worlds.
+#[inline(never)]
 pub(crate) fn world_of(
     types: &mut Types,
     memo: &mut Memo,

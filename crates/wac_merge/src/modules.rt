@@ -17,6 +17,7 @@ use wac_core::ModuleType;
 use wac_core_merge::{join_modules, meet_modules};
 
 // The core module type that was made for the two; else this one, put last and noted.
+#[inline(never)]
 fn module_of(
     types: &mut Types,
     memo: &mut Memo,
@@ -41,6 +42,7 @@ fn module_of(
 }
 
 // The meet of two core module types, if there is one.
+#[inline(never)]
 pub(crate) fn meet_module_types(
     alloc: Global,
     types: &mut Types,
@@ -63,6 +65,7 @@ pub(crate) fn meet_module_types(
 }
 
 // The join of two core module types, if there is one.
+#[inline(never)]
 pub(crate) fn join_module_types(
     alloc: Global,
     types: &mut Types,

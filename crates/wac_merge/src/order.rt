@@ -13,6 +13,8 @@ use wac_component::{ItemKind, Types};
 use wac_mismatch::SubtypeError;
 
 // Whether the left item fits where the right one is asked for; a pair that fits is remembered.
+// Its locals, as those of what adds an entry, would stand in the frame of every level of a recursion.
+#[inline(never)]
 pub(crate) fn fits(
     alloc: Global,
     types: &Types,
