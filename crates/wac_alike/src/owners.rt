@@ -2,7 +2,6 @@
 
 ghost use Rattle.std.specs.Prelude.{◌≡◌, ◌⊎◌, ◌↔◌, Some, Contains, filter, is_some, IsTrue, IfOk, IfSome};
 ghost use Rattle.wac_component.specs.Entries.{owner_at};
-ghost use Rattle.wac_component.specs.Id.{Id};
 ghost use Rattle.wac_component.specs.Key.{Stands, resource_key, interface_key};
 ghost use Rattle.wac_names.specs.Class.{Class};
 ghost use Rattle.wac_alike.specs.Alike.{AreIdentified, IsTrackAmong, track_at};

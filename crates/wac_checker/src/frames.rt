@@ -1,6 +1,6 @@
 //! Frames to the parts of two entries.
 
-ghost use Rattle.std.specs.Prelude.{◌≡◌, ◌<◌, Some, length, map, slice_get, string_bytes, IfOk};
+ghost use Rattle.std.specs.Prelude.{◌≡◌, ◌<◌, Some, length, slice_get, IfOk};
 ghost use Rattle.wac_model.specs.ItemTree.{Kind, leaf, func};
 ghost use Rattle.wac_component.specs.Content.{names};
 ghost use Rattle.wac_component.specs.Key.{Stands, defined_key, func_key, interface_key, world_key};

@@ -1,8 +1,8 @@
 //! Comparisons of pairs, one after another, each once.
 
-ghost use Rattle.std.specs.Prelude.{◌≡◌, ◌<◌, ◌≤◌, ◌+◌, ◌*◌, ◌++◌, ◌∷◌, [], ℕ, Contains, IsTrue, ◌↔◌, ◌⊎◌, IfOk, OnOk, OnErr, IfErr, MatchResult, length};
+ghost use Rattle.std.specs.Prelude.{◌≡◌, ◌<◌, ◌+◌, ◌++◌, ◌∷◌, [], ℕ, Contains, IsTrue, ◌↔◌, ◌⊎◌, IfOk, OnOk, IfErr, MatchResult, length};
 ghost use Rattle.wac_mismatch.specs.Steps.{IsUnder};
-ghost use Rattle.wac_checker.specs.Pairs.{left_of, right_of, check_of, placed, EntriesStand, EntriesFit, ExplainsEntries, IsEntriesPart, IsFrameOf, IsPairFrame, HasPart, PairStands, PairFits, ExplainsPair, PairPath};
+ghost use Rattle.wac_checker.specs.Pairs.{left_of, right_of, check_of, placed, EntriesStand, ExplainsEntries, IsEntriesPart, IsFrameOf, IsPairFrame, HasPart, PairStands, PairFits, ExplainsPair, PairPath};
 ghost use Rattle.wac_checker.specs.Steps.{IsFound, IsNext, LeadTo, AreClosedBefore, IsAtPart, ArePairsOf, IsAsked, IsComparison, ExplainsAsked};
 
 use super::composites::{interface_part, module_part, world_part};

@@ -1,6 +1,6 @@
 //! The interfaces from which a world uses types, which it imports without saying so.
 
-ghost use Rattle.std.specs.Prelude.{◌≡◌, ◌<◌, List, Some, length, map, slice_get, IfOk, IfErr, OnOk};
+ghost use Rattle.std.specs.Prelude.{◌≡◌, ◌<◌, Some, IfOk, IfErr, OnOk};
 ghost use Rattle.std.specs.List.{flat_map, All};
 ghost use Rattle.wac_component.specs.Content.{named, types_of, use_content, world_content};
 ghost use Rattle.wac_component.specs.Key.{Stands, AllStand, interface_key, item_keys, use_keys, named_keys, world_keys};

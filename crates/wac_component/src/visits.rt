@@ -1,6 +1,5 @@
 //! Visits of the defined types that a type refers to.
 
-ghost use Rattle.std.specs.Prelude.{◌≡◌};
 ghost use Rattle.std.specs.List.{flat_map};
 ghost use Rattle.wac_component.specs.Content.{defined_content, types_of, named};
 ghost use Rattle.wac_component.specs.Key.{Stands, AllStand, type_keys, item_keys, named_keys, func_key, interface_key, world_key};

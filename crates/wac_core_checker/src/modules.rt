@@ -7,7 +7,6 @@ ghost use Rattle.wac_model.specs.Text.{import_name_eq, lookup};
 ghost use Rattle.wac_model.specs.CoreTree.{ModuleFits};
 ghost use Rattle.wac_core.specs.Content.{core_tree, import_name, module_content};
 ghost use Rattle.wac_core.specs.Texts.{core_extern_text};
-ghost use Rattle.wac_mismatch.specs.Steps.{IsHere};
 ghost use Rattle.wac_core_checker.specs.Verdict.{AreServed, ExplainsModules, IsMissingCoreImport, IsMissingExport};
 
 use crate::externs::{core_extern_fits, sort_text};

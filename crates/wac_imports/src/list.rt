@@ -1,6 +1,6 @@
 //! Imports in order, found by the classes of names.
 
-ghost use Rattle.std.specs.Prelude.{◌≡◌, ℕ, ◌<◌, [], ◌∷◌, ◌++◌, Some, None, IsSome, OnOk, IfOk, MatchOption, slice_set, string_bytes, vec_len};
+ghost use Rattle.std.specs.Prelude.{◌≡◌, ℕ, ◌<◌, [], ◌∷◌, ◌++◌, Some, None, IsSome, OnOk, MatchOption, slice_set, string_bytes, vec_len};
 ghost use Rattle.std.specs.Option.{option_copied, option_map};
 ghost use Rattle.indexmap.specs.IndexMap.{insert_entry};
 ghost use Rattle.wac_names.specs.Class.{class_eq, class_of};

@@ -1,7 +1,6 @@
 //! Which of two names has the higher version.
 
-ghost use Rattle.std.specs.Prelude.{◌≡◌, IfOk, Option, true, Some};
-ghost use Rattle.wac_names.specs.Track.{IsVersionOrder};
+ghost use Rattle.std.specs.Prelude.{IfOk, Some};
 ghost use Rattle.wac_imports.specs.Import.{IsNewerBy};
 
 use std::alloc::{AllocError, Global};

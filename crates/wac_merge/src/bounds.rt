@@ -1,8 +1,7 @@
 //! The meet and the join of two items of a collection.
 
-ghost use Rattle.std.specs.Prelude.{◌≡◌, ◌≤◌, ◌+◌, ◌*◌, ◌∷◌, [], IfOk, IfSome, Some};
+ghost use Rattle.std.specs.Prelude.{◌≤◌, ◌+◌, ◌*◌, ◌∷◌, [], IfOk, IfSome};
 ghost use Rattle.std.specs.Option.{option_map};
-ghost use Rattle.wac_model.specs.Order.{Fits};
 ghost use Rattle.wac_bounds.specs.Bounds.{IsMeetIfAny, IsJoinIfAny};
 ghost use Rattle.wac_component.specs.Growth.{Extends};
 ghost use Rattle.wac_component.specs.Key.{AllStand, item_keys};

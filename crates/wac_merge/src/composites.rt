@@ -1,6 +1,6 @@
 //! The meet and the join of two interfaces and of two worlds.
 
-ghost use Rattle.std.specs.Prelude.{◌≡◌, ◌∷◌, [], IfOk, IfSome, Some};
+ghost use Rattle.std.specs.Prelude.{◌∷◌, [], IfOk, IfSome, Some};
 ghost use Rattle.std.specs.Option.{option_map};
 ghost use Rattle.std.specs.Str.{bytes_eq};
 ghost use Rattle.wac_core_merge.specs.NameOrder.{HasAllNames, HasSomeNames};

@@ -1,6 +1,6 @@
 //! What is read of interfaces and worlds, and the entries that are made of two.
 
-ghost use Rattle.std.specs.Prelude.{◌≡◌, IfOk, OnOk, OnErr, Some, None};
+ghost use Rattle.std.specs.Prelude.{◌≡◌, IfOk, OnErr, Some, None};
 ghost use Rattle.wac_component.specs.Id.{Id};
 ghost use Rattle.wac_component.specs.Content.{named, use_content};
 ghost use Rattle.wac_component.specs.Growth.{Extends};

@@ -2,7 +2,7 @@
 //!
 //! Each sort is merged by a call that isn't inlined: a level of a recursion takes the stack of one sort.
 
-ghost use Rattle.std.specs.Prelude.{◌≡◌, ◌++◌, ◌∷◌, [], IfOk, IfSome};
+ghost use Rattle.std.specs.Prelude.{◌++◌, ◌∷◌, [], IfOk, IfSome};
 ghost use Rattle.wac_component.specs.Key.{AllStand, Stands, item_keys};
 ghost use Rattle.wac_component.specs.Tree.{item_tree};
 ghost use Rattle.wac_merge.specs.Bounded.{IsKept, IsMetAs, IsJoinedAs};

@@ -1,10 +1,8 @@
 //! What one call has made and compared.
 
 ghost use Rattle.std.specs.Prelude.{◌≡◌, ◌++◌, ◌∷◌, [], IsOk, OnOk};
-ghost use Rattle.std.specs.Option.{option_map};
 ghost use Rattle.wac_component.specs.declared.items.ItemKind.{ItemKind};
-ghost use Rattle.wac_merge.specs.Items.{entry_item};
-ghost use Rattle.wac_merge.specs.Memo.{kind_of, first_key, second_key, entry_key, made_of, HasRoom, IsNew, IsMadeFor, IsSame};
+ghost use Rattle.wac_merge.specs.Memo.{made_of, HasRoom, IsNew, IsMadeFor, IsSame};
 
 use indexmap::IndexMap;
 use std::alloc::{AllocError, Global};

@@ -1,6 +1,5 @@
 //! The whole path of a mismatch on one line.
 
-ghost use Rattle.std.specs.Prelude.{◌≡◌};
 ghost use Rattle.std.specs.Fmt.{WritesOnOk};
 ghost use Rattle.wac_mismatch.specs.Error.{steps_text, path_text};
 

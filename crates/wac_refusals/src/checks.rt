@@ -1,8 +1,7 @@
 //! What a checker says of what doesn't fit.
 
-ghost use Rattle.std.specs.Prelude.{◌≡◌, ◌+◌, ◌<◌, ◌↔◌, [], ◌∷◌, IsTrue, IfOk};
+ghost use Rattle.std.specs.Prelude.{◌≡◌, ◌<◌, ◌↔◌, IsTrue, IfOk};
 ghost use Rattle.wac_model.specs.CoreTree.{CoreFits};
-ghost use Rattle.wac_model.specs.ItemTree.{ItemTree};
 ghost use Rattle.wac_model.specs.Order.{Fits};
 ghost use Rattle.wac_core.specs.Content.{core_tree};
 ghost use Rattle.wac_component.specs.Growth.{Extends};

@@ -58,6 +58,10 @@ pub(super) fn values_fit(
     ensures grown { IsGrownBy at.now bt.now swapped (pairs_of known.old) (pairs_of known.new) }
     ensures yes { OnYes result (FollowsAbove at.now bt.now swapped (pairs_of known.new) (keys_height at.now (value_keys a) + keys_height bt.now (value_keys b)) (value_tree at.now a ≡ value_tree bt.now b)) }
 {
+    // most values are primitive, and have no aliases to look through
+    if let (ValueType::Primitive(x), ValueType::Primitive(y)) = (&a, &b) {
+        return Ok(x == y);
+    }
     let a = at.resolve_value_type(a);
     let b = bt.resolve_value_type(b);
     match a {

@@ -1,6 +1,6 @@
 //! The ids that entries name.
 
-ghost use Rattle.std.specs.Prelude.{◌≡◌, List, ◌++◌, map, OnOk, IfOk};
+ghost use Rattle.std.specs.Prelude.{◌≡◌, ◌++◌, map, OnOk, IfOk};
 ghost use Rattle.std.specs.Option.{option_to_list};
 ghost use Rattle.wac_component.specs.Key.{value_keys, type_keys};
 ghost use Rattle.wac_component.specs.Naming.{key_of};

@@ -1,6 +1,6 @@
 //! Whether what an item or a content names stands in a collection.
 
-ghost use Rattle.std.specs.Prelude.{◌≡◌, ◌↔◌, IsTrue};
+ghost use Rattle.std.specs.Prelude.{◌↔◌, IsTrue};
 ghost use Rattle.wac_component.specs.Content.{defined_content, resource_content, func_content, interface_content, world_content};
 ghost use Rattle.wac_component.specs.Key.{AllStand, item_keys, defined_keys, resource_keys, func_keys, interface_keys, world_keys};
 ghost use Rattle.wac_component.specs.Parts.{places, all_places, place_keys, places_keys};
