@@ -14,7 +14,8 @@ use Rattle.wac_component.specs.Tree.{item_tree}
 use Rattle.wac_component.specs.declared.items.ItemKind.{ItemKind}
 use Rattle.wac_component.specs.declared.items.ItemKind.TheVariants.{Instance}
 use Rattle.wac_component.proofs.Extended.{Extends-refl}
-use Rattle.wac_merge.specs.Built.{OnlyBuilds, first}
+use Rattle.wac_merge.specs.Built.{OnlyBuilds, AreOnes, first}
+use Rattle.wac_merge.specs.declared.memo.Bound.TheVariants.{Meet}
 use Rattle.wac_names.specs.Class.{Class, class_of}
 use Rattle.wac_call_lists.specs.Call.{Call, call_track}
 use Rattle.wac_call_lists.specs.Shared.{Taken}
@@ -43,10 +44,13 @@ use Rattle.wac_aggregator.proofs.Instances.{instance_fits, instance_of, first_ke
 pub met_itself : (c : Collection) (a b : ItemKind) → IsSound c → AllStand c (item_keys a) → a ≡ b → IsMetWith c c a b a
 met_itself c a b sound stand same =
     subst (λ x. IsMetWith c c a x a) same
-    (built_met c c (λ k. (k, k)) a a a sound sound only (first refl) stand stand stand (Fits-refl (item_tree c a)) (Fits-refl (item_tree c a)) (λ t x y. x) (λ fits. refl))
+    (built_met c c (λ k. (k, k)) a a a sound sound only ones (first refl) stand stand stand (Fits-refl (item_tree c a)) (Fits-refl (item_tree c a)) (λ t x y. x) (λ fits. refl))
   where
     only : OnlyBuilds c c (λ k. (k, k))
     only = record { extends = Extends-refl c; leaves = record { number = refl; resources = refl; defined = refl; funcs = refl }; added = λ m st. inl st }
+
+    ones : AreOnes c c (λ k. (k, k))
+    ones = record { bound = λ m. Meet; is_bound = λ m added. absurd (added.1 added.0); one = λ m p added too origin bound. absurd (added.1 added.0) }
 
 -- what is answered, where an error is told of by two facts
 pub match_with : {X E : Type 0} (r : Result X E) (P P' : X → Type 0) (Q R Q' : E → Type 0) → MatchResult r P Q → IfErr r R → ((x : X) → P x → P' x) → ((e : E) → Q e → R e → Q' e) → MatchResult r P' Q'

@@ -1,7 +1,7 @@
 -- What was built stays built while more is, and runs one after another.
 use Rattle.std.proofs.Common.{◌≡◌, refl, ap, sym, subst, ◌∙◌, ◌⊎◌, inl, inr, List, [], ◌∷◌, ◌++◌, Contains, arith, Some, Result, Ok, Err, IfOk}
 use Rattle.std.specs.Result.{IsErr}
-use Rattle.std.proofs.lemmas.List.Elements.{All-weaker, Contains-append_cases}
+use Rattle.std.proofs.lemmas.List.Elements.{All-weaker, Contains-append_left, Contains-append_right, Contains-append_cases}
 use Rattle.wac_model.specs.Text.{Text}
 use Rattle.wac_model.specs.ItemTree.{ItemTree, Kind, item, type_item}
 use Rattle.wac_model.specs.Order.{Fits}
@@ -15,13 +15,13 @@ use Rattle.wac_component.specs.Sound.{IsSound}
 use Rattle.wac_component.specs.Tree.{item_tree}
 use Rattle.wac_component.specs.declared.items.ItemKind.{ItemKind}
 use Rattle.wac_component.proofs.Extended.{Extends-trans, Extends-refl}
-use Rattle.wac_component.proofs.Among.{Contains-cases}
+use Rattle.wac_component.proofs.Among.{Contains-first, Contains-cases}
 use Rattle.wac_component.proofs.Keys.{Key-discrete}
 use Rattle.wac_merge.specs.Bounded.{IsMetAs, IsJoinedAs}
 use Rattle.wac_merge.specs.Built.{Origins, IsBuilt, first, second, fresh, IsBuiltAt, of_first, of_second, of_both, AreBuilt, IsEntryFrom, of_interfaces, of_worlds, of_modules, IsMadeOf, IsAddedBuilt, OnlyBuilds}
 use Rattle.wac_merge.specs.Items.{entry_item, item_of, Externs}
 use Rattle.wac_merge.specs.Memo.{Made, first_key, second_key, entry_key}
-use Rattle.wac_merge.specs.Runs.{AgreeOn, IsMadeOn, AreMadeOn, Ran, Runs}
+use Rattle.wac_merge.specs.Runs.{AgreeOn, IsMadeOn, IsNoted, AreMadeOn, Ran, Runs}
 use Rattle.wac_merge.specs.declared.memo.Asked.{Asked}
 use Rattle.wac_merge.specs.declared.memo.EntryId.{EntryId}
 use Rattle.wac_component.proofs.Last.{IsLast}
@@ -89,11 +89,8 @@ module _ (c d e : Collection) (o q : Origins) (grown : Extends d e) (agree : Agr
     bound = elim h.bound [ inl met ↦ inl (bound_grown Fits m stands met) | inr joined ↦ inr (bound_grown (λ s t. Fits t s) m stands joined) ];
   }
 
-  pub AreMadeOn-grown : (ms : Made) → AreMadeOn c d o ms → AreMadeOn c e q ms
-  AreMadeOn-grown ms h = record { each = λ x m. more x (h.each x m) }
-    where
-      more : (x : Asked × EntryId) → IsMadeOn c d o x → IsMadeOn c e q x
-      more x g = record { first = g.first; second = g.second; made = (grown.standing (entry_key x.1) g.made.0, g.made.1, agree (entry_key x.1) g.made.0 ∙ g.made.2) }
+  IsMadeOn-grown : (x : Asked × EntryId) → IsMadeOn c d o x → IsMadeOn c e q x
+  IsMadeOn-grown x h = record { first = h.first; second = h.second; made = (grown.standing (entry_key x.1) h.made.0, h.made.1, agree (entry_key x.1) h.made.0 ∙ h.made.2) }
 
   -- more that is built
   only_more : HasLeavesOf d e → ((m : Key) → Stands e m → Stands d m ⊎ IsAddedBuilt c e q m) → OnlyBuilds c d o → OnlyBuilds c e q
@@ -120,8 +117,8 @@ nothing_built c o = record {
 }
 
 -- and nothing is made
-pub nothing_made : (c d : Collection) (o : Origins) → AreMadeOn c d o []
-nothing_made c d o = record { each = λ x m. absurd (omega (arith, m.1)) }
+pub nothing_made : (c : Collection) (o : Origins) → AreMadeOn c c o []
+nothing_made c o = record { each = λ x m. absurd (omega (arith, m.1)); all = λ m stands. inl stands }
 
 -- a run that adds nothing
 pub Runs-none : {ms : Made} (ks : List Key) (d e : Collection) (A : Collection → Origins → Type 0) → e ≡ d → ((c : Collection) (o : Origins) → A c o) → Runs ks d ms e ms A
@@ -171,6 +168,13 @@ pub Runs-made_before : {ms ns : Made} (ks : List Key) (d e : Collection) (A : Co
 Runs-made_before ks d e A a r there run = λ c o sound stand only made.
     let s = run c o sound stand only made in
     record { origins = s.origins; agree = s.agree; only = s.only; made = s.made; answer = (s.made.each (a, r) there).made }
+
+-- what is remembered stays so
+noted_more : (ms ns : Made) (m : Key) → IsNoted ms m → IsNoted (ms ++ ns) m
+noted_more ms ns m (x, there, is) = (x, Contains-append_left ms ns x there, is)
+
+noted_last : (ms : Made) (x : Asked × EntryId) (m : Key) → m ≡ entry_key x.1 → IsNoted (ms ++ x ∷ []) m
+noted_last ms x m is = (x, Contains-append_right ms (x ∷ []) x (Contains-first x []), sym is)
 
 -- the origins, with that of one entry more
 decided : {P : Type 0} → Dec P → Key × Key → Key × Key → Key × Key
@@ -234,11 +238,15 @@ module _ (b d e : Collection) (a : Asked) (r : EntryId) (a_entry b_entry entry :
       }
 
   -- it is remembered last
-  made_more : (ns : Made) (c : Collection) (q : Origins) → AreMadeOn c e q ns → IsMadeOn c e q (a, r) → AreMadeOn c e q (ns ++ (a, r) ∷ [])
-  made_more ns c q before here = record {
+  made_more : (ns : Made) (c : Collection) (o q : Origins) → AgreeOn d o q → AreMadeOn c d o ns → IsMadeOn c e q (a, r) → AreMadeOn c e q (ns ++ (a, r) ∷ [])
+  made_more ns c o q agree before here = record {
     each = λ z m. elim (Contains-append_cases ns ((a, r) ∷ []) z m) [
-      | inl old ↦ before.each z old
+      | inl old ↦ IsMadeOn-grown c d e o q grown agree z (before.each z old)
       | inr new ↦ elim (Contains-cases z (a, r) [] new) [ inl same ↦ subst (IsMadeOn c e q) same here | inr none ↦ absurd (omega (arith, none.1)) ]
+    ];
+    all = λ m stands. elim (last.others m stands) [
+      | inl stood ↦ elim (before.all m stood) [ inl stood_first ↦ inl stood_first | inr noted ↦ inr (noted_more ns ((a, r) ∷ []) m noted) ]
+      | inr same ↦ inr (noted_last ns (a, r) m same)
     ];
   }
 
@@ -253,7 +261,7 @@ module _ (b d e : Collection) (a : Asked) (r : EntryId) (a_entry b_entry entry :
         origins = q;
         agree = λ m stands. agree m (grown_d.standing m stands) ∙ s.agree m stands;
         only = only_more c d e s.origins q grown agree leaves (λ m stands. elim (last.others m stands) [ inl stood ↦ inl stood | inr same ↦ inr (subst (IsAddedBuilt c e q) (sym same) built) ]) s.only;
-        made = made_more ns c q (AreMadeOn-grown c d e s.origins q grown agree ns s.made) record { first = stand.0; second = stand.1.0; made = is };
+        made = made_more ns c s.origins q agree s.made record { first = stand.0; second = stand.1.0; made = is };
         answer = is;
       }
 

@@ -12,13 +12,15 @@ use Rattle.wac_component.specs.declared.items.ItemKind.{ItemKind}
 use Rattle.wac_component.proofs.Keys.{Each-append}
 use Rattle.wac_merge.specs.Built.{Origins, IsBuilt, IsBuiltWith, IsMadeOf, Builds}
 use Rattle.wac_merge.specs.Items.{entry_item}
-use Rattle.wac_merge.specs.Memo.{Made, first_key, second_key, entry_key, order_of, IsBoundOf}
+use Rattle.wac_merge.specs.Memo.{Made, made_of, first_key, second_key, entry_key, order_of, IsBoundOf, IsTrueMemo}
 use Rattle.wac_merge.specs.Runs.{Ran, Runs}
 use Rattle.wac_merge.specs.declared.memo.Bound.{Bound}
 use Rattle.wac_merge.specs.declared.memo.EntryId.{EntryId}
+use Rattle.wac_merge.specs.declared.memo.Memo.{Memo}
 use Rattle.wac_merge.specs.declared.memo.Pair.{Pair}
 use Rattle.wac_merge.proofs.BuiltLemmas.{made_item, nothing_built, nothing_made}
 use Rattle.wac_merge.proofs.ItemKeys.{entry_item-keys}
+use Rattle.wac_merge.proofs.OneLemmas.{ones}
 
 -- both items, or both as types
 module _ (a b : ItemKind) (k : Kind) (p : Pair) (is_a : a ≡ entry_item k (first_key p)) (is_b : b ≡ entry_item k (second_key p)) where
@@ -66,14 +68,14 @@ pub Runs-with : {ms ns : Made} (d e : Collection) (a : ItemKind) (o : Option Ite
     → Runs (item_keys a ++ optional_keys item_keys o) d ms e ns (λ c q. IfOk r (λ m. IfSome m (IsBuiltWith c e q a o)))
 Runs-with {ms} {ns} d e a o b is r run = subst (λ x. Runs (item_keys a ++ optional_keys item_keys x) d ms e ns (λ c q. IfOk r (λ m. IfSome m (IsBuiltWith c e q a x)))) (sym is) run
 
--- a run that starts where nothing is built yet
-module _ {ns : Made} (c d : Collection) (a b : ItemKind) (r : Result (Option ItemKind) AllocError) (sound : IsSound c) (sa : AllStand c (item_keys a)) (sb : AllStand c (item_keys b))
-    (run : Runs (item_keys a ++ item_keys b) c [] d ns (λ e o. IfOk r (λ m. IfSome m (IsBuilt e d o a b)))) where
+-- a run that starts where nothing is built yet, and ends with what n remembers
+module _ (c d : Collection) (n : Memo) (a b : ItemKind) (r : Result (Option ItemKind) AllocError) (sound : IsSound c) (sa : AllStand c (item_keys a)) (sb : AllStand c (item_keys b))
+    (run : Runs (item_keys a ++ item_keys b) c [] d (made_of n) (λ e o. IfOk r (λ m. IfSome m (IsBuilt e d o a b)))) where
   abbrev none : Origins
   none = λ m. (m, m)
 
-  pub ran : Ran c c d none ns (λ o. IfOk r (λ m. IfSome m (IsBuilt c d o a b)))
-  ran = run c none sound (Each-append (Stands c) (item_keys a) (item_keys b) sa sb) (nothing_built c none) (nothing_made c c none)
+  pub ran : Ran c c d none (made_of n) (λ o. IfOk r (λ m. IfSome m (IsBuilt c d o a b)))
+  ran = run c none sound (Each-append (Stands c) (item_keys a) (item_keys b) sa sb) (nothing_built c none) (nothing_made c none)
 
-  pub builds : Builds c d a b r
-  builds = record { origins = ran.origins; only = ran.only; built = ran.answer }
+  pub builds : IsTrueMemo d n → Builds c d a b r
+  builds known = record { origins = ran.origins; only = ran.only; ones = ones c d ran.origins n ran.only.extends known ran.made; built = ran.answer }

@@ -6,6 +6,7 @@ pub mod ReadLemmas
 pub mod CompositeLemmas
 pub mod MadeLemmas
 pub mod LoopLemmas
+pub mod OneLemmas
 pub mod ItemLemmas
 pub mod AskedLemmas
 pub mod MemoLemmas

@@ -15,6 +15,8 @@ use Rattle.wac_component.specs.Laws.{HasLeavesOf}
 use Rattle.wac_component.specs.declared.items.ItemKind.{ItemKind}
 use Rattle.wac_merge.specs.Items.{entry_item, Externs}
 use Rattle.wac_merge.specs.Bounded.{IsMetAs, IsJoinedAs}
+use Rattle.wac_merge.specs.declared.memo.Bound.{Bound}
+use Rattle.wac_merge.specs.declared.memo.Bound.TheVariants.{Meet, Join}
 
 -- the two entries that each added one was made of, the first before the second
 abbrev pub Origins : Type 0
@@ -88,8 +90,24 @@ pub record OnlyBuilds (c d : Collection) (o : Origins) : Type 0 where
   pub leaves : HasLeavesOf c d
   pub added : (m : Key) → Stands d m → Stands c m ⊎ IsAddedBuilt c d o m
 
--- with one origin for each added entry: c only builds to d, and the answer is built
+-- an entry of d that c has not
+abbrev pub IsAdded : Collection → Collection → Key → Type 0
+IsAdded c d m = Stands d m × (¬ (Stands c m))
+
+-- the entry at m, in d, is the meet or the join of the two in c, as items and as types
+abbrev pub IsBoundAs : Bound → Collection → Collection → Key × Key → Key → Type 0
+IsBoundAs Meet c d p m = (k : Kind) → IsMetAs c d (entry_item k p.0) (entry_item k p.1) (Some (entry_item k m))
+IsBoundAs Join c d p m = (k : Kind) → IsJoinedAs c d (entry_item k p.0) (entry_item k p.1) (Some (entry_item k m))
+
+-- each added entry is the one meet or the one join of an ordered pair
+pub record AreOnes (c d : Collection) (o : Origins) : Type 0 where
+  pub bound : Key → Bound
+  pub is_bound : (m : Key) → IsAdded c d m → IsBoundAs (bound m) c d (o m) m
+  pub one : (m n : Key) → IsAdded c d m → IsAdded c d n → o m ≡ o n → bound m ≡ bound n → m ≡ n
+
+-- with one origin for each added entry: c only builds to d, nothing twice, and the answer is built
 pub record Builds (c d : Collection) (a b : ItemKind) (answer : Result (Option ItemKind) AllocError) : Type 0 where
   pub origins : Origins
   pub only : OnlyBuilds c d origins
+  pub ones : AreOnes c d origins
   pub built : IfOk answer (λ r. IfSome r (IsBuilt c d origins a b))

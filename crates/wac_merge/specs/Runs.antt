@@ -1,5 +1,5 @@
 -- What a part of a meet or a join builds, whatever was built before it.
-use Rattle.std.specs.Prelude.{◌≡◌, List, Contains}
+use Rattle.std.specs.Prelude.{◌≡◌, ◌⊎◌, List, Contains}
 use Rattle.wac_component.specs.Collection.{Collection}
 use Rattle.wac_component.specs.Key.{Key, Stands, AllStand}
 use Rattle.wac_component.specs.Sound.{IsSound}
@@ -18,8 +18,14 @@ pub record IsMadeOn (c d : Collection) (o : Origins) (x : Asked × EntryId) : Ty
   pub second : Stands c (second_key x.0.pair)
   pub made : IsMadeOf c d o (first_key x.0.pair) (second_key x.0.pair) (entry_key x.1)
 
+-- it is the entry of one that is remembered
+abbrev pub IsNoted : Made → Key → Type 0
+IsNoted ms m = (x : Asked × EntryId) × Contains ms x × (entry_key x.1 ≡ m)
+
+-- and of what d has more than c all is remembered
 pub record AreMadeOn (c d : Collection) (o : Origins) (ms : Made) : Type 0 where
   pub each : (x : Asked × EntryId) → Contains ms x → IsMadeOn c d o x
+  pub all : (m : Key) → Stands d m → Stands c m ⊎ IsNoted ms m
 
 -- a run from d to e after c was built up to d, which ends with ns remembered
 pub record Ran (c d e : Collection) (o : Origins) (ns : Made) (Answer : Origins → Type 0) : Type 0 where

@@ -36,7 +36,7 @@ use Rattle.wac_core_merge.specs.Names.{with_new}
 use Rattle.wac_core_merge.proofs.EntryLemmas.{All-found}
 use Rattle.wac_core_merge.proofs.NameLemmas.{lookup-append, with_new-shown}
 use Rattle.wac_merge.specs.Bounded.{IsKept as IsKeptOf}
-use Rattle.wac_merge.specs.Built.{Origins, OnlyBuilds, IsBuilt, uses_of_both}
+use Rattle.wac_merge.specs.Built.{Origins, OnlyBuilds, AreOnes, IsBuilt, uses_of_both}
 use Rattle.wac_merge.specs.Items.{Externs, AreFound, extern_keys}
 use Rattle.wac_merge.proofs.PutLemmas.{lookup-insert_entry}
 use Rattle.wac_narrowing.specs.Apart.{IsGood}
@@ -175,13 +175,13 @@ along_on c d grows ss rs from good (k ∷ ks) st h = (along_added class_of (Arro
 -- ---- meets
 
 -- of two items, what was built of them
-pub built_met : (c d : Collection) (o : Origins) (a b m : ItemKind) → IsSound c → IsSound d → OnlyBuilds c d o → IsBuilt c d o a b m → AllStand c (item_keys a) → AllStand c (item_keys b) → AllStand d (item_keys m)
+pub built_met : (c d : Collection) (o : Origins) (a b m : ItemKind) → IsSound c → IsSound d → OnlyBuilds c d o → AreOnes c d o → IsBuilt c d o a b m → AllStand c (item_keys a) → AllStand c (item_keys b) → AllStand d (item_keys m)
     → Fits (item_tree d m) (item_tree c a) → Fits (item_tree d m) (item_tree c b) → ((t : ItemTree) → Fits t (item_tree c a) → Fits t (item_tree c b) → Fits t (item_tree d m)) → (Fits (item_tree c a) (item_tree c b) → m ≡ a) → IsMetWith c d a b m
-built_met c d o a b m sound sound_too only built sa sb sm fa fb greatest kept = record {
+built_met c d o a b m sound sound_too only ones built sa sb sm fa fb greatest kept = record {
   on = record { grows = only.extends; steps = λ ss g. building_steps c d ss o g sound_too only };
   stands = sm;
   answer = Ok (Some m);
-  builds = record { origins = o; only = only; built = built };
+  builds = record { origins = o; only = only; ones = ones; built = built };
   built = built;
   fits_first = fa;
   fits_second = fb;
@@ -195,13 +195,13 @@ pub below_both : (t a b : ItemTree) → Fits t a → Fits t b → IsLowerBound t
 below_both t a b x y = All-cons (Fits t) a (b ∷ []) x (All-cons (Fits t) b [] y (All-nil (Fits t)))
 
 -- where there is one, and where there is none
-pub built_if_any : (c d : Collection) (o : Origins) (a b : ItemKind) (r : Option ItemKind) → IsSound c → IsSound d → OnlyBuilds c d o → Extends c d → AllStand c (item_keys a) → AllStand c (item_keys b) → IfSome r (IsBuilt c d o a b) → IfSome r (λ m. AllStand d (item_keys m))
+pub built_if_any : (c d : Collection) (o : Origins) (a b : ItemKind) (r : Option ItemKind) → IsSound c → IsSound d → OnlyBuilds c d o → AreOnes c d o → Extends c d → AllStand c (item_keys a) → AllStand c (item_keys b) → IfSome r (IsBuilt c d o a b) → IfSome r (λ m. AllStand d (item_keys m))
     → IsMeetIfAny (option_map (item_tree d) r) (item_tree c a ∷ item_tree c b ∷ []) → IsKeptOf (item_tree c a) (item_tree c b) a b r → IsMetIfAny c d a b r
-built_if_any c d o a b None sound sound_too only grows sa sb built st none kept =
+built_if_any c d o a b None sound sound_too only ones grows sa sb built st none kept =
     (grows, λ t low. none t (subst (IsLowerBound t) (ap (λ x. x ∷ item_tree d b ∷ []) (grows.trees a sa) ∙ ap (λ x. item_tree c a ∷ x ∷ []) (grows.trees b sb)) low))
-built_if_any c d o a b (Some m) sound sound_too only grows sa sb built st meet kept =
+built_if_any c d o a b (Some m) sound sound_too only ones grows sa sb built st meet kept =
     let fits : ItemTree → Type 0 = λ t. Fits (item_tree d m) t in
-    built_met c d o a b m sound sound_too only built sa sb st
+    built_met c d o a b m sound sound_too only ones built sa sb st
     (All-head fits (item_tree c a) (item_tree c b ∷ []) meet.is_below)
     (All-head fits (item_tree c b) [] (All-tail fits (item_tree c a) (item_tree c b ∷ []) meet.is_below))
     (λ t x y. meet.is_greatest t (below_both t (item_tree c a) (item_tree c b) x y))

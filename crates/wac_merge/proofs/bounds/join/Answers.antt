@@ -13,11 +13,11 @@ returns-clause-join c = IfOk-weaker c.join_items.result _ _ (λ m h. join_of_two
 
 pub returns-clause-builds : goal.returns-clause-builds
 returns-clause-builds c =
-    builds c.args.types.now c.join_items.new.types c.args.a c.args.b c.join_items.result c.sound.ensures c.requires.left c.requires.right (Runs-after (item_keys c.args.a ++ item_keys c.args.b) c.args.types.now c.join_items.new.types _ c.new-memo.ensures.made c.join_items.ensures.built)
+    builds c.args.types.now c.join_items.new.types c.join_items.new.memo c.args.a c.args.b c.join_items.result c.sound.ensures c.requires.left c.requires.right (Runs-after (item_keys c.args.a ++ item_keys c.args.b) c.args.types.now c.join_items.new.types _ c.new-memo.ensures.made c.join_items.ensures.built) c.join_items.ensures.grows.true_memo
 
 pub returns-clause-bounded : goal.returns-clause-bounded
 returns-clause-bounded c =
-    let run = ran c.args.types.now c.join_items.new.types c.args.a c.args.b c.join_items.result c.sound.ensures c.requires.left c.requires.right (Runs-after (item_keys c.args.a ++ item_keys c.args.b) c.args.types.now c.join_items.new.types _ c.new-memo.ensures.made c.join_items.ensures.built) in
+    let run = ran c.args.types.now c.join_items.new.types c.join_items.new.memo c.args.a c.args.b c.join_items.result c.sound.ensures c.requires.left c.requires.right (Runs-after (item_keys c.args.a ++ item_keys c.args.b) c.args.types.now c.join_items.new.types _ c.new-memo.ensures.made c.join_items.ensures.built) in
     let none = ap length c.new-memo.ensures.made in
     let counted = c.join_items.ensures.grows.counted in
     made_bounded c.args.types.now c.join_items.new.types c.join_items.new.types run.origins _ c.join_items.ensures.grows.true_memo.once run.made (omega (arith, none, counted))
