@@ -4,7 +4,7 @@ use Rattle.std.proofs.lemmas.List.Sums.{fold-append}
 use Rattle.std.proofs.lemmas.Map.Keys.{IsDistinct-head, IsDistinct-tail, IsDistinct-cons}
 use Rattle.std.specs.Cmp.Lexicographic.{bytes_decides, nat_list_eq_equiv}
 use Rattle.std.specs.List.{AllByRecursion, IsDistinct}
-use Rattle.std.specs.Map.{keys_of}
+use Rattle.std.specs.Map.{keys_of, lookup}
 use Rattle.std.specs.Str.{bytes_eq}
 use Rattle.std.specs.String.{string_eq}
 use Rattle.indexmap.specs.IndexMap.{insert_entry, insert_all}
@@ -21,6 +21,11 @@ module _ {V : Type 0} where
     apart : (ds : List (String Global × V)) → AllByRecursion (λ y. string_eq e.0 y ≡ false) (keys_of ds) → AllByRecursion (λ y. bytes_eq (string_bytes e.0) y ≡ false) (keys_of (named (λ k. k) ds))
     apart [] h = tt
     apart (d ∷ ds) h = (h.0, apart ds h.1)
+
+  -- what a map finds under a text
+  pub value_at-named : (es : List (String Global × V)) (n : Text) → lookup (λ k. bytes_eq n (string_bytes k)) es ≡ value_at (named (λ k. k) es) n
+  value_at-named [] n = refl
+  value_at-named (e ∷ es) n = ap (λ o. cond (bytes_eq n (string_bytes e.0)) (Some e.1) o) (value_at-named es n)
 
   -- a name that is apart from all is not there
   pub value_at-apart : (ps : List (Text × V)) (n : Text) → AllByRecursion (λ y. bytes_eq n y ≡ false) (keys_of ps) → value_at ps n ≡ None

@@ -5,3 +5,4 @@ pub mod Notes
 pub mod Reports
 pub mod Reported
 pub mod Itself
+pub mod GivenLemmas

@@ -5,13 +5,9 @@ use Rattle.std.specs.declared.alloc.Global.{Global}
 use Rattle.std.specs.Str.{bytes_eq}
 use Rattle.std.specs.String.{string_eq}
 use Rattle.wac_model.specs.Text.{Text}
-use Rattle.wac_component.specs.Collection.{Collection}
-use Rattle.wac_component.specs.Key.{AllStand, item_keys, named_keys}
-use Rattle.wac_component.specs.declared.items.ItemKind.{ItemKind}
 use Rattle.wac_names.specs.Interner.{Interning}
 use Rattle.wac_names.specs.NameMap.{Represents}
 use Rattle.wac_names.specs.declared.name_map.NameMap.{NameMap}
-use Rattle.wac_targets.specs.Wanted.{Items}
 
 -- each text is its own key
 abbrev pub text_keys : Interning (String Global)
@@ -24,9 +20,3 @@ IsMapOf m ps = Represents string_eq text_keys m ps
 -- the entries of a map with borrowed names
 abbrev pub borrowed : {V : Type 0} → List (Bor Text × V) → List (Text × V)
 borrowed es = map (λ e. (e.0.now, e.1)) es
-
--- it stands for items that stand in the collection
-pub record HoldsItemsOf (c : Collection) (m : NameMap (String Global) ItemKind) : Type 0 where
-  pub items : Items
-  pub is_map : IsMapOf m items
-  pub standing : AllStand c (named_keys item_keys items)

@@ -1,6 +1,6 @@
 //! The checks of what one side wants, name by name.
 
-ghost use Rattle.std.specs.Prelude.{◌≡◌, ◌∷◌, [], string_bytes, IfOk, IfErr, OnOk};
+ghost use Rattle.std.specs.Prelude.{◌≡◌, ◌∷◌, [], Some, string_bytes, IfOk, IfErr, OnOk};
 ghost use Rattle.wac_checker.specs.Cache.{IsSoundCache};
 ghost use Rattle.wac_checker.specs.Checker.{direction, depth, remembered};
 ghost use Rattle.wac_component.specs.Content.{named};
@@ -8,19 +8,21 @@ ghost use Rattle.wac_component.specs.Key.{AllStand, item_keys, named_keys};
 ghost use Rattle.wac_component.specs.declared.implicit.TargetError.TheVariants.{Memory};
 ghost use Rattle.wac_component.specs.declared.items.ItemKind.{ItemKind};
 ghost use Rattle.wac_component.specs.declared.worlds.ExternKind.TheVariants.{Import, Export};
-ghost use Rattle.wac_targets.specs.Named.{IsMapOf, HoldsItemsOf};
+ghost use Rattle.wac_model.specs.Text.{Text};
+ghost use Rattle.wac_names.specs.Pairs.{IsFound};
+ghost use Rattle.wac_targets.specs.Given.{items_in, IsLawful};
 ghost use Rattle.wac_targets.specs.Noting.{AreNoted, NotesAt, IsVerdict, Changes, note_of, with_lack, with_mismatch};
 ghost use Rattle.wac_targets.specs.Report.{check_of};
 ghost use Rattle.wac_targets.specs.Wanted.{Items, left_item, right_item};
 
-use crate::imports::named_at;
+use crate::given::Given;
+use crate::maps::named_at;
 use crate::report::TargetValidationReport;
 use indexmap::IndexMap;
 use std::alloc::Global;
 use wac_checker::SubtypeChecker;
 use wac_component::{ExternKind, ItemKind, TargetError, Types};
 use wac_mismatch::SubtypeError;
-use wac_names::{NameMap, NameMapNoIntern};
 
 /// What comes of an item that is wanted under a name.
 #[derive(Drop)]
@@ -40,17 +42,18 @@ pub(crate) fn check_all(
     checker: &mut SubtypeChecker,
     alloc: Global,
     types: &Types,
-    given: &NameMap<String, ItemKind>,
+    given: &mut Given<'_>,
     wanted: &IndexMap<String, ItemKind>,
 ) -> Result<(), TargetError>
-    requires given { HoldsItemsOf types.now given.now }
+    requires given { IsLawful given.old }
+    requires standing { AllStand types.now (named_keys item_keys (items_in given.old)) }
     requires wanted { AllStand types.now (named_keys item_keys (named (λ k. k) wanted.now.entries)) }
     requires direction { direction checker.old ≡ check_of kind }
     requires remembered { IsSoundCache (types.now ∷ types.now ∷ []) (remembered checker.old) }
     ensures direction { direction checker.new ≡ direction checker.old }
     ensures depth { depth checker.new ≡ depth checker.old }
     ensures remembered { IsSoundCache (types.now ∷ types.now ∷ []) (remembered checker.new) }
-    ensures noted { (items : Items) → IsMapOf given.now items → OnOk result (AreNoted types.now kind items (named (λ k. k) wanted.now.entries) (note_of report.old) (note_of report.new)) }
+    ensures noted { OnOk result (AreNoted types.now kind (items_in given.old) (named (λ k. k) wanted.now.entries) (note_of report.old) (note_of report.new)) }
     ensures err { IfErr result (λ e. e ≡ Memory) }
 {
     for i in 0..wanted.len() {
@@ -67,18 +70,21 @@ fn check_one(
     checker: &mut SubtypeChecker,
     alloc: Global,
     types: &Types,
-    given: &NameMap<String, ItemKind>,
+    given: &mut Given<'_>,
     name: &str,
     wanted: &ItemKind,
 ) -> Result<(), TargetError>
-    requires given { HoldsItemsOf types.now given.now }
+    requires given { IsLawful given.old }
+    requires standing { AllStand types.now (named_keys item_keys (items_in given.old)) }
     requires wanted { AllStand types.now (item_keys wanted.now) }
     requires direction { direction checker.old ≡ check_of kind }
     requires remembered { IsSoundCache (types.now ∷ types.now ∷ []) (remembered checker.old) }
     ensures direction { direction checker.new ≡ direction checker.old }
     ensures depth { depth checker.new ≡ depth checker.old }
     ensures remembered { IsSoundCache (types.now ∷ types.now ∷ []) (remembered checker.new) }
-    ensures noted { (items : Items) → IsMapOf given.now items → OnOk result (NotesAt types.now kind items name.now wanted.now (note_of report.old) (note_of report.new)) }
+    ensures lawful { IsLawful given.new }
+    ensures same { items_in given.new ≡ items_in given.old }
+    ensures noted { OnOk result (NotesAt types.now kind (items_in given.old) name.now wanted.now (note_of report.old) (note_of report.new)) }
     ensures err { IfErr result (λ e. e ≡ Memory) }
 {
     match judge(kind, checker, alloc, types, given, name, wanted)? {
@@ -94,23 +100,53 @@ fn judge(
     checker: &mut SubtypeChecker,
     alloc: Global,
     types: &Types,
-    given: &NameMap<String, ItemKind>,
+    given: &mut Given<'_>,
     name: &str,
     wanted: &ItemKind,
 ) -> Result<Verdict, TargetError>
-    requires given { HoldsItemsOf types.now given.now }
+    requires given { IsLawful given.old }
+    requires standing { AllStand types.now (named_keys item_keys (items_in given.old)) }
     requires wanted { AllStand types.now (item_keys wanted.now) }
     requires direction { direction checker.old ≡ check_of kind }
     requires remembered { IsSoundCache (types.now ∷ types.now ∷ []) (remembered checker.old) }
     ensures direction { direction checker.new ≡ direction checker.old }
     ensures depth { depth checker.new ≡ depth checker.old }
     ensures remembered { IsSoundCache (types.now ∷ types.now ∷ []) (remembered checker.new) }
-    ensures verdict { (items : Items) → IsMapOf given.now items → IfOk result (IsVerdict types.now kind items name.now wanted.now) }
+    ensures lawful { IsLawful given.new }
+    ensures same { items_in given.new ≡ items_in given.old }
+    ensures verdict { IfOk result (IsVerdict types.now kind (items_in given.old) name.now wanted.now) }
     ensures err { IfErr result (λ e. e ≡ Memory) }
 {
-    let Some(found) = given.get(name, &NameMapNoIntern)? else {
+    // Most names are found as they stand.
+    if let Some(found) = given.own(name) {
+        return judge_found(kind, checker, alloc, types, found, wanted);
+    }
+    given.index(alloc)?;
+    let Some(found) = given.get(name)? else {
         return Ok(Verdict::Lacking);
     };
+    judge_found(kind, checker, alloc, types, found, wanted)
+}
+
+// What comes of an item for which one is found.
+fn judge_found(
+    kind: ExternKind,
+    checker: &mut SubtypeChecker,
+    alloc: Global,
+    types: &Types,
+    found: &ItemKind,
+    wanted: &ItemKind,
+) -> Result<Verdict, TargetError>
+    requires found { AllStand types.now (item_keys found.now) }
+    requires wanted { AllStand types.now (item_keys wanted.now) }
+    requires direction { direction checker.old ≡ check_of kind }
+    requires remembered { IsSoundCache (types.now ∷ types.now ∷ []) (remembered checker.old) }
+    ensures direction { direction checker.new ≡ direction checker.old }
+    ensures depth { depth checker.new ≡ depth checker.old }
+    ensures remembered { IsSoundCache (types.now ∷ types.now ∷ []) (remembered checker.new) }
+    ensures verdict { (items : Items) (name : Text) → IsFound items name (Some found.now) → IfOk result (IsVerdict types.now kind items name wanted.now) }
+    ensures err { IfErr result (λ e. e ≡ Memory) }
+{
     let left = left_item(kind, found);
     let right = right_item(kind, wanted);
     match checker.is_subtype(alloc, left, types, right, types) {

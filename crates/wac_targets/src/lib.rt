@@ -2,7 +2,8 @@
 #![tactic(auto)]
 
 mod checks;
-mod imports;
+mod given;
+mod maps;
 mod report;
 mod target;
 mod texts;

@@ -16,8 +16,9 @@ ghost use Rattle.wac_mismatch.specs.declared.check.SubtypeCheck.TheVariants.{Cov
 ghost use Rattle.wac_targets.specs.Report.{IsAnswer, AreMeantAsTheyStand, world_at};
 
 use crate::checks::check_all;
-use crate::imports::{all_imports, by_name};
+use crate::given::Given;
 use crate::report::{TargetValidationReport, TargetValidationResult};
+use indexmap::IndexMap;
 use std::alloc::Global;
 use std::collections::HashSet;
 use wac_checker::SubtypeChecker;
@@ -73,7 +74,8 @@ fn check_imports(
     ensures identified { OnOk result (All (HasIdentifier types.now) (used_interfaces types.now (world_content target.now))) }
     ensures err { IfErr result (IsUntold types.now (used_interfaces types.now (world_content target.now))) }
 {
-    let given = all_imports(alloc, target, types)?;
+    let implicit = target.implicit_imported_interfaces(alloc, types)?;
+    let mut given = Given::new(implicit, &target.imports);
     checker.invert();
     check_all(
         ExternKind::Import,
@@ -81,7 +83,7 @@ fn check_imports(
         checker,
         alloc,
         types,
-        &given,
+        &mut given,
         &component.imports,
     )?;
     checker.revert();
@@ -104,14 +106,14 @@ fn check_exports(
     ensures noted { OnOk result (AreNoted types.now Export (world_content component.now).exports (world_content target.now).exports (note_of report.old) (note_of report.new)) }
     ensures err { IfErr result (λ e. e ≡ Memory) }
 {
-    let given = by_name(alloc, types, &component.exports)?;
+    let mut given = Given::new(IndexMap::new(alloc), &component.exports);
     check_all(
         ExternKind::Export,
         report,
         checker,
         alloc,
         types,
-        &given,
+        &mut given,
         &target.exports,
     )
 }

@@ -5,7 +5,7 @@ use Rattle.indexmap.specs.IndexMap.{insert_all}
 use Rattle.wac_checker.proofs.Lookups.{take_all}
 use Rattle.wac_targets.specs.Named.{IsMapOf, borrowed}
 use Rattle.wac_targets.proofs.Distinct.{insert_all-more}
-use Rattle.wac_targets.proofs.imports.insert_borrowed.Goals as goal
+use Rattle.wac_targets.proofs.maps.insert_borrowed.Goals as goal
 
 pub loop-i-preserved : goal.loop-i-preserved
 loop-i-preserved g c = λ ps h.

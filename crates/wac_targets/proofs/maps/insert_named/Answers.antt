@@ -5,8 +5,8 @@ use Rattle.indexmap.specs.IndexMap.{insert_all}
 use Rattle.wac_checker.proofs.Lookups.{take_all}
 use Rattle.wac_component.specs.Content.{named}
 use Rattle.wac_targets.specs.Named.{IsMapOf}
-use Rattle.wac_targets.proofs.Distinct.{distinct-named, insert_all-more}
-use Rattle.wac_targets.proofs.imports.insert_named.Goals as goal
+use Rattle.wac_targets.proofs.Distinct.{insert_all-more}
+use Rattle.wac_targets.proofs.maps.insert_named.Goals as goal
 
 pub loop-i-preserved : goal.loop-i-preserved
 loop-i-preserved g c = λ ps h.
@@ -18,6 +18,3 @@ pub returns-clause-ok : goal.returns-clause-ok
 returns-clause-ok g c = λ ps h.
     let items = named (λ k. k) c.args.values.now.entries in
     subst (λ qs. IsMapOf c.loop-i.map (insert_all bytes_eq ps qs)) (take_all items c.loop-i.i (simp length-map (omega arith))) (c.loop-i.invariant ps h)
-
-pub returns-clause-distinct : goal.returns-clause-distinct
-returns-clause-distinct g c = distinct-named c.args.values.now.entries c.len-i-end.ensures.unique
