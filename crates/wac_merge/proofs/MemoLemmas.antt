@@ -3,15 +3,18 @@ use Rattle.std.proofs.Common.{◌≡◌, ◌+◌, inl, inr, refl, ap, sym, subst
 use Rattle.std.proofs.lemmas.List.Elements.{Contains-append_cases}
 use Rattle.wac_component.specs.Collection.{Collection}
 use Rattle.wac_component.specs.Growth.{Extends}
-use Rattle.wac_component.specs.Key.{Stands}
+use Rattle.wac_component.specs.Key.{Stands, AllStand, item_keys}
+use Rattle.wac_component.specs.declared.items.ItemKind.{ItemKind}
+use Rattle.wac_model.specs.Order.{Fits}
 use Rattle.wac_component.specs.Sound.{entry_count}
 use Rattle.wac_component.specs.Tree.{item_tree}
 use Rattle.wac_component.proofs.Among.{Contains-first, Contains-later, Contains-cases}
+use Rattle.wac_component.proofs.Keys.{Each-map}
 use Rattle.wac_component.proofs.Extended.{Extends-refl, Extends-trans}
 use Rattle.wac_checker.proofs.CacheGrowth.{sound_caches_stay}
 use Rattle.wac_checker.specs.Cache.{IsSoundCache, AreGrownFrom, AreNumberedApart}
 use Rattle.wac_merge.specs.Items.{entry_item}
-use Rattle.wac_merge.specs.Memo.{Made, made_of, first_key, second_key, entry_key, order_of, IsNew, IsSame, IsBoundOf, IsTrueMade, AreMadeOnce, IsTrueMemo, Grows, IsMade, before, now}
+use Rattle.wac_merge.specs.Memo.{Made, made_of, first_key, second_key, entry_key, order_of, IsNew, IsSame, IsBoundOf, IsTrueMade, AreMadeOnce, HasSamePairs, AreUnfitting, IsTrueMemo, Grows, IsMade, before, now}
 use Rattle.wac_merge.specs.declared.memo.Asked.{Asked}
 use Rattle.wac_merge.specs.declared.memo.Bound.{Bound}
 use Rattle.wac_merge.specs.declared.memo.EntryId.{EntryId}
@@ -37,19 +40,20 @@ pub alone : (d : Collection) → AreNumberedApart (d ∷ d ∷ d ∷ d ∷ [])
 alone d x y mx my same = sym (one_of_four d x mx) ∙ one_of_four d y my
 
 -- at first
-pub IsTrueMemo-none : (d : Collection) (m : Memo) → made_of m ≡ [] → m.fitting.keys ≡ [] → IsTrueMemo d m
-IsTrueMemo-none d m none fit = record {
+pub IsTrueMemo-none : (d : Collection) (m : Memo) → made_of m ≡ [] → m.fitting.keys ≡ [] → m.unfitting.keys ≡ [] → IsTrueMemo d m
+IsTrueMemo-none d m none fit unfit = record {
   made = λ x c. nothing x (subst (λ (l : Made). Contains l x) none c);
   once = subst AreMadeOnce (sym none) tt;
   fitting = subst (IsSoundCache (d ∷ d ∷ [])) (sym fit) (λ p m. absurd (omega (arith, m.1)));
+  unfitting = subst (AreUnfitting d) (sym unfit) (λ p m. absurd (omega (arith, m.1)));
 }
   where
     nothing : (x : Asked × EntryId) → Contains [] x → IsTrueMade d x
     nothing x m = absurd (omega (arith, m.1))
 
--- where only the pairs that fit are more
-pub IsTrueMemo-fitting : (d : Collection) (m n : Memo) → made_of n ≡ made_of m → IsSoundCache (d ∷ d ∷ []) n.fitting.keys → IsTrueMemo d m → IsTrueMemo d n
-IsTrueMemo-fitting d m n same sound h = record { made = λ x c. h.made x (subst (λ (l : Made). Contains l x) same c); once = subst AreMadeOnce (sym same) h.once; fitting = sound }
+-- where only the pairs are others
+pub IsTrueMemo-pairs : (d : Collection) (m n : Memo) → made_of n ≡ made_of m → IsSoundCache (d ∷ d ∷ []) n.fitting.keys → AreUnfitting d n.unfitting.keys → IsTrueMemo d m → IsTrueMemo d n
+IsTrueMemo-pairs d m n same sound apart h = record { made = λ x c. h.made x (subst (λ (l : Made). Contains l x) same c); once = subst AreMadeOnce (sym same) h.once; fitting = sound; unfitting = apart }
 
 -- while entries are only added
 module _ (d e : Collection) (grown : Extends d e) where
@@ -65,14 +69,22 @@ module _ (d e : Collection) (grown : Extends d e) where
   both_grown : AreGrownFrom (d ∷ d ∷ []) (e ∷ e ∷ [])
   both_grown x m = (d, Contains-first d (d ∷ []), subst (Extends d) (one_of_two e x m) grown)
 
+  unfitting_stay : (p : ItemKind × ItemKind) → AllStand d (item_keys p.0) × AllStand d (item_keys p.1) × (¬ (Fits (item_tree d p.0) (item_tree d p.1))) → AllStand e (item_keys p.0) × AllStand e (item_keys p.1) × (¬ (Fits (item_tree e p.0) (item_tree e p.1)))
+  unfitting_stay p (left, right, apart) = (
+    Each-map (Stands d) (Stands e) grown.standing (item_keys p.0) left,
+    Each-map (Stands d) (Stands e) grown.standing (item_keys p.1) right,
+    λ fits. apart (subst (λ t. Fits (item_tree d p.0) t) (grown.trees p.1 right) (subst (λ t. Fits t (item_tree e p.1)) (grown.trees p.0 left) fits)),
+  )
+
   IsTrueMemo-grown : (m : Memo) → IsTrueMemo d m → IsTrueMemo e m
-  IsTrueMemo-grown m h = record { made = λ x c. IsTrueMade-grown x (h.made x c); once = h.once; fitting = sound_caches_stay (d ∷ d ∷ []) (e ∷ e ∷ []) m.fitting.keys both_grown h.fitting }
+  IsTrueMemo-grown m h = record { made = λ x c. IsTrueMade-grown x (h.made x c); once = h.once; fitting = sound_caches_stay (d ∷ d ∷ []) (e ∷ e ∷ []) m.fitting.keys both_grown h.fitting; unfitting = λ p c. unfitting_stay p (h.unfitting p c) }
 
 IsTrueMemo-same : (d : Collection) (m n : Memo) → IsSame m n → IsTrueMemo d m → IsTrueMemo d n
 IsTrueMemo-same d m n same h = record {
   made = λ x c. h.made x (subst (λ (l : Made). Contains l x) same.made c);
   once = subst AreMadeOnce (sym same.made) h.once;
-  fitting = subst (IsSoundCache (d ∷ d ∷ [])) (sym same.fitting) h.fitting;
+  fitting = subst (IsSoundCache (d ∷ d ∷ [])) (sym same.pairs.fitting) h.fitting;
+  unfitting = subst (AreUnfitting d) (sym same.pairs.unfitting) h.unfitting;
 }
 
 -- nothing is made twice where what is made is new
@@ -89,14 +101,15 @@ once_more (y ∷ ys) x h new = (
   once_more ys x h.1 (λ p m. new p (Contains-later (x.0, p) y ys m)),
 )
 
-IsTrueMemo-put : (d : Collection) (m n : Memo) (a : Asked) (r : EntryId) → IsTrueMemo d m → IsNew (made_of m) a → IsTrueMade d (a, r) → made_of n ≡ made_of m ++ (a, r) ∷ [] → n.fitting.keys ≡ m.fitting.keys → IsTrueMemo d n
+IsTrueMemo-put : (d : Collection) (m n : Memo) (a : Asked) (r : EntryId) → IsTrueMemo d m → IsNew (made_of m) a → IsTrueMade d (a, r) → made_of n ≡ made_of m ++ (a, r) ∷ [] → HasSamePairs m n → IsTrueMemo d n
 IsTrueMemo-put d m n a r h new here put same = record {
   made = λ x c. elim (Contains-append_cases (made_of m) ((a, r) ∷ []) x (subst (λ (l : Made). Contains l x) put c)) [
     | inl old ↦ h.made x old
     | inr last ↦ elim (Contains-cases x (a, r) [] last) [ inl is ↦ subst (IsTrueMade d) is here | inr none ↦ absurd (omega (arith, none.1)) ]
   ];
   once = subst AreMadeOnce (sym put) (once_more (made_of m) (a, r) h.once new);
-  fitting = subst (IsSoundCache (d ∷ d ∷ [])) (sym same) h.fitting;
+  fitting = subst (IsSoundCache (d ∷ d ∷ [])) (sym same.fitting) h.fitting;
+  unfitting = subst (AreUnfitting d) (sym same.unfitting) h.unfitting;
 }
 
 -- ---- growth

@@ -2,7 +2,7 @@
 
 ghost use Rattle.std.specs.Prelude.{◌≡◌, ◌++◌, ◌∷◌, [], IsOk, OnOk};
 ghost use Rattle.wac_component.specs.declared.items.ItemKind.{ItemKind};
-ghost use Rattle.wac_merge.specs.Memo.{made_of, HasRoom, IsNew, IsMadeFor, IsSame};
+ghost use Rattle.wac_merge.specs.Memo.{made_of, HasRoom, HasSamePairs, IsNew, IsMadeFor, IsSame};
 
 use indexmap::IndexMap;
 use std::alloc::{AllocError, Global};
@@ -39,10 +39,12 @@ pub(crate) enum EntryId {
     Module(ModuleTypeId),
 }
 
-/// The entries that were made, each with what it was made for, and the pairs of items that fit.
+/// The entries that were made, each with what it was made for, and the pairs of items that fit and
+/// that don't.
 pub(crate) struct Memo {
     made: IndexMap<Asked, EntryId>,
     pub(crate) fitting: HashSet<(ItemKind, ItemKind)>,
+    pub(crate) unfitting: HashSet<(ItemKind, ItemKind)>,
 }
 
 // By hand, as of `Types`.
@@ -51,6 +53,7 @@ impl Drop for Memo {
         let Memo {
             made: _,
             fitting: _,
+            unfitting: _,
         } = self;
     }
 }
@@ -60,10 +63,12 @@ impl Memo {
     pub(crate) fn new(alloc: Global) -> Self
         ensures made { made_of result ≡ [] }
         ensures fitting { result.fitting.keys ≡ [] }
+        ensures unfitting { result.unfitting.keys ≡ [] }
     {
         Memo {
             made: IndexMap::new(alloc),
             fitting: HashSet::new(alloc),
+            unfitting: HashSet::new(alloc),
         }
     }
 
@@ -88,7 +93,7 @@ impl Memo {
         requires new { IsNew (made_of self.old) (record { bound = bound; pair = pair }) }
         ensures ok { IsOk result }
         ensures made { made_of self.new ≡ made_of self.old ++ (record { bound = bound; pair = pair }, made) ∷ [] }
-        ensures fitting { self.new.fitting.keys ≡ self.old.fitting.keys }
+        ensures pairs { HasSamePairs self.old self.new }
     {
         self.made.insert(Asked { bound, pair }, made)?;
         Ok(())
