@@ -41,7 +41,7 @@ pub length-ids : (n k : ℕ) → length (ids n k) ≡ k
 length-ids n zero = refl
 length-ids n (suc k) = ap suc (length-ids n k)
 
-last_or_before : (i k : ℕ) → i < suc k → (i ≡ k) ⊎ (i < k)
+pub last_or_before : (i k : ℕ) → i < suc k → (i ≡ k) ⊎ (i < k)
 last_or_before zero zero h = inl refl
 last_or_before zero (suc k) h = inr (omega arith)
 last_or_before (suc i) zero h = absurd (omega arith)

@@ -8,8 +8,10 @@ use Rattle.std.proofs.lemmas.Option.{slice_get_within}
 use Rattle.std.proofs.lemmas.Result.{MatchResult-weaker}
 use Rattle.std.proofs.lemmas.Slice.Eq.{bytes_eq-Decides}
 use Rattle.wac_model.specs.Text.{Text}
-use Rattle.wac_model.specs.ItemTree.{ItemTree, Items, Kind, composite, interface, world, no_items, named, item_at}
+use Rattle.wac_model.specs.CoreTree.{Serves}
+use Rattle.wac_model.specs.ItemTree.{ItemTree, Items, Kind, item, composite, interface, world, no_items, named, item_at}
 use Rattle.wac_model.specs.Order.{Fits, FitsAt, composites, not_asked, there}
+use Rattle.wac_model.proofs.ItemOrder.{composite_fits}
 use Rattle.wac_component.specs.Id.{Id}
 use Rattle.wac_component.specs.Collection.{Collection}
 use Rattle.wac_component.specs.Content.{named as entries_named}
@@ -27,12 +29,13 @@ use Rattle.wac_mismatch.specs.declared.error.SubtypeError.{SubtypeError}
 use Rattle.wac_mismatch.specs.declared.frame.Frame.{Frame}
 use Rattle.wac_checker.specs.Externs.{ExplainsExports, ExplainsImports}
 use Rattle.wac_checker.specs.Parts.{listed, IsServedAt, IsExportFrame, IsImportFrame}
-use Rattle.wac_checker.specs.Pairs.{AreItemsCompared, AreNamed, AreOfItems, AreSwapped, IsPlace, IsExternPart, IsImportPart, IsEntriesPart, ExplainsEntries, IsBelow, HasPart, PartFits, PartsFit, import_count}
+use Rattle.wac_checker.specs.Pairs.{AreItemsCompared, AreNamed, AreOfItems, AreSwapped, IsPlace, IsExternPart, IsImportPart, IsEntriesPart, EntriesFit, ExplainsEntries, IsBelow, HasPart, PartFits, PartsFit, import_count}
 use Rattle.wac_checker.specs.declared.pairs.Entries.{Entries}
 use Rattle.wac_checker.specs.declared.pairs.Entries.TheVariants.{Interfaces, Worlds}
 use Rattle.wac_checker.specs.declared.pairs.Part.{Part}
 use Rattle.wac_checker.specs.declared.pairs.Part.TheVariants.{End, Same, Below, Differs}
 use Rattle.wac_checker.proofs.PartLemmas.{pair_of}
+use Rattle.wac_checker.proofs.PairLemmas.{explains_needed}
 use Rattle.wac_checker.proofs.ExternLemmas.{tree_named, leads_to_export, leads_to_import, extern_lower, named_lower}
 
 abbrev Externs : Type 0
@@ -91,6 +94,10 @@ module _ (c d : Collection) (es ts : Externs) (i : ℕ) (n : Text) (x y : ItemKi
       let tree : t ≡ item_tree d y = ap (λ (q : Text × ItemTree). q.1) one in
       rw (name, tree, tree_named c es n x are.0) (there fits)
 
+  -- where each name that is asked for is served, these items fit
+  needed_here : ((m : Text) → Serves Fits (item_at (items_of (item_tree c) es) m) (item_at (items_of (item_tree d) ts) m)) → Fits (item_tree c x) (item_tree d y)
+  needed_here served = rw (tree_named c es n x are.0, tree_named d ts n y are.2) at (served n)
+
   exported : (f : Frame) → IsExportFrame (items_of (item_tree d) ts) i f → IsExport n f
   exported f is =
       let one = pair_of (is.0, is.1) (n, item_tree d y) (sym is.2 ∙ listed_at (item_tree d) ts i n y are.1) in
@@ -115,6 +122,10 @@ module _ (check : SubtypeCheck) (c d : Collection) (a b : Id) (es ts : Externs) 
   interface_place : IsPlace ts i → HasPart c d (Interfaces a b) i
   interface_place h = (rw right (omega (arith, listed_count (item_tree d) ts, h.0)), omega (arith, h.1))
 
+  -- the two fit only if the exports of this name do
+  interface_needed : (n : Text) (x y : ItemKind) → AreNamed es ts i n x y → EntriesFit c d (Interfaces a b) → Fits (item_tree c x) (item_tree d y)
+  interface_needed n x y are fit = needed_here c d es ts i n x y are (rw (left, right) at (composite_fits (fit item)).exports)
+
   interface_below : (n : Text) (x y : ItemKind) (e : Entries) → AreNamed es ts i n x y → AreOfItems c d x y e → IsBelow c d (Interfaces a b) i (record { entries = e; swapped = false })
   interface_below n x y e are of = record {
     stand = of.stand;
@@ -128,6 +139,7 @@ module _ (check : SubtypeCheck) (c d : Collection) (a b : Id) (es ts : Externs) 
       leads_to_export ch k interface no_items no_items (externs c (interface_key a)).exports (externs d (interface_key b)).exports n (item_tree c x) (item_tree d y) (rw left (tree_named c es n x are.0)) (rw right (tree_named d ts n y are.2)) f (exported c d es ts i n x y are f (rw right at is)),
       of.leads ch gs g path,
     );
+    needed = λ fit. of.needed (interface_needed n x y are fit);
   }
 
   interface_found : (p : Part) → IsExternPart check c d es ts i p → IsEntriesPart check c d (Interfaces a b) i p
@@ -140,6 +152,7 @@ module _ (check : SubtypeCheck) (c d : Collection) (a b : Id) (es ts : Externs) 
         let x = h.1 in
         explains_under (λ g. g ≡ f) e s check (item_side (composite k interface no_items (externs c (interface_key a)).exports)) (item_side (composite k interface no_items (externs d (interface_key b)).exports)) (item_side (item_tree c x.1)) (item_side (item_tree d x.2)) under
         (λ g same. rw same (leads_to_export check k interface no_items no_items (externs c (interface_key a)).exports (externs d (interface_key b)).exports x.0 (item_tree c x.1) (item_tree d x.2) (rw left (tree_named c es x.0 x.1 x.3.0)) (rw right (tree_named d ts x.0 x.2 x.3.2)) f (exported c d es ts i x.0 x.1 x.2 x.3 f (rw right at is)))) x.4,
+    let x = h.1 in explains_needed (EntriesFit c d (Interfaces a b)) e check (item_side (item_tree c x.1)) (item_side (item_tree d x.2)) x.4 (interface_needed x.0 x.1 x.2 x.3),
   )
 
   pub interface_answer : (r : Result Part SubtypeError) → MatchResult r (IsExternPart check c d es ts i) (ExplainsExports check (codes "instance") (items_of (item_tree c) es) (items_of (item_tree d) ts)) → MatchResult r (IsEntriesPart check c d (Interfaces a b) i) (ExplainsEntries check c d (Interfaces a b))
@@ -169,6 +182,10 @@ module _ (check : SubtypeCheck) (c d : Collection) (a b : Id) (is js es ts : Ext
         let at : i < import_count c a = (let n = counted in omega arith) in
         leads_to_import ch k (externs c (world_key a)).imports (externs d (world_key b)).imports (externs c (world_key a)).exports (externs d (world_key b)).exports n (item_tree c x) (item_tree d y) (rw left_imports (tree_named c is n x are.2)) (rw right_imports (tree_named d js n y are.0)) f (imported d c js is i n y x are f (rw left_imports at (frame at)))
 
+    -- the two fit only if the imports of this name do
+    import_needed : (n : Text) (x y : ItemKind) → AreNamed js is i n y x → EntriesFit c d (Worlds a b) → Fits (item_tree d y) (item_tree c x)
+    import_needed n x y are fit = needed_here d c js is i n y x are (rw (left_imports, right_imports) at (composite_fits (fit item)).imports)
+
     import_below : (n : Text) (x y : ItemKind) (e : Entries) → AreNamed js is i n y x → AreOfItems d c y x e → IsBelow c d (Worlds a b) i (record { entries = e; swapped = true })
     import_below n x y e are of = record {
       stand = of.stand;
@@ -178,6 +195,7 @@ module _ (check : SubtypeCheck) (c d : Collection) (a b : Id) (is js es ts : Ext
           omega (arith, of.left_lower, of.right_lower, l, r);
       enough = λ fits. import_here n x y are (of.enough fits);
       leads = λ ch f frame gs g path k. (place (turned ch) (item_side (item_tree d y)) (item_side (item_tree c x)), import_leads n x y are ch f frame.0 k, of.leads (turned ch) gs g path);
+      needed = λ fit. of.needed (import_needed n x y are fit);
     }
 
     import_found : (p q : Part) → AreSwapped p q → IsExternPart (turned check) d c js is i p → IsEntriesPart check c d (Worlds a b) i q
@@ -194,6 +212,7 @@ module _ (check : SubtypeCheck) (c d : Collection) (a b : Id) (is js es ts : Ext
           let x = h.1 in
           explains_below (λ g. g ≡ f) e r check (turned check) (item_side (composite k world (externs c (world_key a)).imports (externs c (world_key a)).exports)) (item_side (composite k world (externs d (world_key b)).imports (externs d (world_key b)).exports)) (item_side (item_tree d x.1)) (item_side (item_tree c x.2)) under
           (λ g same. rw same (import_leads x.0 x.2 x.1 x.3 check f frame.0 k)) x.4,
+      let x = h.1 in explains_needed (EntriesFit c d (Worlds a b)) e (turned check) (item_side (item_tree d x.1)) (item_side (item_tree c x.2)) x.4 (import_needed x.0 x.2 x.1 x.3),
     )
 
     pub import_answer : (r : Result Part SubtypeError) → MatchResult r (IsImportPart check c d is js i) (ExplainsImports check (items_of (item_tree c) is) (items_of (item_tree d) js)) → MatchResult r (IsEntriesPart check c d (Worlds a b) i) (ExplainsEntries check c d (Worlds a b))
@@ -217,6 +236,10 @@ module _ (check : SubtypeCheck) (c d : Collection) (a b : Id) (is js es ts : Ext
     export_leads n x y are ch f frame k =
         leads_to_export ch k world (externs c (world_key a)).imports (externs d (world_key b)).imports (externs c (world_key a)).exports (externs d (world_key b)).exports n (item_tree c x) (item_tree d y) (rw left_exports (tree_named c es n x are.0)) (rw right_exports (tree_named d ts n y are.2)) f (exported c d es ts (i - length is) n x y are f (rw (right_exports, from_start) at (frame after)))
 
+    -- and only if the exports do
+    export_needed : (n : Text) (x y : ItemKind) → AreNamed es ts (i - length is) n x y → EntriesFit c d (Worlds a b) → Fits (item_tree c x) (item_tree d y)
+    export_needed n x y are fit = needed_here c d es ts (i - length is) n x y are (rw (left_exports, right_exports) at (composite_fits (fit item)).exports)
+
     export_below : (n : Text) (x y : ItemKind) (e : Entries) → AreNamed es ts (i - length is) n x y → AreOfItems c d x y e → IsBelow c d (Worlds a b) i (record { entries = e; swapped = false })
     export_below n x y e are of = record {
       stand = of.stand;
@@ -226,6 +249,7 @@ module _ (check : SubtypeCheck) (c d : Collection) (a b : Id) (is js es ts : Ext
           omega (arith, of.left_lower, of.right_lower, l, r);
       enough = λ fits. export_here n x y are (of.enough fits);
       leads = λ ch f frame gs g path k. (place ch (item_side (item_tree c x)) (item_side (item_tree d y)), export_leads n x y are ch f frame.1 k, of.leads ch gs g path);
+      needed = λ fit. of.needed (export_needed n x y are fit);
     }
 
     -- the imports come before the exports
@@ -249,6 +273,7 @@ module _ (check : SubtypeCheck) (c d : Collection) (a b : Id) (is js es ts : Ext
           let x = h.1 in
           explains_under (λ g. g ≡ f) e s check (item_side (composite k world (externs c (world_key a)).imports (externs c (world_key a)).exports)) (item_side (composite k world (externs d (world_key b)).imports (externs d (world_key b)).exports)) (item_side (item_tree c x.1)) (item_side (item_tree d x.2)) under
           (λ g same. rw same (export_leads x.0 x.1 x.2 x.3 check f frame.1 k)) x.4,
+      let x = h.1 in explains_needed (EntriesFit c d (Worlds a b)) e check (item_side (item_tree c x.1)) (item_side (item_tree d x.2)) x.4 (export_needed x.0 x.1 x.2 x.3),
     )
 
     pub export_answer : (r : Result Part SubtypeError) → MatchResult r (IsExternPart check c d es ts (i - length is)) (ExplainsExports check (codes "component") (items_of (item_tree c) es) (items_of (item_tree d) ts)) → MatchResult r (IsEntriesPart check c d (Worlds a b) i) (ExplainsEntries check c d (Worlds a b))

@@ -95,13 +95,13 @@ place_of : (ps : List EntryPair) (p : EntryPair) → Contains ps p → (i : ℕ)
 place_of [] p m = absurd (omega (arith, m.1))
 place_of (q ∷ ps) p m = elim (Contains-cases p q ps m) [ inl e ↦ (0, omega arith, ap Some e) | inr later ↦ (let rest = place_of ps p later in (suc rest.0, omega (arith, rest.1), rest.2)) ]
 
-some_one : (q p : EntryPair) → Some q ≡ Some p → q ≡ p
-some_one q p e = cc
+some_one : {A : Type 0} (x y : A) → Some x ≡ Some y → x ≡ y
+some_one x y e = cc
 
-pub pair_at : (ps : List EntryPair) (i : ℕ) (p : EntryPair) → slice_get ps i ≡ Some p → Contains ps p
-pair_at [] i p e = absurd (cc)
-pair_at (q ∷ ps) zero p e = subst (λ (r : EntryPair). Contains (q ∷ ps) r) (some_one q p e) (Contains-first q ps)
-pair_at (q ∷ ps) (suc i) p e = Contains-later p q ps (pair_at ps i p e)
+pub element_at : {A : Type 0} (xs : List A) (i : ℕ) (x : A) → slice_get xs i ≡ Some x → Contains xs x
+element_at [] i x e = absurd (cc)
+element_at {A} (y ∷ xs) zero x e = subst (λ (z : A). Contains (y ∷ xs) z) (some_one y x e) (Contains-first y xs)
+element_at (y ∷ xs) (suc i) x e = Contains-later x y xs (element_at xs i x e)
 
 earlier_or_last : (i n : ℕ) → i < n + 1 → (i < n) ⊎ (i ≡ n)
 earlier_or_last zero zero l = inr refl

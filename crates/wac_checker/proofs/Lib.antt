@@ -21,3 +21,5 @@ pub mod ExternPartLemmas
 pub mod KnownLemmas
 pub mod OneLemmas
 pub mod FittingLemmas
+pub mod ComparedLemmas
+pub mod ComparedGrowth

@@ -1,27 +1,32 @@
 -- Pairs: when two are one, and what is found of their parts.
 use Rattle.std.specs.List.{list_any, Contains}
 use Rattle.std.proofs.lemmas.Map.Views.{Contains-from_any}
-use Rattle.std.proofs.Common.{◌≡◌, ◌||◌, ◌++◌, if◌then◌else◌, ℕ, zero, suc, List, [], ◌∷◌, Bool, true, false, Some, refl, ap, sym, subst, ◌∙◌, arith, rules}
+use Rattle.std.proofs.Common.{◌≡◌, ◌||◌, ◌++◌, if◌then◌else◌, ℕ, zero, suc, List, [], ◌∷◌, Bool, true, false, Option, Some, slice_get, refl, ap, sym, subst, ◌∙◌, arith, rules}
 use Rattle.std.specs.Prelude.{Result, MatchResult, IfOk, Ok, Err}
 use Rattle.std.specs.declared.alloc.AllocError.{AllocError}
 use Rattle.wac_mismatch.specs.declared.frame.Frame.{Frame}
-use Rattle.wac_mismatch.specs.declared.error.SubtypeError.TheVariants.{Memory}
+use Rattle.wac_mismatch.specs.declared.error.SubtypeError.TheVariants.{Mismatch, Memory}
+use Rattle.wac_model.specs.Text.{Text}
 use Rattle.wac_model.specs.ValueTree.{ValueTree}
 use Rattle.wac_model.specs.ItemTree.{Kind, Leaf, item, leaf, func}
+use Rattle.wac_model.proofs.ItemOrder.{leaf_fits}
 use Rattle.wac_component.specs.Id.{Id}
 use Rattle.wac_component.specs.Collection.{Collection}
 use Rattle.wac_component.specs.Height.{height}
 use Rattle.wac_component.specs.Key.{defined_key, func_key}
 use Rattle.wac_component.specs.Tree.{value_tree, func_tree}
 use Rattle.wac_component.specs.declared.items.ValueType.TheVariants.{Defined}
-use Rattle.wac_mismatch.specs.Place.{item_side, value_side, place, turned}
+use Rattle.wac_mismatch.specs.Place.{Side, SideFits, item_side, value_side, place, turned}
+use Rattle.wac_mismatch.specs.Path.{Explains, Refutes}
 use Rattle.wac_mismatch.specs.Steps.{IsUnder}
-use Rattle.wac_mismatch.proofs.PathLemmas.{explains_under}
+use Rattle.wac_mismatch.proofs.PathLemmas.{explains_under, explains_refutes}
 use Rattle.wac_mismatch.specs.declared.check.SubtypeCheck.{SubtypeCheck}
 use Rattle.wac_mismatch.specs.declared.check.SubtypeCheck.TheVariants.{Covariant, Contravariant}
 use Rattle.wac_mismatch.specs.declared.error.SubtypeError.{SubtypeError}
 use Rattle.wac_checker.proofs.ItemLemmas.{equal_leaves}
-use Rattle.wac_checker.specs.Pairs.{HaveAt, IsValuePart, IsBelow, IsBelowPair, IsEntriesPart, ExplainsEntries, HasPart, left_of, right_of, placed}
+use Rattle.wac_checker.proofs.PartLemmas.{pair_of}
+use Rattle.wac_checker.specs.Parts.{side_parts, AreAt}
+use Rattle.wac_checker.specs.Pairs.{HaveAt, IsValuePart, IsBelow, IsBelowPair, IsEntriesPart, EntriesFit, ExplainsEntries, HasPart, left_of, right_of, placed}
 use Rattle.wac_checker.specs.Steps.{IsFound}
 use Rattle.wac_checker.specs.declared.pairs.Found.TheVariants.{Known, New}
 use Rattle.wac_checker.specs.declared.pairs.Entries.{Entries}
@@ -58,14 +63,30 @@ leaf_one k x y h = cc
 pub trees_one : (x y : ValueTree) → value_side x ≡ value_side y → x ≡ y
 trees_one x y h = cc
 
+-- the parts at a place of one side are one
+parts_one : (s t : Side) (i : ℕ) (x y : ValueTree) → AreAt s t i x y → s ≡ t → x ≡ y
+parts_one s t i x y at same =
+    let both = pair_of (at.0, Some x) (at.0, Some y) (sym at.1 ∙ ap (λ (u : Side). slice_get (side_parts u) i) same ∙ at.2) in
+    let trees : Some x ≡ Some y = ap (λ (p : Text × Option ValueTree). p.1) both in cc
+
+-- a refusal that explains itself refutes what would make the sides fit
+pub explains_needed : (P : Type 0) (e : SubtypeError) (check : SubtypeCheck) (a b : Side) → Explains e check a b → (P → SideFits a b) → Refutes e P
+explains_needed P (Mismatch frames f) check a b h fits = λ p. explains_refutes (Mismatch frames f) check a b h (fits p)
+explains_needed P Memory check a b h fits = tt
+
 -- what is found of the parts of two defined types is what is found of the two entries
 module _ (check : SubtypeCheck) (c d : Collection) (a b : Id) (i : ℕ) where
+  -- the two are one only if their parts at a place are
+  parts_needed : (x y : ValueTree) → AreAt (value_side (value_tree c (Defined a))) (value_side (value_tree d (Defined b))) i x y → EntriesFit c d (DefinedTypes a b) → x ≡ y
+  parts_needed x y at fit = parts_one (value_side (value_tree c (Defined a))) (value_side (value_tree d (Defined b))) i x y at (ap value_side (fit item))
+
   below_of : (e : Entries) → HaveAt c d (value_side (value_tree c (Defined a))) (value_side (value_tree d (Defined b))) (height c (defined_key a)) (height d (defined_key b)) i e → IsBelow c d (DefinedTypes a b) i (record { entries = e; swapped = false })
   below_of (DefinedTypes x y) h = record {
     stand = h.1;
     lower = omega (arith, h.2, h.3);
     enough = λ fits. h.0.1 ∙ ap (λ (u : ValueTree). Some (h.0.0, Some u)) (fits item) ∙ sym h.0.2;
     leads = λ check f is gs g path k. (place check (value_side (value_tree c (Defined x))) (value_side (value_tree d (Defined y))), h.0.3 check f is, path k);
+    needed = λ fit k. parts_needed (value_tree c (Defined x)) (value_tree d (Defined y)) h.0 fit;
   }
   below_of (Funcs x y) h = elim h [ ]
   below_of (Interfaces x y) h = elim h [ ]
@@ -76,16 +97,24 @@ module _ (check : SubtypeCheck) (c d : Collection) (a b : Id) (i : ℕ) where
   entries_of_defined End h = λ fit k. trees_one (value_tree c (Defined a)) (value_tree d (Defined b)) (h fit)
   entries_of_defined Same h = h
   entries_of_defined (Below q) h = (h.0, subst (λ (s : Bool). IsBelow c d (DefinedTypes a b) i (record { entries = q.entries; swapped = s })) (sym h.1) (below_of q.entries h.2))
-  entries_of_defined (Differs e) h = (h.0, λ f is s under k. explains_under (λ g. g ≡ f) e s check (value_side (value_tree c (Defined a))) (value_side (value_tree d (Defined b))) (value_side h.1) (value_side h.2) under (λ g same. rw same (h.3.3 check f is)) h.4)
+  entries_of_defined (Differs e) h = (
+    h.0,
+    λ f is s under k. explains_under (λ g. g ≡ f) e s check (value_side (value_tree c (Defined a))) (value_side (value_tree d (Defined b))) (value_side h.1) (value_side h.2) under (λ g same. rw same (h.3.3 check f is)) h.4,
+    explains_needed (EntriesFit c d (DefinedTypes a b)) e check (value_side h.1) (value_side h.2) h.4 (parts_needed h.1 h.2 h.3),
+  )
 
 -- and so of two functions
 module _ (check : SubtypeCheck) (c d : Collection) (a b : Id) (i : ℕ) where
+  func_parts_needed : (x y : ValueTree) → AreAt (item_side (leaf item (func (func_tree c a)))) (item_side (leaf item (func (func_tree d b)))) i x y → EntriesFit c d (Funcs a b) → x ≡ y
+  func_parts_needed x y at fit = parts_one (item_side (leaf item (func (func_tree c a)))) (item_side (leaf item (func (func_tree d b)))) i x y at (ap (λ (l : Leaf). item_side (leaf item l)) (leaf_fits (fit item)))
+
   below_of_func : (e : Entries) → ((k : Kind) → HaveAt c d (item_side (leaf k (func (func_tree c a)))) (item_side (leaf k (func (func_tree d b)))) (height c (func_key a)) (height d (func_key b)) i e) → IsBelow c d (Funcs a b) i (record { entries = e; swapped = false })
   below_of_func (DefinedTypes x y) h = record {
     stand = (h item).1;
     lower = let left = (h item).2 in let right = (h item).3 in omega (arith, left, right);
     enough = λ fits. (h item).0.1 ∙ ap (λ (u : ValueTree). Some ((h item).0.0, Some u)) (fits item) ∙ sym (h item).0.2;
     leads = λ check f is gs g path k. (place check (value_side (value_tree c (Defined x))) (value_side (value_tree d (Defined y))), (h k).0.3 check f is, path k);
+    needed = λ fit k. func_parts_needed (value_tree c (Defined x)) (value_tree d (Defined y)) (h item).0 fit;
   }
   below_of_func (Funcs x y) h = elim (h item) [ ]
   below_of_func (Interfaces x y) h = elim (h item) [ ]
@@ -96,17 +125,21 @@ module _ (check : SubtypeCheck) (c d : Collection) (a b : Id) (i : ℕ) where
   entries_of_func End h = λ fit k. equal_leaves k (func (func_tree c a)) (func (func_tree d b)) (leaf_one k (func (func_tree c a)) (func (func_tree d b)) (h k fit))
   entries_of_func Same h = h item
   entries_of_func (Below q) h = ((h item).0, subst (λ (s : Bool). IsBelow c d (Funcs a b) i (record { entries = q.entries; swapped = s })) (sym (h item).1) (below_of_func q.entries (λ k. (h k).2)))
-  entries_of_func (Differs e) h = ((h item).0, λ f is s under k. let x = h k in explains_under (λ g. g ≡ f) e s check (item_side (leaf k (func (func_tree c a)))) (item_side (leaf k (func (func_tree d b)))) (value_side x.1) (value_side x.2) under (λ g same. rw same (x.3.3 check f is)) x.4)
+  entries_of_func (Differs e) h = (
+    (h item).0,
+    λ f is s under k. let x = h k in explains_under (λ g. g ≡ f) e s check (item_side (leaf k (func (func_tree c a)))) (item_side (leaf k (func (func_tree d b)))) (value_side x.1) (value_side x.2) under (λ g same. rw same (x.3.3 check f is)) x.4,
+    let x = h item in explains_needed (EntriesFit c d (Funcs a b)) e check (value_side x.1) (value_side x.2) x.4 (func_parts_needed x.1 x.2 x.3),
+  )
 
 -- a pair below two entries, told from the collections of the pair that has them
 pub below_pair : (c d : Collection) (p : EntryPair) (i : ℕ) (q : EntryPair) → IsBelow (left_of c d p.swapped) (right_of c d p.swapped) p.entries i q → IsBelowPair c d p i (placed p.swapped q)
 below_pair c d p i q h = by_cases p.entries q.entries p.swapped q.swapped h
   where
     by_cases : (e f : Entries) (s t : Bool) → IsBelow (left_of c d s) (right_of c d s) e i (record { entries = f; swapped = t }) → IsBelowPair c d (record { entries = e; swapped = s }) i (placed s (record { entries = f; swapped = t }))
-    by_cases e f false false h = record { stand = h.stand; lower = h.lower; enough = h.enough; leads = h.leads }
-    by_cases e f false true h = record { stand = h.stand; lower = h.lower; enough = h.enough; leads = h.leads }
-    by_cases e f true false h = record { stand = h.stand; lower = h.lower; enough = h.enough; leads = λ check. h.leads (turned check) }
-    by_cases e f true true h = record { stand = h.stand; lower = h.lower; enough = h.enough; leads = λ check f is gs g path. h.leads (turned check) f is gs g (rw (turned_twice check) path) }
+    by_cases e f false false h = record { stand = h.stand; lower = h.lower; enough = h.enough; leads = h.leads; needed = h.needed }
+    by_cases e f false true h = record { stand = h.stand; lower = h.lower; enough = h.enough; leads = h.leads; needed = h.needed }
+    by_cases e f true false h = record { stand = h.stand; lower = h.lower; enough = h.enough; leads = λ check. h.leads (turned check); needed = h.needed }
+    by_cases e f true true h = record { stand = h.stand; lower = h.lower; enough = h.enough; leads = λ check f is gs g path. h.leads (turned check) f is gs g (rw (turned_twice check) path); needed = h.needed }
 
 -- what is found of the parts of a pair
 module _ (c d : Collection) (ps : List EntryPair) (p : EntryPair) (i : ℕ) (q : EntryPair) (h : HasPart (left_of c d p.swapped) (right_of c d p.swapped) p.entries i × IsBelow (left_of c d p.swapped) (right_of c d p.swapped) p.entries i q) where

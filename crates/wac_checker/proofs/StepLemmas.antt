@@ -47,7 +47,7 @@ pairs_push c d ps q h none stand = (distinct_push ps q h.0 none, λ p m. elim (C
 
 -- ---- steps
 
-lead_push : (c d : Collection) (ss : List Step) (r p : EntryPair) (s : Step) (q : EntryPair) → LeadTo c d r ss p → s.pair ≡ p → IsUnderStep c d s q → LeadTo c d r (ss ++ s ∷ []) q
+pub lead_push : (c d : Collection) (ss : List Step) (r p : EntryPair) (s : Step) (q : EntryPair) → LeadTo c d r ss p → s.pair ≡ p → IsUnderStep c d s q → LeadTo c d r (ss ++ s ∷ []) q
 lead_push c d [] r p s q l e under = (e ∙ sym l, q, under, refl)
 lead_push c d (t ∷ ss) r p s q l e under = (l.0, l.1, l.2, lead_push c d ss l.1 p s q l.3 e under)
 

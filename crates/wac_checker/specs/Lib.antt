@@ -9,3 +9,4 @@ pub mod Verdict
 pub mod Externs
 pub mod Cache
 pub mod Checker
+pub mod Compared

@@ -14,7 +14,7 @@ use Rattle.wac_component.specs.Tree.{item_tree, value_tree, func_tree, module_tr
 use Rattle.wac_component.specs.declared.items.ValueType.{ValueType}
 use Rattle.wac_component.specs.declared.items.ValueType.TheVariants.{Defined}
 use Rattle.wac_mismatch.specs.Place.{Side, value_side, item_side, place, turned, SideFits}
-use Rattle.wac_mismatch.specs.Path.{Path, Explains}
+use Rattle.wac_mismatch.specs.Path.{Path, Explains, Refutes}
 use Rattle.wac_mismatch.specs.Steps.{IsUnder}
 use Rattle.wac_mismatch.specs.declared.check.SubtypeCheck.{SubtypeCheck}
 use Rattle.wac_mismatch.specs.declared.error.SubtypeError.{SubtypeError}
@@ -113,13 +113,14 @@ AreOptionsCompared check c d None None p = p ≡ Same
 AreOptionsCompared check c d (Some v) (Some w) p = AreValuesCompared check c d v w p
 AreOptionsCompared check c d v w p = ⊥
 
--- two items are those of two entries, which are no higher: they fit where the entries do, and a path from these is one from them
+-- two items are those of two entries, which are no higher: they fit where the entries do and only there, and a path from these is one from them
 pub record AreOfItems (c d : Collection) (x y : ItemKind) (e : Entries) : Type 0 where
   pub stand : EntriesStand c d e
   pub left_lower : height c (left_key e) ≤ keys_height c (item_keys x)
   pub right_lower : height d (right_key e) ≤ keys_height d (item_keys y)
   pub enough : EntriesFit c d e → Fits (item_tree c x) (item_tree d y)
   pub leads : (check : SubtypeCheck) (gs : List Frame) (g : Fault) → EntriesPath check c d e gs g → Path gs g (place check (item_side (item_tree c x)) (item_side (item_tree d y)))
+  pub needed : Fits (item_tree c x) (item_tree d y) → EntriesFit c d e
 
 -- two items fit, or so far as two entries do, or they don't and that is explained
 abbrev pub AreItemsCompared : SubtypeCheck → Collection → Collection → ItemKind → ItemKind → Part → Type 0
@@ -240,12 +241,13 @@ ExplainsPair check c d p r = ExplainsEntries (check_of check p.swapped) (left_of
 abbrev pub PairPath : SubtypeCheck → Collection → Collection → EntryPair → List Frame → Fault → Type 0
 PairPath check c d p frames f = EntriesPath (check_of check p.swapped) (left_of c d p.swapped) (right_of c d p.swapped) p.entries frames f
 
--- the pair stands at a place of these two entries: it is lower, its two fit only with these parts, and a frame leads to it
+-- the pair stands at a place of these two entries: it is lower, the parts there fit where it does, a frame leads to it, and the two entries fit only where it does
 pub record IsBelow (c d : Collection) (e : Entries) (i : ℕ) (q : EntryPair) : Type 0 where
   pub stand : PairStands c d q
   pub lower : pair_height c d q < entries_height c d e
   pub enough : PairFits c d q → PartFits c d e i
   pub leads : (check : SubtypeCheck) (f : Frame) → IsFrameOf c d e i f → (gs : List Frame) (g : Fault) → PairPath check c d q gs g → EntriesPath check c d e (f ∷ gs) g
+  pub needed : EntriesFit c d e → PairFits c d q
 
 -- the same of a pair
 pub record IsBelowPair (c d : Collection) (p : EntryPair) (i : ℕ) (q : EntryPair) : Type 0 where
@@ -253,13 +255,14 @@ pub record IsBelowPair (c d : Collection) (p : EntryPair) (i : ℕ) (q : EntryPa
   pub lower : pair_height c d q < pair_height c d p
   pub enough : PairFits c d q → PairPartFits c d p i
   pub leads : (check : SubtypeCheck) (f : Frame) → IsPairFrame c d p i f → (gs : List Frame) (g : Fault) → PairPath check c d q gs g → PairPath check c d p (f ∷ gs) g
+  pub needed : PairFits c d p → PairFits c d q
 
--- what a comparison of the parts at a place of two entries says
+-- what a comparison of the parts at a place of two entries says: where the parts differ, the two don't fit
 abbrev pub IsEntriesPart : SubtypeCheck → Collection → Collection → Entries → ℕ → Part → Type 0
 IsEntriesPart check c d e i End = PartsFit c d e i → EntriesFit c d e
 IsEntriesPart check c d e i Same = HasPart c d e i × PartFits c d e i
 IsEntriesPart check c d e i (Below q) = HasPart c d e i × IsBelow c d e i q
-IsEntriesPart check c d e i (Differs r) = HasPart c d e i × ((f : Frame) → IsFrameOf c d e i f → (s : SubtypeError) → IsUnder (λ g. g ≡ f) r s → ExplainsEntries check c d e s)
+IsEntriesPart check c d e i (Differs r) = HasPart c d e i × ((f : Frame) → IsFrameOf c d e i f → (s : SubtypeError) → IsUnder (λ g. g ≡ f) r s → ExplainsEntries check c d e s) × Refutes r (EntriesFit c d e)
 
 -- the pair that stands below one that is swapped or isn't, told from the two collections
 abbrev pub placed : Bool → EntryPair → EntryPair

@@ -7,6 +7,7 @@ ghost use Rattle.wac_checker.specs.Steps.{ArePairsOf};
 ghost use Rattle.wac_mismatch.specs.declared.error.SubtypeError.TheVariants.{Memory};
 
 use super::pairs::{Entries, EntryPair};
+use super::steps::is_known;
 use indexmap::IndexSet;
 use std::alloc::{AllocError, Global};
 use std::marker::Model;
@@ -116,6 +117,13 @@ impl Known {
             return few[index];
         }
         *self.many.get_index(index - few.len()).unwrap()
+    }
+
+    /// Whether a pair is there.
+    pub(crate) fn has(&self, pair: &EntryPair) -> bool
+        ensures { IsTrue result ↔ Contains (pairs_of self.now) pair.now }
+    {
+        is_among(self.few(), pair) || is_known(&self.many, pair)
     }
 
     /// Makes room for so many more pairs, where they are more than a few.

@@ -3,6 +3,7 @@
 
 pub(crate) mod cache;
 pub mod checker;
+pub mod compared;
 pub(crate) mod composites;
 pub(crate) mod fitting;
 pub(crate) mod frames;
@@ -17,3 +18,4 @@ pub(crate) mod steps;
 pub(crate) mod values;
 
 pub use checker::SubtypeChecker;
+pub use compared::Compared;

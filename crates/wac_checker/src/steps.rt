@@ -18,7 +18,7 @@ use wac_mismatch::refusals::{turned_check, under};
 use wac_mismatch::{Fault, Frame, SubtypeCheck, SubtypeError};
 
 // The parts of two entries at a place.
-fn entries_part(
+pub(crate) fn entries_part(
     check: SubtypeCheck,
     alloc: Global,
     entries: Entries,
@@ -60,14 +60,14 @@ fn entries_frame(
 }
 
 // The collections of the left entry and the right one.
-fn sides<'a>(swapped: bool, at: &'a Types, bt: &'a Types) -> (&'a Types, &'a Types)
+pub(crate) fn sides<'a>(swapped: bool, at: &'a Types, bt: &'a Types) -> (&'a Types, &'a Types)
     ensures left { result.0.now ≡ left_of at.now bt.now swapped }
     ensures right { result.1.now ≡ right_of at.now bt.now swapped }
 {
     if swapped { (bt, at) } else { (at, bt) }
 }
 
-fn placed_pair(swapped: bool, below: EntryPair) -> EntryPair
+pub(crate) fn placed_pair(swapped: bool, below: EntryPair) -> EntryPair
     ensures { result ≡ placed swapped below }
 {
     if swapped {
@@ -99,7 +99,7 @@ fn framed(error: SubtypeError, frame: Result<Frame, AllocError>) -> SubtypeError
     }
 }
 
-fn is_known(pairs: &IndexSet<EntryPair>, pair: &EntryPair) -> bool
+pub(crate) fn is_known(pairs: &IndexSet<EntryPair>, pair: &EntryPair) -> bool
     ensures { IsTrue result ↔ Contains pairs.now.keys pair.now }
 {
     pairs.contains(pair)
@@ -227,7 +227,7 @@ fn remember(
 }
 
 // Puts a step last.
-fn push_step(
+pub(crate) fn push_step(
     open: &mut Vec<Step>,
     entries: Entries,
     swapped: bool,

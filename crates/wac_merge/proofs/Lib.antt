@@ -7,7 +7,6 @@ pub mod CompositeLemmas
 pub mod MadeLemmas
 pub mod LoopLemmas
 pub mod OneLemmas
-pub mod PathLemmas
 pub mod ItemLemmas
 pub mod AskedLemmas
 pub mod MemoLemmas

@@ -1,20 +1,17 @@
 -- What is remembered stays true, and how much it is.
-use Rattle.std.proofs.Common.{◌≡◌, ◌+◌, inl, inr, refl, ap, sym, subst, ◌∙◌, zero, suc, [], ◌∷◌, ◌++◌, length, length-append, Contains, Some, arith}
+use Rattle.std.proofs.Common.{◌≡◌, ◌+◌, inl, inr, refl, ap, sym, subst, ◌∙◌, suc, [], ◌∷◌, ◌++◌, length, length-append, Contains, Some, arith}
 use Rattle.std.proofs.lemmas.List.Elements.{Contains-append_cases}
 use Rattle.wac_component.specs.Collection.{Collection}
 use Rattle.wac_component.specs.Growth.{Extends}
-use Rattle.wac_component.specs.Key.{Stands, AllStand, item_keys}
-use Rattle.wac_component.specs.declared.items.ItemKind.{ItemKind}
-use Rattle.wac_model.specs.Order.{Fits}
+use Rattle.wac_component.specs.Key.{Stands}
 use Rattle.wac_component.specs.Sound.{entry_count}
 use Rattle.wac_component.specs.Tree.{item_tree}
 use Rattle.wac_component.proofs.Among.{Contains-first, Contains-later, Contains-cases}
-use Rattle.wac_component.proofs.Keys.{Each-map}
 use Rattle.wac_component.proofs.Extended.{Extends-refl, Extends-trans}
-use Rattle.wac_checker.proofs.CacheGrowth.{sound_caches_stay}
-use Rattle.wac_checker.specs.Cache.{IsSoundCache, AreGrownFrom, AreNumberedApart}
+use Rattle.wac_checker.proofs.ComparedGrowth.{KnowsTruly-grown}
+use Rattle.wac_checker.specs.Compared.{KnowsTruly}
 use Rattle.wac_merge.specs.Items.{entry_item}
-use Rattle.wac_merge.specs.Memo.{Made, made_of, first_key, second_key, entry_key, order_of, IsNew, IsSame, IsBoundOf, IsTrueMade, AreMadeOnce, HasSamePairs, AreUnfitting, IsTrueMemo, Grows, IsMade, before, now}
+use Rattle.wac_merge.specs.Memo.{Made, made_of, first_key, second_key, entry_key, order_of, IsNew, IsSame, IsBoundOf, IsTrueMade, AreMadeOnce, IsTrueMemo, Grows, IsMade, before, now}
 use Rattle.wac_merge.specs.declared.memo.Asked.{Asked}
 use Rattle.wac_merge.specs.declared.memo.Bound.{Bound}
 use Rattle.wac_merge.specs.declared.memo.EntryId.{EntryId}
@@ -23,37 +20,20 @@ use Rattle.wac_merge.specs.declared.memo.Pair.{Pair}
 use Rattle.wac_merge.proofs.BoundLemmas.{bound_before, bound_later, bound_after}
 use Rattle.wac_merge.proofs.BuiltLemmas.{entry_item_stands}
 
-one_of_two : {A : Type 0} (y x : A) → Contains (y ∷ y ∷ []) x → y ≡ x
-one_of_two y x (zero, l, at) = at
-one_of_two y x (suc zero, l, at) = at
-one_of_two y x (suc (suc i), l, at) = absurd (omega (arith, l))
-
--- a collection alone
-one_of_four : (d x : Collection) → Contains (d ∷ d ∷ d ∷ d ∷ []) x → d ≡ x
-one_of_four d x (zero, l, at) = at
-one_of_four d x (suc zero, l, at) = at
-one_of_four d x (suc (suc zero), l, at) = at
-one_of_four d x (suc (suc (suc zero)), l, at) = at
-one_of_four d x (suc (suc (suc (suc i))), l, at) = absurd (omega (arith, l))
-
-pub alone : (d : Collection) → AreNumberedApart (d ∷ d ∷ d ∷ d ∷ [])
-alone d x y mx my same = sym (one_of_four d x mx) ∙ one_of_four d y my
-
 -- at first
-pub IsTrueMemo-none : (d : Collection) (m : Memo) → made_of m ≡ [] → m.fitting.keys ≡ [] → m.unfitting.keys ≡ [] → IsTrueMemo d m
-IsTrueMemo-none d m none fit unfit = record {
+pub IsTrueMemo-none : (d : Collection) (m : Memo) → made_of m ≡ [] → KnowsTruly d d m.compared → IsTrueMemo d m
+IsTrueMemo-none d m none known = record {
   made = λ x c. nothing x (subst (λ (l : Made). Contains l x) none c);
   once = subst AreMadeOnce (sym none) tt;
-  fitting = subst (IsSoundCache (d ∷ d ∷ [])) (sym fit) (λ p m. absurd (omega (arith, m.1)));
-  unfitting = subst (AreUnfitting d) (sym unfit) (λ p m. absurd (omega (arith, m.1)));
+  compared = known;
 }
   where
     nothing : (x : Asked × EntryId) → Contains [] x → IsTrueMade d x
     nothing x m = absurd (omega (arith, m.1))
 
 -- where only the pairs are others
-pub IsTrueMemo-pairs : (d : Collection) (m n : Memo) → made_of n ≡ made_of m → IsSoundCache (d ∷ d ∷ []) n.fitting.keys → AreUnfitting d n.unfitting.keys → IsTrueMemo d m → IsTrueMemo d n
-IsTrueMemo-pairs d m n same sound apart h = record { made = λ x c. h.made x (subst (λ (l : Made). Contains l x) same c); once = subst AreMadeOnce (sym same) h.once; fitting = sound; unfitting = apart }
+pub IsTrueMemo-compared : (d : Collection) (m n : Memo) → made_of n ≡ made_of m → KnowsTruly d d n.compared → IsTrueMemo d m → IsTrueMemo d n
+IsTrueMemo-compared d m n same known h = record { made = λ x c. h.made x (subst (λ (l : Made). Contains l x) same c); once = subst AreMadeOnce (sym same) h.once; compared = known }
 
 -- while entries are only added
 module _ (d e : Collection) (grown : Extends d e) where
@@ -66,25 +46,14 @@ module _ (d e : Collection) (grown : Extends d e) where
         (bound_after (order_of x.0.bound) d e grown (item_tree d (entry_item k (first_key x.0.pair))) (item_tree d (entry_item k (second_key x.0.pair))) (entry_item k (entry_key x.1)) (entry_item_stands d k (entry_key x.1) h.stands) (h.bound k));
   }
 
-  both_grown : AreGrownFrom (d ∷ d ∷ []) (e ∷ e ∷ [])
-  both_grown x m = (d, Contains-first d (d ∷ []), subst (Extends d) (one_of_two e x m) grown)
-
-  unfitting_stay : (p : ItemKind × ItemKind) → AllStand d (item_keys p.0) × AllStand d (item_keys p.1) × (¬ (Fits (item_tree d p.0) (item_tree d p.1))) → AllStand e (item_keys p.0) × AllStand e (item_keys p.1) × (¬ (Fits (item_tree e p.0) (item_tree e p.1)))
-  unfitting_stay p (left, right, apart) = (
-    Each-map (Stands d) (Stands e) grown.standing (item_keys p.0) left,
-    Each-map (Stands d) (Stands e) grown.standing (item_keys p.1) right,
-    λ fits. apart (subst (λ t. Fits (item_tree d p.0) t) (grown.trees p.1 right) (subst (λ t. Fits t (item_tree e p.1)) (grown.trees p.0 left) fits)),
-  )
-
   IsTrueMemo-grown : (m : Memo) → IsTrueMemo d m → IsTrueMemo e m
-  IsTrueMemo-grown m h = record { made = λ x c. IsTrueMade-grown x (h.made x c); once = h.once; fitting = sound_caches_stay (d ∷ d ∷ []) (e ∷ e ∷ []) m.fitting.keys both_grown h.fitting; unfitting = λ p c. unfitting_stay p (h.unfitting p c) }
+  IsTrueMemo-grown m h = record { made = λ x c. IsTrueMade-grown x (h.made x c); once = h.once; compared = KnowsTruly-grown d d e e grown grown m.compared h.compared }
 
 IsTrueMemo-same : (d : Collection) (m n : Memo) → IsSame m n → IsTrueMemo d m → IsTrueMemo d n
 IsTrueMemo-same d m n same h = record {
   made = λ x c. h.made x (subst (λ (l : Made). Contains l x) same.made c);
   once = subst AreMadeOnce (sym same.made) h.once;
-  fitting = subst (IsSoundCache (d ∷ d ∷ [])) (sym same.pairs.fitting) h.fitting;
-  unfitting = subst (AreUnfitting d) (sym same.pairs.unfitting) h.unfitting;
+  compared = subst (KnowsTruly d d) (sym same.compared) h.compared;
 }
 
 -- nothing is made twice where what is made is new
@@ -101,15 +70,14 @@ once_more (y ∷ ys) x h new = (
   once_more ys x h.1 (λ p m. new p (Contains-later (x.0, p) y ys m)),
 )
 
-IsTrueMemo-put : (d : Collection) (m n : Memo) (a : Asked) (r : EntryId) → IsTrueMemo d m → IsNew (made_of m) a → IsTrueMade d (a, r) → made_of n ≡ made_of m ++ (a, r) ∷ [] → HasSamePairs m n → IsTrueMemo d n
+IsTrueMemo-put : (d : Collection) (m n : Memo) (a : Asked) (r : EntryId) → IsTrueMemo d m → IsNew (made_of m) a → IsTrueMade d (a, r) → made_of n ≡ made_of m ++ (a, r) ∷ [] → n.compared ≡ m.compared → IsTrueMemo d n
 IsTrueMemo-put d m n a r h new here put same = record {
   made = λ x c. elim (Contains-append_cases (made_of m) ((a, r) ∷ []) x (subst (λ (l : Made). Contains l x) put c)) [
     | inl old ↦ h.made x old
     | inr last ↦ elim (Contains-cases x (a, r) [] last) [ inl is ↦ subst (IsTrueMade d) is here | inr none ↦ absurd (omega (arith, none.1)) ]
   ];
   once = subst AreMadeOnce (sym put) (once_more (made_of m) (a, r) h.once new);
-  fitting = subst (IsSoundCache (d ∷ d ∷ [])) (sym same.fitting) h.fitting;
-  unfitting = subst (AreUnfitting d) (sym same.unfitting) h.unfitting;
+  compared = subst (KnowsTruly d d) (sym same) h.compared;
 }
 
 -- ---- growth

@@ -4,4 +4,3 @@ pub mod Built
 pub mod Memo
 pub mod Runs
 pub mod Reads
-pub mod Paths

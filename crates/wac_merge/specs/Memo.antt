@@ -7,11 +7,10 @@ use Rattle.wac_model.specs.Order.{Fits}
 use Rattle.wac_bounds.specs.MeetIn.{IsMeetIn}
 use Rattle.wac_component.specs.Collection.{Collection}
 use Rattle.wac_component.specs.Growth.{Extends}
-use Rattle.wac_component.specs.Key.{Key, Stands, AllStand, item_keys, interface_key, world_key, module_key}
-use Rattle.wac_component.specs.declared.items.ItemKind.{ItemKind}
+use Rattle.wac_component.specs.Key.{Key, Stands, interface_key, world_key, module_key}
 use Rattle.wac_component.specs.Sound.{entry_count}
 use Rattle.wac_component.specs.Tree.{item_tree}
-use Rattle.wac_checker.specs.Cache.{IsSoundCache}
+use Rattle.wac_checker.specs.Compared.{KnowsTruly}
 use Rattle.wac_merge.specs.Items.{entry_item}
 use Rattle.wac_merge.specs.declared.memo.Bound.{Bound}
 use Rattle.wac_merge.specs.declared.memo.Bound.TheVariants.{Meet, Join}
@@ -63,15 +62,10 @@ IsMadeFor ms a (Some p) = Contains ms (a, p)
 abbrev pub HasRoom : Memo → Type 0
 HasRoom m = 0 < spare m.made
 
--- the two remember the same pairs of items
-pub record HasSamePairs (m n : Memo) : Type 0 where
-  pub fitting : n.fitting.keys ≡ m.fitting.keys
-  pub unfitting : n.unfitting.keys ≡ m.unfitting.keys
-
 -- the two remember the same
 pub record IsSame (m n : Memo) : Type 0 where
   pub made : made_of n ≡ made_of m
-  pub pairs : HasSamePairs m n
+  pub compared : n.compared ≡ m.compared
 
 -- a meet is greatest in the order of items, a join in the order turned round
 abbrev pub order_of : Bound → ItemTree → ItemTree → Type 0
@@ -94,16 +88,11 @@ abbrev pub AreMadeOnce : Made → Type 0
 AreMadeOnce [] = Unit {0}
 AreMadeOnce (x ∷ xs) = IsNew xs x.0 × AreMadeOnce xs
 
--- pairs of items that stand, of which the first doesn't fit where the second is asked for
-abbrev pub AreUnfitting : Collection → List (ItemKind × ItemKind) → Type 0
-AreUnfitting d ps = (p : ItemKind × ItemKind) → Contains ps p → AllStand d (item_keys p.0) × AllStand d (item_keys p.1) × (¬ (Fits (item_tree d p.0) (item_tree d p.1)))
-
 -- what is remembered is true of a collection
 pub record IsTrueMemo (d : Collection) (m : Memo) : Type 0 where
   pub made : (x : Asked × EntryId) → Contains (made_of m) x → IsTrueMade d x
   pub once : AreMadeOnce (made_of m)
-  pub fitting : IsSoundCache (d ∷ d ∷ []) m.fitting.keys
-  pub unfitting : AreUnfitting d m.unfitting.keys
+  pub compared : KnowsTruly d d m.compared
 
 -- entries were only added, each is remembered, and what is remembered is true
 pub record Grows (d : Collection) (m : Memo) (e : Collection) (n : Memo) : Type 0 where
@@ -114,4 +103,4 @@ pub record Grows (d : Collection) (m : Memo) (e : Collection) (n : Memo) : Type 
 -- the entry was made before for what is asked, and nothing is added; or it is made now, and noted
 pub data IsMade (d : Collection) (m : Memo) (e : Collection) (n : Memo) (a : Asked) (p : EntryId) (IsAdded : Type 0) : Type 0 where
   before : Contains (made_of m) (a, p) → e ≡ d → IsSame m n → IsMade d m e n a p IsAdded
-  now : IsNew (made_of m) a → IsAdded → made_of n ≡ made_of m ++ (a, p) ∷ [] → HasSamePairs m n → IsMade d m e n a p IsAdded
+  now : IsNew (made_of m) a → IsAdded → made_of n ≡ made_of m ++ (a, p) ∷ [] → n.compared ≡ m.compared → IsMade d m e n a p IsAdded

@@ -12,7 +12,6 @@ mod modules;
 mod names;
 mod order;
 mod pairs;
-mod unfitting;
 
 pub use bounds::{join, meet};
 pub use names::{extern_named, put_extern};

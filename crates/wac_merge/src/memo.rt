@@ -1,13 +1,14 @@
 //! What one call has made and compared.
 
 ghost use Rattle.std.specs.Prelude.{◌≡◌, ◌++◌, ◌∷◌, [], IsOk, OnOk};
-ghost use Rattle.wac_component.specs.declared.items.ItemKind.{ItemKind};
-ghost use Rattle.wac_merge.specs.Memo.{made_of, HasRoom, HasSamePairs, IsNew, IsMadeFor, IsSame};
+ghost use Rattle.wac_component.specs.Collection.{Collection};
+ghost use Rattle.wac_checker.specs.Compared.{KnowsTruly};
+ghost use Rattle.wac_merge.specs.Memo.{made_of, HasRoom, IsNew, IsMadeFor, IsSame};
 
 use indexmap::IndexMap;
 use std::alloc::{AllocError, Global};
-use std::collections::HashSet;
-use wac_component::{InterfaceId, ItemKind, ModuleTypeId, WorldId};
+use wac_checker::Compared;
+use wac_component::{InterfaceId, ModuleTypeId, WorldId};
 
 /// A meet or a join.
 #[derive(Clone, Copy, PartialEq, Eq, Hash)]
@@ -39,12 +40,10 @@ pub(crate) enum EntryId {
     Module(ModuleTypeId),
 }
 
-/// The entries that were made, each with what it was made for, and the pairs of items that fit and
-/// that don't.
+/// The entries that were made, each with what it was made for, and what is known of pairs that were compared.
 pub(crate) struct Memo {
     made: IndexMap<Asked, EntryId>,
-    pub(crate) fitting: HashSet<(ItemKind, ItemKind)>,
-    pub(crate) unfitting: HashSet<(ItemKind, ItemKind)>,
+    pub(crate) compared: Compared,
 }
 
 // By hand, as of `Types`.
@@ -52,8 +51,7 @@ impl Drop for Memo {
     fn drop(self) {
         let Memo {
             made: _,
-            fitting: _,
-            unfitting: _,
+            compared: _,
         } = self;
     }
 }
@@ -62,13 +60,11 @@ impl Memo {
     /// Nothing is made.
     pub(crate) fn new(alloc: Global) -> Self
         ensures made { made_of result ≡ [] }
-        ensures fitting { result.fitting.keys ≡ [] }
-        ensures unfitting { result.unfitting.keys ≡ [] }
+        ensures compared { (c d : Collection) → KnowsTruly c d result.compared }
     {
         Memo {
             made: IndexMap::new(alloc),
-            fitting: HashSet::new(alloc),
-            unfitting: HashSet::new(alloc),
+            compared: Compared::new(alloc),
         }
     }
 
@@ -93,7 +89,7 @@ impl Memo {
         requires new { IsNew (made_of self.old) (record { bound = bound; pair = pair }) }
         ensures ok { IsOk result }
         ensures made { made_of self.new ≡ made_of self.old ++ (record { bound = bound; pair = pair }, made) ∷ [] }
-        ensures pairs { HasSamePairs self.old self.new }
+        ensures compared { self.new.compared ≡ self.old.compared }
     {
         self.made.insert(Asked { bound, pair }, made)?;
         Ok(())

@@ -7,14 +7,11 @@ ghost use Rattle.wac_component.specs.Tree.{item_tree};
 ghost use Rattle.wac_merge.specs.Memo.{IsTrueMemo, made_of};
 
 use crate::memo::Memo;
-use crate::unfitting::{is_noted, note_path};
 use std::alloc::{AllocError, Global};
-use wac_checker::SubtypeChecker;
 use wac_component::{ItemKind, Types};
-use wac_mismatch::SubtypeError;
 
-// Whether the left item fits where the right one is asked for. A pair that fits is remembered, and so
-// are all along the path where one doesn't: what merges the two asks about those next.
+// Whether the left item fits where the right one is asked for. What is found of the pairs below them is
+// remembered: what merges the two asks about those next.
 // Its locals, as those of what adds an entry, would stand in the frame of every level of a recursion.
 #[inline(never)]
 pub(crate) fn fits(
@@ -31,16 +28,5 @@ pub(crate) fn fits(
     ensures made { made_of memo.new ≡ made_of memo.old }
     ensures memo { IsTrueMemo types.now memo.new }
 {
-    if is_noted(&memo.unfitting, &a, &b) {
-        return Ok(false);
-    }
-    let mut checker = SubtypeChecker::new(&mut memo.fitting);
-    match checker.is_subtype(alloc, a, types, b, types) {
-        Ok(()) => Ok(true),
-        Err(SubtypeError::Memory) => Err(AllocError),
-        Err(error) => {
-            note_path(&mut memo.unfitting, types, a, b, error.frames())?;
-            Ok(false)
-        }
-    }
+    memo.compared.fits(alloc, a, types, b, types)
 }

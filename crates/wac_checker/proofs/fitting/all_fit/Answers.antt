@@ -1,11 +1,11 @@
 use Rattle.std.proofs.Common.{arith}
 use Rattle.wac_checker.specs.Known.{pairs_of}
 use Rattle.wac_checker.proofs.CountLemmas.{pairs_bounded}
-use Rattle.wac_checker.proofs.KnownLemmas.{pair_at, closed_next, closed_follow, fit_before, yes_of}
+use Rattle.wac_checker.proofs.KnownLemmas.{element_at, closed_next, closed_follow, fit_before, yes_of}
 use Rattle.wac_checker.proofs.fitting.all_fit.Goals as goal
 
 pub pair_fits-requires-clause-stands : goal.pair_fits-requires-clause-stands
-pair_fits-requires-clause-stands c = c.loop-next.invariant.pairs.1 c.at.result (pair_at (pairs_of c.loop-next.known) c.loop-next.next c.at.result c.at.ensures)
+pair_fits-requires-clause-stands c = c.loop-next.invariant.pairs.1 c.at.result (element_at (pairs_of c.loop-next.known) c.loop-next.next c.at.result c.at.ensures)
 
 pub loop-next-smaller : goal.loop-next-smaller
 loop-next-smaller c =

@@ -6,7 +6,11 @@ use Rattle.wac_component.specs.Key.{item_keys}
 use Rattle.wac_merge.proofs.BuiltLemmas.{Runs-after}
 use Rattle.wac_merge.proofs.CountLemmas.{made_bounded}
 use Rattle.wac_merge.proofs.ItemLemmas.{builds, ran}
+use Rattle.wac_merge.proofs.MemoLemmas.{IsTrueMemo-none}
 use Rattle.wac_merge.proofs.bounds.meet.Goals as goal
+
+pub meet_items-requires-clause-memo : goal.meet_items-requires-clause-memo
+meet_items-requires-clause-memo c = IsTrueMemo-none c.args.types.now c.new-memo.result c.new-memo.ensures.made (c.new-memo.ensures.compared c.args.types.now c.args.types.now)
 
 pub returns-clause-meet : goal.returns-clause-meet
 returns-clause-meet c = IfOk-weaker c.meet_items.result _ _ (λ m h. meet_of_two (item_tree c.args.types.now c.args.a) (item_tree c.args.types.now c.args.b) _ h) c.meet_items.ensures.met
