@@ -1,6 +1,7 @@
 -- What is known of pairs, as a comparison goes on.
-use Rattle.std.proofs.Common.{◌≡◌, ◌≢◌, ◌<◌, ◌≤◌, ◌+◌, ◌-◌, ◌*◌, ◌⊎◌, inl, inr, ℕ, suc, List, [], ◌∷◌, ◌++◌, length, Contains, Bool, false, refl, ap, sym, subst, ◌∙◌, length-append, arith}
+use Rattle.std.proofs.Common.{◌≡◌, ◌≢◌, ◌<◌, ◌≤◌, ◌+◌, ◌-◌, ◌*◌, ◌⊎◌, inl, inr, ℕ, suc, List, [], ◌∷◌, ◌++◌, length, get_or, Contains, Bool, false, refl, ap, sym, subst, ◌∙◌, length-append, arith}
 use Rattle.std.proofs.lemmas.List.Elements.{Contains-append_left, Contains-push, Contains-push_cases}
+use Rattle.std.proofs.lemmas.Option.{slice_get-get_or}
 use Rattle.std.proofs.Math.Nat.{suc-mul}
 use Rattle.std.specs.Prelude.{◌↔◌, IfOk, IsTrue, Result, Ok, Err}
 use Rattle.std.specs.declared.alloc.AllocError.{AllocError}
@@ -30,7 +31,7 @@ use Rattle.wac_checker.specs.declared.pairs.Entries.{Entries}
 use Rattle.wac_checker.specs.declared.pairs.EntryPair.{EntryPair}
 use Rattle.wac_checker.specs.declared.pairs.Step.{Step}
 use Rattle.wac_checker.proofs.CountLemmas.{last_or_before}
-use Rattle.wac_checker.proofs.KnownLemmas.{IsAdded, grown_by_one}
+use Rattle.wac_checker.proofs.KnownLemmas.{IsAdded, grown_by_one, element_at}
 use Rattle.wac_checker.proofs.PairLemmas.{below_pair}
 use Rattle.wac_checker.proofs.StepLemmas.{lead_pop, lead_push}
 
@@ -99,10 +100,6 @@ pub one_more : (c d : Collection) (p : EntryPair) (i n : ℕ) → n ≡ i + 1 �
 one_more c d p i n next parts here j b = elim (last_or_before j i (omega (arith, b, next))) [ inl e ↦ subst (λ (k : ℕ). PairPartFits c d p k) (sym e) here | inr l ↦ parts j l ]
 
 module _ (c d : Collection) (r : EntryPair) (ps : List EntryPair) where
-  -- it begins at the pair that is asked about
-  pub under_way_first : (ss : List Step) → ss ≡ [] → PairStands c d r → (Contains ps r → ⊥) → IsUnderWay c d r ps ss (record { pair = r; next = 0 })
-  under_way_first ss none stands new = rw none (record { lead = refl; stands = stands; new = new; fit = λ j b. absurd (omega arith); above = λ t m. absurd (omega (arith, m.1)) })
-
   -- it goes on below the pair at hand
   pub under_way_below : (ss ts : List Step) (s : Step) (i : ℕ) (q : EntryPair) → IsUnderWay c d r ps ss s → IsTurn c d ps s.pair (Below i q) → ts ≡ ss ++ (record { pair = s.pair; next = i }) ∷ [] → IsUnderWay c d r ps ts (record { pair = q; next = 0 })
   under_way_below ss ts s i q h turn more = rw more (record {
@@ -136,12 +133,7 @@ module _ (c d : Collection) (r : EntryPair) (ps : List EntryPair) where
           above = λ t m. let was = h.above t (Contains-append_left ts (u ∷ []) t m) in (was.0, still_new t (Contains-append_left ts (u ∷ []) t m), was.2);
         }
 
--- it is over where nothing is above the pair at hand
-pub under_way_over : (c d : Collection) (r : EntryPair) (ps : List EntryPair) (ss : List Step) (s : Step) → length ss ≡ 0 → IsUnderWay c d r ps ss s → r ≡ s.pair
-under_way_over c d r ps [] s none h = h.lead
-under_way_over c d r ps (t ∷ ss) s none h = absurd (omega arith)
-
--- and is never above the pair that is asked about
+-- it is never above the pair that is asked about
 pub under_way_low : (c d : Collection) (r : EntryPair) (ps : List EntryPair) (ss : List Step) (s : Step) → IsUnderWay c d r ps ss s → pair_height c d s.pair ≤ pair_height c d r
 under_way_low c d r ps ss s h = lead_height c d ss r s.pair h.lead
 
@@ -152,6 +144,14 @@ pub added_from : (ps qs : List EntryPair) (p : EntryPair) → IsAdded ps p qs �
 added_from ps qs p added q m = elim added [
   | inl same ↦ inl (subst (λ (xs : List EntryPair). Contains xs q) same m)
   | inr new ↦ Contains-push_cases ps p q (subst (λ (xs : List EntryPair). Contains xs q) new.1 m)
+]
+
+-- and so where it was the pair of the step at an index
+pub added_from_step : (was ps qs : List EntryPair) (ss : List Step) (i : ℕ) (s : Step) → i < length ss → IsAdded ps (get_or ss i s).pair qs
+    → ((q : EntryPair) → Contains ps q → Contains was q ⊎ IsOpen ss q) → (q : EntryPair) → Contains qs q → Contains was q ⊎ IsOpen ss q
+added_from_step was ps qs ss i s within added so_far q m = elim (added_from ps qs (get_or ss i s).pair added q m) [
+  | inl old ↦ so_far q old
+  | inr e ↦ inr (get_or ss i s, element_at ss i (get_or ss i s) (slice_get-get_or ss i s within), e)
 ]
 
 module _ (c d : Collection) (k : Compared) (truly : KnowsTruly c d k) where

@@ -73,8 +73,8 @@ impl Compared {
     }
 
     /// Whether the item `a` of the collection `at` fits where the item `b` of `bt` is asked for
-    /// (Component Model explainer, "Subtyping"). Of each pair of entries that is compared for it the answer
-    /// is remembered, so that none is compared again.
+    /// (Component Model explainer, "Subtyping"). Of each pair that is compared for it the answer is remembered,
+    /// so that none is compared again; two entries as they stand and swapped, as below an import, are two pairs.
     pub fn fits(
         &mut self,
         alloc: Global,

@@ -60,7 +60,7 @@ fn calls_of<'a, 'b>(
 ) -> Result<Vec<Call<'b>>, ScriptError<'a>>
     ensures { IfOk result (λ found. AreCallsIn collections.now (handed_in found.items)) }
 {
-    let mut found = Vec::new(alloc);
+    let mut found = Vec::with_capacity(alloc, calls.len())?;
     for call in calls {
         match call_of(collections, call) {
             Ok(call) => push_call(&mut found, call.name, call.types, call.kind)?,

@@ -8,6 +8,7 @@ use Rattle.wac_component.specs.Id.{Id}
 use Rattle.wac_component.specs.Implicit.{identifier}
 use Rattle.wac_component.specs.Key.{Key, Sort, Entry, defined_sort, resource_sort, func_sort, interface_sort, world_sort, module_sort, defined_entry, resource_entry, func_entry, interface_entry, world_entry, module_entry, interface_key}
 use Rattle.wac_component.proofs.Lists.{slice_get-map}
+use Rattle.wac_names.specs.Class.{Class, class_of}
 
 -- what says nothing of an identifier
 silent : {A : Type 0} (g : A → Entry) → ((x : A) → entry_identifier (g x) ≡ None) → (o : Option A) (n : Text) → option_map_or entry_identifier (option_map g o) None ≡ Some n → ⊥
@@ -40,3 +41,15 @@ identifier_of c i n h = ap (λ o. option_map_or entry_identifier o None) (slice_
     back : (o : Option InterfaceContent) → option_and_then (λ e. e.id) o ≡ Some n → option_map_or entry_identifier (option_map interface_entry o) None ≡ Some n
     back None h = absurd (let no : None ≡ Some n = h in cc)
     back (Some x) h = h
+
+-- ---- classes of identifiers
+
+-- what has a class is there
+pub identified_by : (o : Option Text) (q : Class) → Some q ≡ option_map class_of o → (n : Text) × (o ≡ Some n) × (q ≡ class_of n)
+identified_by None q h = absurd (cc)
+identified_by (Some n) q h = let same : q ≡ class_of n = cc in (n, refl, same)
+
+-- what has none isn't
+pub unidentified : (o : Option Text) → None ≡ option_map class_of o → o ≡ None
+unidentified None h = refl
+unidentified (Some n) h = absurd (cc)

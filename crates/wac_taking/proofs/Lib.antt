@@ -12,6 +12,7 @@ pub mod Alike
 pub mod Identifiers
 pub mod Plain
 pub mod Refusals
+pub mod ServingLemmas
 pub mod PlainUses
 pub mod MemberParts
 pub mod MemberPuts

@@ -1,4 +1,5 @@
 pub mod Takes
 pub mod Growing
+pub mod Serving
 pub mod Refused
 pub mod Members

@@ -1,6 +1,7 @@
 //! Interfaces all of whose parts were taken in.
 
 ghost use Rattle.std.specs.Prelude.{◌≡◌, [], ◌∷◌, Some, None, MatchResult, string_bytes};
+ghost use Rattle.std.specs.Option.{option_map};
 ghost use Rattle.wac_component.specs.Content.{named, use_content};
 ghost use Rattle.wac_component.specs.Entries.{identifier_at};
 ghost use Rattle.wac_component.specs.Height.{height};
@@ -12,7 +13,8 @@ ghost use Rattle.wac_taking.specs.Members.{AnswersMembers};
 ghost use Rattle.wac_taking.specs.Refused.{IsRefused};
 ghost use Rattle.wac_taking.specs.Takes.{MayTake, MayPut, Takes, shared_in};
 
-use super::growing::grow;
+use super::growing::merge_shared;
+use super::identity::identifier;
 use super::state::Merging;
 use indexmap::IndexMap;
 use wac_component::laws::names_in_an_interface_are_distinct;
@@ -20,26 +22,30 @@ use wac_component::{Interface, InterfaceId, ItemKind, Types, UsedType};
 use wac_names::NameClass;
 use wac_refusals::AggregateError;
 
-// Puts an interface of which all parts were taken in: as an entry of its own, or into the shared one on its track.
+// Puts an interface of which all parts were taken in: as an entry of its own, or into the shared one of its identifier's class.
 pub(crate) fn put_interface(
     state: &mut Merging,
     types: &Types,
     id: InterfaceId,
+    class: Option<NameClass>,
     uses: IndexMap<String, UsedType>,
     exports: IndexMap<String, ItemKind>,
 ) -> Result<InterfaceId, AggregateError>
     requires state { MayTake types.now state.old }
+    requires class { class ≡ option_map class_of (identifier_at types.now (interface_key id)) }
     requires taken { MayPut types.now state.old id (named use_content uses.entries) (named (λ k. k) exports.entries) }
     ensures taken { MatchResult result (λ r. Takes types.now state.old state.new (height types.now (interface_key id)) (interface_key id ∷ []) (λ t. IsTakenKey class_of types.now t (interface_key id) (interface_key r))) (IsRefused types.now state.old (interface_key id ∷ [])) }
     ensures members { AnswersMembers result types.now state.old state.new (ReachesByUses types.now id) }
 {
-    let Some(name) = types[id].id.clone()? else {
+    let Some(class) = class else {
         return put_plain(state, types, id, uses, exports);
     };
-    let class = NameClass::of(state.alloc(), name.as_str())?;
     match state.shared.get(&class).copied() {
-        Some(own) => grow(state, types, id, own, name, uses, &exports),
-        None => put_shared(state, types, id, class, name, uses, exports),
+        Some(own) => merge_shared(state, types, id, own, uses, &exports),
+        None => {
+            let name = identifier(types, id)?;
+            put_shared(state, types, id, class, name, uses, exports)
+        }
     }
 }
 

@@ -1,6 +1,7 @@
 //! Shared entries that grow.
 
 ghost use Rattle.std.specs.Prelude.{◌≡◌, ◌≢◌, [], ◌∷◌, Some, IfErr, MatchResult, OnOk, string_bytes};
+ghost use Rattle.wac_model.specs.Text.{Text};
 ghost use Rattle.wac_component.specs.Content.{named, use_content, interface_content};
 ghost use Rattle.wac_component.specs.Entries.{identifier_at};
 ghost use Rattle.wac_component.specs.Height.{height};
@@ -19,7 +20,9 @@ ghost use Rattle.wac_refusals.specs.Said.{said};
 ghost use Rattle.wac_taking.specs.Refused.{IsRefused, IsMergeRefusal, AreRefusedItems};
 ghost use Rattle.wac_taking.specs.Takes.{MayTake, MayPut, Takes, shared_in};
 
+use super::identity::identifier;
 use super::meeting::meet_own;
+use super::serving::serves;
 use super::state::Merging;
 use indexmap::IndexMap;
 use std::alloc::{AllocError, Global};
@@ -57,8 +60,31 @@ fn place_of(state: &Merging, name: &String) -> Result<Place, AllocError> {
     })
 }
 
-// Merges an interface of which all parts were taken in into the shared entry on its track.
-pub(crate) fn grow(
+// Merges an interface of which all parts were taken in into the shared entry on its track, which grows unless it serves it.
+pub(crate) fn merge_shared(
+    state: &mut Merging,
+    types: &Types,
+    id: InterfaceId,
+    own: InterfaceId,
+    uses: IndexMap<String, UsedType>,
+    exports: &IndexMap<String, ItemKind>,
+) -> Result<InterfaceId, AggregateError>
+    requires state { MayTake types.now state.old }
+    requires shared { (name : Text) × (identifier_at types.now (interface_key id) ≡ Some name) × (shared_in state.old.shared.entries (class_of name) ≡ Some own) }
+    requires taken { MayPut types.now state.old id (named use_content uses.entries) (named (λ k. k) exports.now.entries) }
+    ensures taken { MatchResult result (λ r. Takes types.now state.old state.new (height types.now (interface_key id)) (interface_key id ∷ []) (λ t. IsTakenKey class_of types.now t (interface_key id) (interface_key r))) (IsRefused types.now state.old (interface_key id ∷ [])) }
+    ensures members { AnswersMembers result types.now state.old state.new (ReachesByUses types.now id) }
+{
+    if serves(state.alloc(), &state.types, own, &uses, exports) {
+        state.taken.put_interface(id, own)?;
+        return Ok(own);
+    }
+    let name = identifier(types, id)?;
+    grow(state, types, id, own, name, uses, exports)
+}
+
+// Puts what the shared entry lacks into it, and meets what it exports otherwise.
+fn grow(
     state: &mut Merging,
     types: &Types,
     id: InterfaceId,

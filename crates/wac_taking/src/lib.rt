@@ -3,9 +3,11 @@
 
 mod entering;
 mod growing;
+mod identity;
 mod meeting;
 mod near;
 mod owners;
+mod serving;
 mod state;
 mod taking;
 

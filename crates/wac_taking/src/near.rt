@@ -1,6 +1,6 @@
 //! The own interfaces that are near to what is taken in: those that it will be merged with.
 
-ghost use Rattle.std.specs.Prelude.{◌≡◌, ◌<◌, [], ◌∷◌, Some, length, IfOk, IfSome};
+ghost use Rattle.std.specs.Prelude.{◌≡◌, ◌<◌, [], ◌∷◌, Some, length, IfSome};
 ghost use Rattle.wac_component.specs.Id.{Id};
 ghost use Rattle.wac_component.specs.Key.{Stands, item_keys, interface_key};
 ghost use Rattle.wac_narrowing.specs.State.{IsKept};
@@ -8,29 +8,27 @@ ghost use Rattle.wac_taking.specs.Takes.{IsNear, IsNearest, AreLedTo, state_of};
 
 use super::state::Merging;
 use indexmap::IndexMap;
-use std::alloc::AllocError;
 use wac_component::{InterfaceId, ItemKind, Type, Types};
 use wac_merge::extern_named;
 use wac_names::NameClass;
 
-// The interface that another one is merged with: the shared entry on the track of its identifier, else what is near already.
+// The interface that another one is merged with: the shared entry of its identifier's class, else what is near already.
 pub(crate) fn nearest(
     state: &Merging,
-    identifier: &Option<String>,
+    class: &Option<NameClass>,
     near: Option<InterfaceId>,
-) -> Result<Option<InterfaceId>, AllocError>
+) -> Option<InterfaceId>
     requires state { IsKept (state_of state.now) }
     requires near { IsNear state.now near }
-    ensures stands { IfOk result (IsNear state.now) }
-    ensures nearest { IfOk result (IsNearest state.now near) }
+    ensures stands { IsNear state.now result }
+    ensures nearest { IsNearest state.now near result }
 {
-    let Some(name) = identifier else {
-        return Ok(near);
+    let Some(class) = class else {
+        return near;
     };
-    let class = NameClass::of(state.alloc(), name.as_str())?;
-    match state.shared.get(&class).copied() {
-        Some(own) => Ok(Some(own)),
-        None => Ok(near),
+    match state.shared.get(class).copied() {
+        Some(own) => Some(own),
+        None => near,
     }
 }
 

@@ -19,6 +19,7 @@ ghost use Rattle.wac_taking.specs.Refused.{IsRefusedBy, IsRefused, AreRefusedUse
 ghost use Rattle.wac_taking.specs.Takes.{MayTake, IsOwnEntry, IsNear, near_keys, TakesBy, Takes, owners_keys, AreOwnersTaken, IsTakenAlias, IsTakenOwner, IsTakenUse, alias_at};
 
 use super::entering::put_interface;
+use super::identity::class_of_identifier;
 use super::near::{near_export, near_interface, nearest};
 use super::owners::{alias_of, import_owner, owner_of, resource_at};
 use super::state::Merging;
@@ -387,10 +388,11 @@ fn take_interface(
     types.sound();
     let interface = &types[id];
     let uses = take_uses(state, types, &interface.uses)?;
-    let near = nearest(state, &interface.id, near)?;
+    let class = class_of_identifier(state.alloc(), &interface.id)?;
+    let near = nearest(state, &class, near);
     take_alike(state, types, &interface.exports, &near)?;
     let exports = take_externs(state, types, &interface.exports, &near)?;
-    put_interface(state, types, id, uses, exports)
+    put_interface(state, types, id, class, uses, exports)
 }
 
 // Takes in what is used.

@@ -7,7 +7,7 @@ use Rattle.wac_script_session.proofs.Handed.{AreCallsIn-push}
 use Rattle.wac_script_session.proofs.aggregates.calls_of.Goals as goal
 
 pub loop-call-init : goal.loop-call-init
-loop-call-init c = subst (λ (calls : List Handed). AreCallsIn c.args.collections.now (handed_in calls)) (sym c.new-found.ensures.items) (λ d m. absurd (omega (arith, m.1)))
+loop-call-init c = subst (λ (calls : List Handed). AreCallsIn c.args.collections.now (handed_in calls)) (sym c.in_ok-found.ensures.items) (λ d m. absurd (omega (arith, m.1)))
 
 pub loop-call-preserved : goal.loop-call-preserved
 loop-call-preserved c =

@@ -1,44 +1,39 @@
-use Rattle.std.proofs.Common.{◌≡◌, Some, string_bytes, ap, sym, subst, ◌∙◌}
-use Rattle.std.specs.Option.{option_map}
-use Rattle.wac_component.specs.Content.{interface_content}
-use Rattle.wac_component.proofs.CloneLemmas.{option_map-clone}
+use Rattle.std.proofs.Common.{◌≡◌, Some, string_bytes, refl, ap, sym, subst, ◌∙◌}
+use Rattle.std.specs.Prelude.{IsSome}
+use Rattle.wac_component.specs.Entries.{identifier_at}
+use Rattle.wac_component.specs.Key.{interface_key}
 use Rattle.wac_names.specs.Class.{class_of}
 use Rattle.wac_taking.specs.Takes.{shared_in}
+use Rattle.wac_taking.proofs.Identifiers.{identified_by, unidentified}
 use Rattle.wac_taking.proofs.MemberPuts.{no_plain}
-use Rattle.wac_taking.proofs.TakeLemmas.{content_identifier}
 use Rattle.wac_taking.proofs.entering.put_interface.Goals as goal
 
-pub index-requires : goal.index-requires
-index-requires c = c.requires.taken.taken.stands
-
 pub put_plain-requires-clause-plain : goal.put_plain-requires-clause-plain
-put_plain-requires-clause-plain c =
-    content_identifier c.args.types.now c.args.id (interface_content c.index.result.now) c.index.ensures.entry
-    ∙ sym (option_map-clone string_bytes (λ v w same. same) c.index.result.now.id c.in_ok-name.field-0 c.in_ok-name.ensures.cases) ∙ ap (option_map string_bytes) c.in_default.is
+put_plain-requires-clause-plain c = unidentified (identifier_at c.args.types.now (interface_key c.args.id)) (sym c.in_default.is ∙ c.requires.class)
 
-pub grow-requires-clause-identified : goal.grow-requires-clause-identified
-grow-requires-clause-identified c =
-    content_identifier c.args.types.now c.args.id (interface_content c.index.result.now) c.index.ensures.entry
-    ∙ sym (option_map-clone string_bytes (λ v w same. same) c.index.result.now.id c.in_ok-name.field-0 c.in_ok-name.ensures.cases) ∙ ap (option_map string_bytes) c.in-Some.is
+pub merge_shared-requires-clause-shared : goal.merge_shared-requires-clause-shared
+merge_shared-requires-clause-shared c =
+    let k = identified_by (identifier_at c.args.types.now (interface_key c.args.id)) c.in-Some.class (sym c.in-Some.is ∙ c.requires.class) in
+    (k.0, k.1, subst (λ q. shared_in c.args.state.now.shared.entries q ≡ Some c.in-Some-copied.own) k.2 (sym c.get.ensures.value ∙ sym c.copied.ensures ∙ c.in-Some-copied.is))
 
-pub grow-requires-clause-shared : goal.grow-requires-clause-shared
-grow-requires-clause-shared c =
-    subst (λ q. shared_in c.args.state.now.shared.entries q ≡ Some c.in-Some-copied.own) (c.in_ok-class.ensures ∙ ap class_of c.as_str.ensures.value)
-    (sym c.get.ensures.value ∙ sym c.copied.ensures ∙ c.in-Some-copied.is)
+pub identifier-requires : goal.identifier-requires
+identifier-requires c =
+    let k = identified_by (identifier_at c.args.types.now (interface_key c.args.id)) c.in-Some.class (sym c.in-Some.is ∙ c.requires.class) in
+    record { stands = c.requires.taken.taken.stands; has = subst (λ o. IsSome o) (sym k.1) refl }
 
 pub put_shared-requires-clause-identified : goal.put_shared-requires-clause-identified
-put_shared-requires-clause-identified c =
-    content_identifier c.args.types.now c.args.id (interface_content c.index.result.now) c.index.ensures.entry
-    ∙ sym (option_map-clone string_bytes (λ v w same. same) c.index.result.now.id c.in_ok-name.field-0 c.in_ok-name.ensures.cases) ∙ ap (option_map string_bytes) c.in-Some.is
+put_shared-requires-clause-identified c = c.in_ok-name-in-None.ensures
 
 pub put_shared-requires-clause-of : goal.put_shared-requires-clause-of
-put_shared-requires-clause-of c = c.in_ok-class.ensures ∙ ap class_of c.as_str.ensures.value
+put_shared-requires-clause-of c =
+    let k = identified_by (identifier_at c.args.types.now (interface_key c.args.id)) c.in-Some.class (sym c.in-Some.is ∙ c.requires.class) in
+    let both : Some k.0 ≡ Some (string_bytes c.in_ok-name-in-None.name) = sym k.1 ∙ c.in_ok-name-in-None.ensures in
+    let same : k.0 ≡ string_bytes c.in_ok-name-in-None.name = cc in
+    k.2 ∙ ap class_of same
 
 pub put_shared-requires-clause-new : goal.put_shared-requires-clause-new
 put_shared-requires-clause-new c = sym c.get.ensures.value ∙ sym c.copied.ensures ∙ c.in-None.is
 
 pub returns-in_default-clause-members : goal.returns-in_default-clause-members
 returns-in_default-clause-members c = λ taken wit has all.
-    absurd (no_plain c.args.types.now c.args.id
-    (content_identifier c.args.types.now c.args.id (interface_content c.index.result.now) c.index.ensures.entry
-    ∙ sym (option_map-clone string_bytes (λ v w same. same) c.index.result.now.id c.in_ok-name.field-0 c.in_ok-name.ensures.cases) ∙ ap (option_map string_bytes) c.in_default.is) wit)
+    absurd (no_plain c.args.types.now c.args.id (unidentified (identifier_at c.args.types.now (interface_key c.args.id)) (sym c.in_default.is ∙ c.requires.class)) wit)

@@ -363,15 +363,15 @@ pub take_interface-take_uses-requires : goal.take_interface-take_uses-requires
 take_interface-take_uses-requires t c =
     (omega (arith, uses_lower c.args.types.now (interface_content c.index-interface.result.now), c.index-interface.ensures.lower), (uses_stand c.args.types.now (interface_content c.index-interface.result.now) c.index-interface.ensures.standing, c.requires.state))
 
-pub take_interface-nearest-requires-clause-state : goal.take_interface-nearest-requires-clause-state
-take_interface-nearest-requires-clause-state t c = (MayTake-Takes c.args.types.now c.args.state.now c.take_uses.new.state _ _ _ c.requires.state c.in_ok-uses.ensures.taken).kept
+pub take_interface-nearest-near-requires-clause-state : goal.take_interface-nearest-near-requires-clause-state
+take_interface-nearest-near-requires-clause-state t c = (MayTake-Takes c.args.types.now c.args.state.now c.take_uses.new.state _ _ _ c.requires.state c.in_ok-uses.ensures.taken).kept
 
-pub take_interface-nearest-requires-clause-near : goal.take_interface-nearest-requires-clause-near
-take_interface-nearest-requires-clause-near t c = IsNear-Takes c.args.types.now c.args.state.now c.take_uses.new.state _ _ _ c.args.near c.requires.state c.in_ok-uses.ensures.taken c.requires.near
+pub take_interface-nearest-near-requires-clause-near : goal.take_interface-nearest-near-requires-clause-near
+take_interface-nearest-near-requires-clause-near t c = IsNear-Takes c.args.types.now c.args.state.now c.take_uses.new.state _ _ _ c.args.near c.requires.state c.in_ok-uses.ensures.taken c.requires.near
 
 pub take_interface-take_alike-requires : goal.take_interface-take_alike-requires
 take_interface-take_alike-requires t c =
-    (omega (arith, exports_lower c.args.types.now (interface_content c.index-interface.result.now), c.index-interface.ensures.lower), (exports_stand c.args.types.now (interface_content c.index-interface.result.now) c.index-interface.ensures.standing, (MayTake-Takes c.args.types.now c.args.state.now c.take_uses.new.state _ _ _ c.requires.state c.in_ok-uses.ensures.taken, c.in_ok-near.ensures.stands)))
+    (omega (arith, exports_lower c.args.types.now (interface_content c.index-interface.result.now), c.index-interface.ensures.lower), (exports_stand c.args.types.now (interface_content c.index-interface.result.now) c.index-interface.ensures.standing, (MayTake-Takes c.args.types.now c.args.state.now c.take_uses.new.state _ _ _ c.requires.state c.in_ok-uses.ensures.taken, c.nearest-near.ensures.stands)))
 
 pub take_interface-take_externs-requires : goal.take_interface-take_externs-requires
 take_interface-take_externs-requires t c =
@@ -379,7 +379,10 @@ take_interface-take_externs-requires t c =
     let u = c.take_uses.new.state in
     let v = c.take_alike.new.state in
     let may = MayTake-Takes f c.args.state.now u _ _ _ c.requires.state c.in_ok-uses.ensures.taken in
-    (omega (arith, exports_lower f (interface_content c.index-interface.result.now), c.index-interface.ensures.lower), (exports_stand f (interface_content c.index-interface.result.now) c.index-interface.ensures.standing, (MayTake-Takes f u v _ _ _ may c.in_ok-take_alike.ensures, IsNear-Takes f u v _ _ _ c.in_ok-near.near may c.in_ok-take_alike.ensures c.in_ok-near.ensures.stands)))
+    (omega (arith, exports_lower f (interface_content c.index-interface.result.now), c.index-interface.ensures.lower), (exports_stand f (interface_content c.index-interface.result.now) c.index-interface.ensures.standing, (MayTake-Takes f u v _ _ _ may c.in_ok-take_alike.ensures, IsNear-Takes f u v _ _ _ c.nearest-near.result may c.in_ok-take_alike.ensures c.nearest-near.ensures.stands)))
+
+pub take_interface-put_interface-requires-clause-class : goal.take_interface-put_interface-requires-clause-class
+take_interface-put_interface-requires-clause-class t c = c.in_ok-class.ensures ∙ ap (option_map class_of) (sym (content_identifier c.args.types.now c.args.id (interface_content c.index-interface.result.now) c.index-interface.ensures.entry))
 
 pub take_interface-put_interface-requires-clause-taken : goal.take_interface-put_interface-requires-clause-taken
 take_interface-put_interface-requires-clause-taken t c =
@@ -389,8 +392,8 @@ take_interface-put_interface-requires-clause-taken t c =
     let es = named (λ k. k) c.in_ok-exports.exports.entries in
     let used : State → Type 0 = λ s. AreMapped (IsTakenUse f s) x.uses us in
     let exported : State → Type 0 = λ s. AreMapped (IsTakenItem class_of f s) x.exports es in
-    let first = Takes-then f c.args.state.now c.take_uses.new.state c.take_alike.new.state _ _ (keys_height f (interface_keys x)) _ _ (interface_keys x) used (λ s. Unit {0}) (uses_lower f x) (exports_lower f x) (within_left f (named_keys use_keys x.uses) (named_keys item_keys x.exports)) (within_right f (named_keys use_keys x.uses) (named_keys item_keys x.exports)) c.requires.state (λ s u kept run h. uses_still f s u kept (RemembersTruly class_of) f run x.uses us h) (Takes-apart f c.args.state.now c.take_uses.new.state _ _ _ c.in_ok-uses.ensures.taken) (Takes-nearest f c.args.near c.in_ok-near.near c.take_uses.new.state c.take_alike.new.state _ _ _ (MayTake-Takes f c.args.state.now c.take_uses.new.state _ _ _ c.requires.state c.in_ok-uses.ensures.taken) c.in_ok-near.ensures.nearest c.in_ok-take_alike.ensures) in
-    let parts = Takes-then f c.args.state.now c.take_alike.new.state c.take_externs.new.state _ _ (keys_height f (interface_keys x)) _ _ (interface_keys x) (λ s. used s × Unit {0}) exported (omega arith) (exports_lower f x) (within_all f (interface_keys x)) (within_right f (named_keys use_keys x.uses) (named_keys item_keys x.exports)) c.requires.state (λ s u kept run h. (uses_still f s u kept (RemembersTruly class_of) f run x.uses us h.0, tt)) first (Takes-nearest f c.args.near c.in_ok-near.near c.take_alike.new.state c.take_externs.new.state _ _ _ (MayTake-Takes f c.take_uses.new.state c.take_alike.new.state _ _ _ (MayTake-Takes f c.args.state.now c.take_uses.new.state _ _ _ c.requires.state c.in_ok-uses.ensures.taken) c.in_ok-take_alike.ensures) (nearest_still f c.take_uses.new.state c.take_alike.new.state _ _ _ c.args.near c.in_ok-near.near (MayTake-Takes f c.args.state.now c.take_uses.new.state _ _ _ c.requires.state c.in_ok-uses.ensures.taken) c.in_ok-take_alike.ensures c.in_ok-near.ensures.nearest) c.in_ok-exports.ensures) in
+    let first = Takes-then f c.args.state.now c.take_uses.new.state c.take_alike.new.state _ _ (keys_height f (interface_keys x)) _ _ (interface_keys x) used (λ s. Unit {0}) (uses_lower f x) (exports_lower f x) (within_left f (named_keys use_keys x.uses) (named_keys item_keys x.exports)) (within_right f (named_keys use_keys x.uses) (named_keys item_keys x.exports)) c.requires.state (λ s u kept run h. uses_still f s u kept (RemembersTruly class_of) f run x.uses us h) (Takes-apart f c.args.state.now c.take_uses.new.state _ _ _ c.in_ok-uses.ensures.taken) (Takes-nearest f c.args.near c.nearest-near.result c.take_uses.new.state c.take_alike.new.state _ _ _ (MayTake-Takes f c.args.state.now c.take_uses.new.state _ _ _ c.requires.state c.in_ok-uses.ensures.taken) c.nearest-near.ensures.nearest c.in_ok-take_alike.ensures) in
+    let parts = Takes-then f c.args.state.now c.take_alike.new.state c.take_externs.new.state _ _ (keys_height f (interface_keys x)) _ _ (interface_keys x) (λ s. used s × Unit {0}) exported (omega arith) (exports_lower f x) (within_all f (interface_keys x)) (within_right f (named_keys use_keys x.uses) (named_keys item_keys x.exports)) c.requires.state (λ s u kept run h. (uses_still f s u kept (RemembersTruly class_of) f run x.uses us h.0, tt)) first (Takes-nearest f c.args.near c.nearest-near.result c.take_alike.new.state c.take_externs.new.state _ _ _ (MayTake-Takes f c.take_uses.new.state c.take_alike.new.state _ _ _ (MayTake-Takes f c.args.state.now c.take_uses.new.state _ _ _ c.requires.state c.in_ok-uses.ensures.taken) c.in_ok-take_alike.ensures) (nearest_still f c.take_uses.new.state c.take_alike.new.state _ _ _ c.args.near c.nearest-near.result (MayTake-Takes f c.args.state.now c.take_uses.new.state _ _ _ c.requires.state c.in_ok-uses.ensures.taken) c.in_ok-take_alike.ensures c.nearest-near.ensures.nearest) c.in_ok-exports.ensures) in
     record {
       content = x;
       taken = interface_is_taken f (state_of c.take_externs.new.state) c.sound.ensures c.args.id x us es c.requires.source c.index-interface.ensures.entry parts.holds.0.0 parts.holds.1;
@@ -405,8 +408,8 @@ take_interface-returns-clause-taken t c =
     let us = named use_content c.in_ok-uses.uses.entries in
     let used : State → Type 0 = λ s. AreMapped (IsTakenUse f s) x.uses us in
     let exported : State → Type 0 = λ s. AreMapped (IsTakenItem class_of f s) x.exports (named (λ k. k) c.in_ok-exports.exports.entries) in
-    let first = Takes-then f c.args.state.now c.take_uses.new.state c.take_alike.new.state _ _ (keys_height f (interface_keys x)) _ _ (interface_keys x) used (λ s. Unit {0}) (uses_lower f x) (exports_lower f x) (within_left f (named_keys use_keys x.uses) (named_keys item_keys x.exports)) (within_right f (named_keys use_keys x.uses) (named_keys item_keys x.exports)) c.requires.state (λ s u kept run h. uses_still f s u kept (RemembersTruly class_of) f run x.uses us h) (Takes-apart f c.args.state.now c.take_uses.new.state _ _ _ c.in_ok-uses.ensures.taken) (Takes-nearest f c.args.near c.in_ok-near.near c.take_uses.new.state c.take_alike.new.state _ _ _ (MayTake-Takes f c.args.state.now c.take_uses.new.state _ _ _ c.requires.state c.in_ok-uses.ensures.taken) c.in_ok-near.ensures.nearest c.in_ok-take_alike.ensures) in
-    let parts = Takes-then f c.args.state.now c.take_alike.new.state c.take_externs.new.state _ _ (keys_height f (interface_keys x)) _ _ (interface_keys x) (λ s. used s × Unit {0}) exported (omega arith) (exports_lower f x) (within_all f (interface_keys x)) (within_right f (named_keys use_keys x.uses) (named_keys item_keys x.exports)) c.requires.state (λ s u kept run h. (uses_still f s u kept (RemembersTruly class_of) f run x.uses us h.0, tt)) first (Takes-nearest f c.args.near c.in_ok-near.near c.take_alike.new.state c.take_externs.new.state _ _ _ (MayTake-Takes f c.take_uses.new.state c.take_alike.new.state _ _ _ (MayTake-Takes f c.args.state.now c.take_uses.new.state _ _ _ c.requires.state c.in_ok-uses.ensures.taken) c.in_ok-take_alike.ensures) (nearest_still f c.take_uses.new.state c.take_alike.new.state _ _ _ c.args.near c.in_ok-near.near (MayTake-Takes f c.args.state.now c.take_uses.new.state _ _ _ c.requires.state c.in_ok-uses.ensures.taken) c.in_ok-take_alike.ensures c.in_ok-near.ensures.nearest) c.in_ok-exports.ensures) in
+    let first = Takes-then f c.args.state.now c.take_uses.new.state c.take_alike.new.state _ _ (keys_height f (interface_keys x)) _ _ (interface_keys x) used (λ s. Unit {0}) (uses_lower f x) (exports_lower f x) (within_left f (named_keys use_keys x.uses) (named_keys item_keys x.exports)) (within_right f (named_keys use_keys x.uses) (named_keys item_keys x.exports)) c.requires.state (λ s u kept run h. uses_still f s u kept (RemembersTruly class_of) f run x.uses us h) (Takes-apart f c.args.state.now c.take_uses.new.state _ _ _ c.in_ok-uses.ensures.taken) (Takes-nearest f c.args.near c.nearest-near.result c.take_uses.new.state c.take_alike.new.state _ _ _ (MayTake-Takes f c.args.state.now c.take_uses.new.state _ _ _ c.requires.state c.in_ok-uses.ensures.taken) c.nearest-near.ensures.nearest c.in_ok-take_alike.ensures) in
+    let parts = Takes-then f c.args.state.now c.take_alike.new.state c.take_externs.new.state _ _ (keys_height f (interface_keys x)) _ _ (interface_keys x) (λ s. used s × Unit {0}) exported (omega arith) (exports_lower f x) (within_all f (interface_keys x)) (within_right f (named_keys use_keys x.uses) (named_keys item_keys x.exports)) c.requires.state (λ s u kept run h. (uses_still f s u kept (RemembersTruly class_of) f run x.uses us h.0, tt)) first (Takes-nearest f c.args.near c.nearest-near.result c.take_alike.new.state c.take_externs.new.state _ _ _ (MayTake-Takes f c.take_uses.new.state c.take_alike.new.state _ _ _ (MayTake-Takes f c.args.state.now c.take_uses.new.state _ _ _ c.requires.state c.in_ok-uses.ensures.taken) c.in_ok-take_alike.ensures) (nearest_still f c.take_uses.new.state c.take_alike.new.state _ _ _ c.args.near c.nearest-near.result (MayTake-Takes f c.args.state.now c.take_uses.new.state _ _ _ c.requires.state c.in_ok-uses.ensures.taken) c.in_ok-take_alike.ensures c.nearest-near.ensures.nearest) c.in_ok-exports.ensures) in
     MatchResult-weaker c.put_interface.result c.put_interface.ensures.taken (λ r h. Takes-after f c.args.state.now c.take_externs.new.state c.put_interface.new.state (keys_height f (interface_keys x)) (height f (interface_key c.args.id)) (interface_keys x) (interface_key c.args.id ∷ []) (λ s. (used s × Unit {0}) × exported s) (λ s. IsTakenKey class_of f s (interface_key c.args.id) (interface_key r)) (omega (arith, c.index-interface.ensures.lower)) (within_parts f (interface_key c.args.id) (interface_keys x) (ap (optional_keys other_keys) (interface_at f c.args.id x c.index-interface.ensures.entry))) c.requires.state parts (Takes-apart f c.take_externs.new.state c.put_interface.new.state _ _ _ h)) (λ e h. refused_later f c.args.state.now c.take_externs.new.state _ (interface_keys x) (interface_key c.args.id ∷ []) (interface_key c.args.id ∷ []) _ e (within_parts f (interface_key c.args.id) (interface_keys x) (ap (optional_keys other_keys) (interface_at f c.args.id x c.index-interface.ensures.entry))) (within_all f (interface_key c.args.id ∷ [])) c.requires.state parts (refused_apart f c.take_externs.new.state _ e h))
 
 pub take_uses-loop-i-init : goal.take_uses-loop-i-init
@@ -825,13 +828,13 @@ pub take_interface-returns-in_err-take_alike-clause-taken : goal.take_interface-
 take_interface-returns-in_err-take_alike-clause-taken t c =
     let f = c.args.types.now in
     let x = interface_content c.index-interface.result.now in
-    refused_then f c.args.state.now c.take_uses.new.state _ (named_keys use_keys x.uses) (named_keys item_keys x.exports) (interface_key c.args.id ∷ []) _ c.from_residual-in_err-take_alike.result _ c.in_err-take_alike.field-0.0 (within_trans f (named_keys use_keys x.uses) (interface_keys x) (interface_key c.args.id ∷ []) (within_left f (named_keys use_keys x.uses) (named_keys item_keys x.exports)) (within_parts f (interface_key c.args.id) (interface_keys x) (ap (optional_keys other_keys) (interface_at f c.args.id x c.index-interface.ensures.entry)))) (within_trans f (named_keys item_keys x.exports) (interface_keys x) (interface_key c.args.id ∷ []) (within_right f (named_keys use_keys x.uses) (named_keys item_keys x.exports)) (within_parts f (interface_key c.args.id) (interface_keys x) (ap (optional_keys other_keys) (interface_at f c.args.id x c.index-interface.ensures.entry)))) c.requires.state (Takes-apart f c.args.state.now c.take_uses.new.state _ _ _ c.in_ok-uses.ensures.taken) (refused_near f (near_keys c.in_ok-near.near) (near_keys c.args.near) c.take_uses.new.state _ _ (λ at all by. near_nearest at c.take_uses.new.state c.args.near c.in_ok-near.near (MayTake-Takes f c.args.state.now c.take_uses.new.state _ _ _ c.requires.state c.in_ok-uses.ensures.taken).kept c.in_ok-near.ensures.nearest all by) c.in_err-take_alike.ensures) c.from_residual-in_err-take_alike.ensures
+    refused_then f c.args.state.now c.take_uses.new.state _ (named_keys use_keys x.uses) (named_keys item_keys x.exports) (interface_key c.args.id ∷ []) _ c.from_residual-in_err-take_alike.result _ c.in_err-take_alike.field-0.0 (within_trans f (named_keys use_keys x.uses) (interface_keys x) (interface_key c.args.id ∷ []) (within_left f (named_keys use_keys x.uses) (named_keys item_keys x.exports)) (within_parts f (interface_key c.args.id) (interface_keys x) (ap (optional_keys other_keys) (interface_at f c.args.id x c.index-interface.ensures.entry)))) (within_trans f (named_keys item_keys x.exports) (interface_keys x) (interface_key c.args.id ∷ []) (within_right f (named_keys use_keys x.uses) (named_keys item_keys x.exports)) (within_parts f (interface_key c.args.id) (interface_keys x) (ap (optional_keys other_keys) (interface_at f c.args.id x c.index-interface.ensures.entry)))) c.requires.state (Takes-apart f c.args.state.now c.take_uses.new.state _ _ _ c.in_ok-uses.ensures.taken) (refused_near f (near_keys c.nearest-near.result) (near_keys c.args.near) c.take_uses.new.state _ _ (λ at all by. near_nearest at c.take_uses.new.state c.args.near c.nearest-near.result (MayTake-Takes f c.args.state.now c.take_uses.new.state _ _ _ c.requires.state c.in_ok-uses.ensures.taken).kept c.nearest-near.ensures.nearest all by) c.in_err-take_alike.ensures) c.from_residual-in_err-take_alike.ensures
 
 pub take_interface-returns-in_err-exports-clause-taken : goal.take_interface-returns-in_err-exports-clause-taken
 take_interface-returns-in_err-exports-clause-taken t c =
     let f = c.args.types.now in
     let x = interface_content c.index-interface.result.now in
-    refused_then f c.args.state.now c.take_alike.new.state _ (interface_keys x) (named_keys item_keys x.exports) (interface_key c.args.id ∷ []) _ c.from_residual-in_err-exports.result _ c.in_err-exports.field-0.0 (within_parts f (interface_key c.args.id) (interface_keys x) (ap (optional_keys other_keys) (interface_at f c.args.id x c.index-interface.ensures.entry))) (within_trans f (named_keys item_keys x.exports) (interface_keys x) (interface_key c.args.id ∷ []) (within_right f (named_keys use_keys x.uses) (named_keys item_keys x.exports)) (within_parts f (interface_key c.args.id) (interface_keys x) (ap (optional_keys other_keys) (interface_at f c.args.id x c.index-interface.ensures.entry)))) c.requires.state (Takes-then f c.args.state.now c.take_uses.new.state c.take_alike.new.state _ _ (keys_height f (interface_keys x)) _ _ (interface_keys x) _ (λ s. Unit {0}) (uses_lower f x) (exports_lower f x) (within_left f (named_keys use_keys x.uses) (named_keys item_keys x.exports)) (within_right f (named_keys use_keys x.uses) (named_keys item_keys x.exports)) c.requires.state (λ s u kept run h. uses_still f s u kept (RemembersTruly class_of) f run x.uses (named use_content c.in_ok-uses.uses.entries) h) (Takes-apart f c.args.state.now c.take_uses.new.state _ _ _ c.in_ok-uses.ensures.taken) (Takes-nearest f c.args.near c.in_ok-near.near c.take_uses.new.state c.take_alike.new.state _ _ _ (MayTake-Takes f c.args.state.now c.take_uses.new.state _ _ _ c.requires.state c.in_ok-uses.ensures.taken) c.in_ok-near.ensures.nearest c.in_ok-take_alike.ensures)) (refused_near f (near_keys c.in_ok-near.near) (near_keys c.args.near) c.take_alike.new.state _ _ (λ at all by. near_nearest at c.take_alike.new.state c.args.near c.in_ok-near.near (MayTake-Takes f c.take_uses.new.state c.take_alike.new.state _ _ _ (MayTake-Takes f c.args.state.now c.take_uses.new.state _ _ _ c.requires.state c.in_ok-uses.ensures.taken) c.in_ok-take_alike.ensures).kept (nearest_still f c.take_uses.new.state c.take_alike.new.state _ _ _ c.args.near c.in_ok-near.near (MayTake-Takes f c.args.state.now c.take_uses.new.state _ _ _ c.requires.state c.in_ok-uses.ensures.taken) c.in_ok-take_alike.ensures c.in_ok-near.ensures.nearest) all by) c.in_err-exports.ensures) c.from_residual-in_err-exports.ensures
+    refused_then f c.args.state.now c.take_alike.new.state _ (interface_keys x) (named_keys item_keys x.exports) (interface_key c.args.id ∷ []) _ c.from_residual-in_err-exports.result _ c.in_err-exports.field-0.0 (within_parts f (interface_key c.args.id) (interface_keys x) (ap (optional_keys other_keys) (interface_at f c.args.id x c.index-interface.ensures.entry))) (within_trans f (named_keys item_keys x.exports) (interface_keys x) (interface_key c.args.id ∷ []) (within_right f (named_keys use_keys x.uses) (named_keys item_keys x.exports)) (within_parts f (interface_key c.args.id) (interface_keys x) (ap (optional_keys other_keys) (interface_at f c.args.id x c.index-interface.ensures.entry)))) c.requires.state (Takes-then f c.args.state.now c.take_uses.new.state c.take_alike.new.state _ _ (keys_height f (interface_keys x)) _ _ (interface_keys x) _ (λ s. Unit {0}) (uses_lower f x) (exports_lower f x) (within_left f (named_keys use_keys x.uses) (named_keys item_keys x.exports)) (within_right f (named_keys use_keys x.uses) (named_keys item_keys x.exports)) c.requires.state (λ s u kept run h. uses_still f s u kept (RemembersTruly class_of) f run x.uses (named use_content c.in_ok-uses.uses.entries) h) (Takes-apart f c.args.state.now c.take_uses.new.state _ _ _ c.in_ok-uses.ensures.taken) (Takes-nearest f c.args.near c.nearest-near.result c.take_uses.new.state c.take_alike.new.state _ _ _ (MayTake-Takes f c.args.state.now c.take_uses.new.state _ _ _ c.requires.state c.in_ok-uses.ensures.taken) c.nearest-near.ensures.nearest c.in_ok-take_alike.ensures)) (refused_near f (near_keys c.nearest-near.result) (near_keys c.args.near) c.take_alike.new.state _ _ (λ at all by. near_nearest at c.take_alike.new.state c.args.near c.nearest-near.result (MayTake-Takes f c.take_uses.new.state c.take_alike.new.state _ _ _ (MayTake-Takes f c.args.state.now c.take_uses.new.state _ _ _ c.requires.state c.in_ok-uses.ensures.taken) c.in_ok-take_alike.ensures).kept (nearest_still f c.take_uses.new.state c.take_alike.new.state _ _ _ c.args.near c.nearest-near.result (MayTake-Takes f c.args.state.now c.take_uses.new.state _ _ _ c.requires.state c.in_ok-uses.ensures.taken) c.in_ok-take_alike.ensures c.nearest-near.ensures.nearest) all by) c.in_err-exports.ensures) c.from_residual-in_err-exports.ensures
 
 pub take_interface-returns-in_err-uses-clause-taken : goal.take_interface-returns-in_err-uses-clause-taken
 take_interface-returns-in_err-uses-clause-taken t c =
@@ -948,7 +951,7 @@ take_interface-returns-in_err-take_alike-clause-members t c taken wit has all =
     let x = interface_content c.index-interface.result.now in
     let P : Id → Type 0 = ReachesByUses f c.args.id in
     passed_on c.from_residual-in_err-take_alike.result _ (IsMemberRefusal f P taken) c.in_err-take_alike.field-0.0 c.from_residual-in_err-take_alike.ensures
-    (known_refused (near_keys c.in_ok-near.near) f c.take_uses.new.state (named_keys item_keys x.exports) c.in_err-take_alike.field-0.0 P taken c.in_err-take_alike.ensures
+    (known_refused (near_keys c.nearest-near.result) f c.take_uses.new.state (named_keys item_keys x.exports) c.in_err-take_alike.field-0.0 P taken c.in_err-take_alike.ensures
     (content_known f c.args.id x c.sound.ensures c.requires.source c.index-interface.ensures.entry c.take_uses.new.state (named use_content c.in_ok-uses.uses.entries) wit c.in_ok-uses.ensures.taken.holds))
 
 pub take_interface-returns-in_err-exports-clause-members : goal.take_interface-returns-in_err-exports-clause-members
@@ -960,7 +963,7 @@ take_interface-returns-in_err-exports-clause-members t c taken wit has all =
     let es = named_keys item_keys x.exports in
     let P : Id → Type 0 = ReachesByUses f c.args.id in
     passed_on c.from_residual-in_err-exports.result _ (IsMemberRefusal f P taken) c.in_err-exports.field-0.0 c.from_residual-in_err-exports.ensures
-    (known_refused (near_keys c.in_ok-near.near) f v es c.in_err-exports.field-0.0 P taken c.in_err-exports.ensures
+    (known_refused (near_keys c.nearest-near.result) f v es c.in_err-exports.field-0.0 P taken c.in_err-exports.ensures
     (known_still f u v es c.in_ok-take_alike.ensures.run (content_known f c.args.id x c.sound.ensures c.requires.source c.index-interface.ensures.entry u (named use_content c.in_ok-uses.uses.entries) wit c.in_ok-uses.ensures.taken.holds)))
 
 pub take_uses-returns-clause-members : goal.take_uses-returns-clause-members
