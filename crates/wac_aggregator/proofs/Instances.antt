@@ -13,7 +13,8 @@ use Rattle.wac_names.specs.Class.{class_of}
 use Rattle.wac_narrowing.specs.State.{State}
 use Rattle.wac_narrowing.specs.Taking.{AreTakenKeys, one_key, IsTakenKey}
 
--- an item with the tree of an interface is an instance of one, as is what fits where one is asked for
+-- an item with the tree of an interface is an instance of one, as is
+-- what fits where one is asked for
 abbrev pub IsInstanceTree : ItemTree → Type 0
 IsInstanceTree (composite item interface i e) = Unit {0}
 IsInstanceTree t = ⊥

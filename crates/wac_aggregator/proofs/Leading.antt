@@ -56,7 +56,8 @@ module _ (is : ImportsContent) (filed : AreFiled is) where
       by None at = inl (canonical-self is n at)
       by (Some q) at = inr (rw at refl)
 
--- what an import placed on the track of a name leaves of the imports, and of the names that are led to others
+-- what an import placed on the track of a name leaves of the imports, and of
+-- the names that are led to others
 pub record PlacedAs (a taken b : ImportsContent) (name : Text) (k : ItemKind) : Type 0 where
   pub as_name : Text
   pub puts : PutsImport taken b (class_of name) (as_name, k)

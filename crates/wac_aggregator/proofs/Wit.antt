@@ -1,4 +1,5 @@
--- What holds of the state of merging once calls of a WIT list were accepted: before the first one, and for the answer.
+-- What holds of the state of merging once calls of a WIT list were accepted: before the
+-- first one, and for the answer.
 use Rattle.std.proofs.Common.{◌≡◌, ◌⊎◌, ℕ, inl, inr, List, [], ◌∷◌, ◌++◌, Option, Some, None, IsSome, Contains, refl, ap, sym, ◌∙◌, subst, arith}
 use Rattle.std.proofs.lemmas.List.Elements.{Contains-push, Contains-push_cases}
 use Rattle.std.specs.Option.{option_map}

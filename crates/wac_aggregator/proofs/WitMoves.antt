@@ -72,7 +72,8 @@ module _ (call : Call) (a b : Merging) (may : MayTake call.types a) (filed_a : A
   same_shared : shared_keys b.shared.entries ≡ shared_keys h.taken.shared.entries
   same_shared = ap (λ (m : Merging). shared_keys m.shared.entries) h.same
 
-  -- an entry that was shared once the item was taken in is found on its track, and so is one that was shared before
+  -- an entry that was shared once the item was taken in is found on its track, and so
+  -- is one that was shared before
   pub found_on : (s : Id) (t : Class) → IsAmong (interface_key s) (shared_keys h.taken.shared.entries) → IsIdentifiedOn h.taken.types s t → shared_in b.shared.entries t ≡ Some s
   found_on s t m on = shared_on b after has s t (subst (IsAmong (interface_key s)) (sym same_shared) m)
       (still_on h.taken.types b.types (shared_keys h.taken.shared.entries) (shared_keys b.shared.entries) ((rest call a b may filed_a filed_b h).stops kept_then) s t (shared_stands (state_of h.taken) kept_then (interface_key s) m) on)
@@ -95,7 +96,8 @@ module _ (call : Call) (a b : Merging) (may : MayTake call.types a) (filed_a : A
   of_owner : (t : Class) (i : ImportContent) → class_of i.0 ≡ t → IsOwnersImport call.types (item_keys call.kind) h.taken t i → (s : Id) × (shared_in b.shared.entries t ≡ Some s) × (i.1 ≡ Instance s)
   of_owner t i on new = (new.entry, found_on new.entry t new.is_shared (record { name = i.0; identified = has_identifier h.taken.types (interface_key new.entry) i.0 new.named; on_track = on }), new.item)
 
-  -- on another track than the call's stands what stood there, or an instance of the shared entry there
+  -- on another track than the call's stands what stood there, or an
+  -- instance of the shared entry there
   pub on_other : (t : Class) (i : ImportContent) → class_eq (call_track call) t ≡ false → import_of b.imports t ≡ Some i → (import_of a.imports t ≡ Some i) ⊎ ((s : Id) × (shared_in b.shared.entries t ≡ Some s) × (i.1 ≡ Instance s))
   on_other t i other at =
       elim (h.takes.due t i (sym (placed_other a.imports h.taken.imports b.imports call.name h.import (placing call a b may filed_a filed_b h) h.takes.stays t other) ∙ at)) [

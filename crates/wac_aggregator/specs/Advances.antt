@@ -26,12 +26,14 @@ use Rattle.wac_taking.specs.Refused.{HasReason}
 use Rattle.wac_taking.specs.Takes.{shared_keys, state_of, Takes}
 use Rattle.wac_taking.specs.declared.state.Merging.{Merging}
 
--- what is imported on the name's track is this item now: under the name where there was no import before the call and none came with the item, else as the import that stood there is noted
+-- what is imported on the name's track is this item now: under the name where there was no import
+-- before the call and none came with the item, else as the import that stood there is noted
 pub data IsPlaced (before taken now : ImportsContent) (name : Text) (k : ItemKind) : Type 0 where
   added : import_of before (class_of name) ≡ None → import_of taken (class_of name) ≡ None → PutsImport taken now (class_of name) (name, k) → now.led ≡ taken.led → IsPlaced before taken now name k
   noted : (i : ImportContent) → import_of before (class_of name) ≡ Some i → IsNoted taken now (class_of name) i.0 name k → IsPlaced before taken now name k
 
--- the item is taken in; then an import is placed on the track of the name, which fits where the item is asked for, and where the import was that stood there
+-- the item is taken in; then an import is placed on the track of the name, which fits where the
+-- item is asked for, and where the import was that stood there
 pub record Advances (call : Call) (a b : Merging) : Type 0 where
   pub taken : Merging
   pub own : ItemKind
@@ -43,18 +45,22 @@ pub record Advances (call : Call) (a b : Merging) : Type 0 where
   pub covered : Each (IsCovered b.types (shared_keys taken.shared.entries)) (item_keys import)
   pub fits : Fits (item_tree b.types import) (item_tree taken.types own)
   pub existing : (i : ImportContent) → import_of a.imports (call_track call) ≡ Some i → Fits (item_tree b.types import) (item_tree taken.types i.1)
-  -- it is the item's where none stood, and else the greatest that fits so: the import that stood, where that fits where the item is asked for
+  -- it is the item's where none stood, and else the greatest that fits so: the import that stood,
+  -- where that fits where the item is asked for
   pub alone : import_of a.imports (call_track call) ≡ None → import ≡ own
   pub alone_tree : import_of a.imports (call_track call) ≡ None → item_tree b.types import ≡ item_tree taken.types own
   pub kept : (i : ImportContent) → import_of a.imports (call_track call) ≡ Some i → Fits (item_tree taken.types i.1) (item_tree taken.types own) → import ≡ i.1
-  -- no open walk stops from it at an interface with an identifier, where none does from what it is met of
+  -- no open walk stops from it at an interface with an identifier, where
+  -- none does from what it is met of
   pub unstopped : (i : ImportContent) → import_of a.imports (call_track call) ≡ Some i → Each (IsUnstopped taken.types) (item_keys i.1) → Each (IsUnstopped taken.types) (item_keys own) → Each (IsUnstopped b.types) (item_keys import)
   pub greatest : (i : ImportContent) → import_of a.imports (call_track call) ≡ Some i → (t : ItemTree) → Fits t (item_tree taken.types i.1) → Fits t (item_tree taken.types own) → Fits t (item_tree b.types import)
   pub placed : IsPlaced a.imports taken.imports b.imports call.name import
-  -- while a call is tried whose item openly reaches this one's, all stays accounted for, and the import is open and comes from sources
+  -- while a call is tried whose item openly reaches this one's, all stays accounted for, and the
+  -- import is open and comes from sources
   pub accounts : (at : Attempt) → IsTrial at call.types (item_keys call.kind) → IsAccounted at (state_of a) → IsAccounted at (with_own (state_of taken) b.types) × Each (IsOpenSource at (with_own (state_of taken) b.types)) (item_keys import)
 
--- an import stands on the track of the name, and no item fits where either that or the item is asked for
+-- an import stands on the track of the name, and no item fits where
+-- either that or the item is asked for
 pub record HasNoMeet (call : Call) (a : Merging) : Type 0 where
   pub import : ImportContent
   pub stood : import_of a.imports (call_track call) ≡ Some import
@@ -64,13 +70,15 @@ pub record HasNoMeet (call : Call) (a : Merging) : Type 0 where
 abbrev pub attempt_at : Call → Merging → Attempt
 attempt_at call a = single_attempt a.types (option_map (λ i. item_tree a.types i.1) (import_of a.imports (call_track call))) call
 
--- the call is sound, and before it all that open walks lead to is held, and apart from what is below imports
+-- the call is sound, and before it all that open walks lead to is held, and
+-- apart from what is below imports
 pub record MayTry (call : Call) (a : Merging) : Type 0 where
   pub sound : IsSoundCall call
   pub held : AreHeld (state_of a)
   pub split : AreSplit (state_of a)
 
--- why a call is refused: a plain item since it has no meet with the import on its track; and there is reason
+-- why a call is refused: a plain item since it has no meet with the import on
+-- its track; and there is reason
 pub record IsCallRefusal (call : Call) (a : Merging) (e : AggregateError) : Type 0 where
   pub plain : IsPlain call.types call.kind → HasNoMeet call a
   pub reason : MayTry call a → HasReason (attempt_at call a) e

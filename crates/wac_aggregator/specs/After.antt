@@ -6,7 +6,8 @@ use Rattle.wac_call_lists.specs.Call.{Call, call_track}
 use Rattle.wac_refusals.specs.declared.error.AggregateError.{AggregateError}
 use Rattle.wac_taking.specs.Refused.{HasReason}
 
--- there is reason to refuse the call, with some collection of this number, and imports that serve the calls before it
+-- there is reason to refuse the call, with some collection of this number, and imports
+-- that serve the calls before it
 pub record HasReasonAfter (number : ℕ) (front : List Call) (call : Call) (e : AggregateError) : Type 0 where
   pub before : Aggregated
   pub number_is : before.types.number ≡ number

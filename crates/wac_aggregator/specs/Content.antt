@@ -23,7 +23,8 @@ pub record Pairs : Type 0 where
   pub worlds : List (Id × Id)
   pub modules : List (Id × Id)
 
--- its collection, its imports, the shared entries under the classes of their identifiers, and the ids that were taken in, and those that were copied
+-- its collection, its imports, the shared entries under the classes of their identifiers, and the
+-- ids that were taken in, and those that were copied
 pub record AggregatorContent : Type 0 where
   pub types : Collection
   pub imports : ImportsContent

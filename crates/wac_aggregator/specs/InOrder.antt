@@ -9,7 +9,9 @@ use Rattle.wac_reasons.specs.Split.{AreSplit}
 use Rattle.wac_taking.specs.Takes.{AreFiledIn, state_of}
 use Rattle.wac_taking.specs.declared.state.Merging.{Merging}
 
--- entries, imports and what was taken in are in order, shared entries and imports are filed under the classes of their names, and all that open walks lead to is held, and apart from what is below imports
+-- entries, imports and what was taken in are in order, shared entries and imports are
+-- filed under the classes of their names, and all that open walks lead to is held, and
+-- apart from what is below imports
 pub record IsInOrder (a : Merging) : Type 0 where
   pub kept : IsKept (state_of a)
   pub filed : AreFiledIn a.types a.shared.entries

@@ -25,7 +25,8 @@ pub record LeadsTo (is : ImportsContent) (n : Text) (i : ImportContent) : Type 0
 abbrev pub IsOneOf : List Call → Collection → Type 0
 IsOneOf calls g = (c : Call) → Contains calls c → IsOneWith c.types g
 
--- each call at the front is served, owners in its item are imported, and each import and each shared entry is named as it may be; what is remembered of the collections of all calls is true
+-- each call at the front is served, owners in its item are imported, and each import and each
+-- shared entry is named as it may be; what is remembered of the collections of all calls is true
 pub record AreServed (calls front : List Call) (a : Merging) : Type 0 where
   pub truly : (g : Collection) → IsOneOf calls g → RemembersTruly class_of g (state_of a)
   pub owners : (g : Collection) → IsOneOf calls g → OwnersImported g (state_of a)

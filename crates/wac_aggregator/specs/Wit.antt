@@ -1,4 +1,5 @@
--- What holds of the state of merging once the calls at the front of a list of WIT interfaces were accepted.
+-- What holds of the state of merging once the calls at the front of a list
+-- of WIT interfaces were accepted.
 use Rattle.std.specs.Prelude.{◌≡◌, ◌≢◌, List, Some, None}
 use Rattle.std.specs.Option.{option_map}
 use Rattle.wac_component.specs.Collection.{Collection}
@@ -32,7 +33,9 @@ AreInstances a t = (i : ImportContent) → import_of a.imports t ≡ Some i → 
 abbrev pub AreUnstopped : Merging → Type 0
 AreUnstopped a = (t : Class) (i : ImportContent) → import_of a.imports t ≡ Some i → shared_in a.shared.entries t ≡ None → Each (IsUnstopped a.types) (item_keys i.1)
 
--- the members were taken in, and of the interfaces of the calls that have identifiers no others; an import is an instance of the shared entry on its track, or the meet of the plain items there, which openly leads to no interface with an identifier
+-- the members were taken in, and of the interfaces of the calls that have identifiers no others; an
+-- import is an instance of the shared entry on its track, or the meet of the plain items there,
+-- which openly leads to no interface with an identifier
 pub record IsWitAfter (calls front : List Call) (a : Merging) : Type 0 where
   pub taken : Taken
   pub has : HasTakenIn a taken
@@ -42,7 +45,8 @@ pub record IsWitAfter (calls front : List Call) (a : Merging) : Type 0 where
   pub plain : (t : Class) (i : ImportContent) → import_of a.imports t ≡ Some i → shared_in a.shared.entries t ≡ None → IsMeetOf (item_tree a.types i.1) (IsPlainTree front t)
   pub unstopped : AreUnstopped a
 
--- the item is an instance of this interface, whose identifier is the name, and an import on its track is one of the shared entry there
+-- the item is an instance of this interface, whose identifier is the name, and an import on its
+-- track is one of the shared entry there
 pub record MayHandIn (call : Call) (a : Merging) (i : Id) : Type 0 where
   pub named : IsNamedInstance call i
   pub import : AreInstances a (call_track call)

@@ -30,8 +30,8 @@ use wac_mismatch::SubtypeCheck;
 use wac_refusals::AggregateError;
 use wac_taking::Merging;
 
-/// Aggregates items of different collections into imports: items that are handed in under compatible names become
-/// one import, which fits where each of them is asked for.
+/// Aggregates items of different collections into imports: items that are handed in under
+/// compatible names become one import, which fits where each of them is asked for.
 #[derive(Debug, Drop)]
 pub struct TypeAggregator {
     pub(crate) state: Merging,
@@ -83,22 +83,26 @@ impl TypeAggregator {
         self.state.imports.canonical(name)
     }
 
-    /// Aggregates an item of a collection under a name: merges it into the import on the name's track, or makes it
-    /// an import of its own, the last.
+    /// Aggregates an item of a collection under a name: merges it into the import on the name's
+    /// track, or makes it an import of its own, the last.
     ///
-    /// The item stands in its collection, which has another number than the aggregator's. What was handed in before
-    /// with ids of its number is of this collection, which was at most added to since then.
+    /// The item stands in its collection, which has another number than the aggregator's.
+    /// What was handed in before with ids of its number is of this collection, which was
+    /// at most added to since then.
     ///
-    /// Where the name has a higher version than the import that it is merged into, the import takes the name and goes
-    /// last, and its old name leads to it; else the name leads to the import. A refusal consumes the aggregator. No
-    /// pair with an id of the aggregator stays in the checker's cache; nothing else of the checker changes.
+    /// Where the name has a higher version than the import that it is merged into, the import takes
+    /// the name and goes last, and its old name leads to it; else the name leads to the import. A
+    /// refusal consumes the aggregator. No pair with an id of the aggregator stays in the checker's
+    /// cache; nothing else of the checker changes.
     ///
-    /// A refusal but for want of memory comes only where there is that reason: with the import that stood on the track, in
-    /// the item, or, of what can't be merged with it, in what this aggregator had taken in.
+    /// A refusal but for want of memory comes only where there is that reason: with the
+    /// import that stood on the track, in the item, or, of what can't be merged with it, in
+    /// what this aggregator had taken in.
     ///
-    /// An item that reaches no interface with an identifier, no interface or world with uses, and no resource with an
-    /// owner changes no import but the one on its track, and is refused, but for want of memory, only where no item
-    /// fits where either that import or the item is asked for.
+    /// An item that reaches no interface with an identifier, no interface or world with
+    /// uses, and no resource with an owner changes no import but the one on its track, and
+    /// is refused, but for want of memory, only where no item fits where either that
+    /// import or the item is asked for.
     pub fn aggregate(
         self,
         name: &str,

@@ -35,23 +35,27 @@ pub struct Call<'a> {
 
 /// Aggregates items one after the other, in a new aggregator whose collection has this number.
 ///
-/// The items stand in their collections, none of which has this number; equal numbers mean one collection.
+/// The items stand in their collections, none of which has this number;
+/// equal numbers mean one collection.
 ///
-/// A list of items that reach no interfaces with identifiers, no uses and no owners is accepted, but for want of
-/// memory, exactly where the items of each track of names have a common lower bound, whatever the order of calls; each
-/// import is then the greatest of these.
+/// A list of items that reach no interfaces with identifiers, no uses and no owners is accepted,
+/// but for want of memory, exactly where the items of each track of names have a common lower
+/// bound, whatever the order of calls; each import is then the greatest of these.
 ///
-/// So is a list of interfaces as WIT packages give them: instances under their identifiers, whose interfaces, with each that
-/// these use, have identifiers, export functions, value types and resources alone, and use what owns their resources; and
-/// such items under names on other tracks. It is accepted, but for want of memory, exactly where the interfaces on each
-/// track have a common lower bound, and so the other items; where uses of one name, in interfaces on one track, are of one
-/// track and one name there; and where no track leads back to itself by uses. Each import is then the greatest lower bound
-/// of the interfaces on its track, or else of the items there.
+/// So is a list of interfaces as WIT packages give them: instances under their identifiers, whose
+/// interfaces, with each that these use, have identifiers, export functions, value types and
+/// resources alone, and use what owns their resources; and such items under names on other tracks.
+/// It is accepted, but for want of memory, exactly where the interfaces on each track have a common
+/// lower bound, and so the other items; where uses of one name, in interfaces on one track, are of
+/// one track and one name there; and where no track leads back to itself by uses. Each import is
+/// then the greatest lower bound of the interfaces on its track, or else of the items there.
 ///
-/// The first refusal is answered with the number of its call, from 0 on. But for want of memory it comes only where there
-/// is reason, with a collection whose imports serve the calls before it; of what else that holds nothing is said.
+/// The first refusal is answered with the number of its call, from 0 on. But for want of memory it
+/// comes only where there is reason, with a collection whose imports serve the calls before it; of
+/// what else that holds nothing is said.
 ///
-/// No pair with an id of the number stays in the checker's cache; nothing else of the checker changes.
+/// No pair with an id of the number stays in the checker's cache;
+/// nothing else of the checker changes.
 pub fn aggregate_all(
     alloc: Global,
     number: u64,

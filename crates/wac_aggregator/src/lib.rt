@@ -1,5 +1,5 @@
-//! Aggregates items of different collections into imports: what is handed in under compatible names becomes
-//! one import.
+//! Aggregates items of different collections into imports: what is handed in under
+//! compatible names becomes one import.
 #![tactic(auto)]
 
 mod aggregator;

@@ -39,8 +39,8 @@ pub(crate) fn note_import(
     }
 }
 
-// The meet of an import and of what was taken in for it: the import itself, where both are instances of one interface. Two interfaces or two worlds
-// may not disagree in what they use.
+// The meet of an import and of what was taken in for it: the import itself, where both are
+// instances of one interface. Two interfaces or two worlds may not disagree in what they use.
 fn merge_items(
     state: &mut Merging,
     existing: ItemKind,

@@ -177,7 +177,8 @@ module _ (c : Collection) (j : Key) where
   named_by_sort world_sort p h n = absurd h
   named_by_sort module_sort p h n = absurd h
 
--- an open walk from a type stays in what it is made of, or leaves that through the owner of a resource
+-- an open walk from a type stays in what it is made of, or leaves that
+-- through the owner of a resource
 pub made_or_owned : (c : Collection) (k t : Key) → IsTypeKey k → OpenReaches c k t
     → IsMadeOf c k t ⊎ ((r : Id) × (o : Id) × IsMadeOf c k (resource_key r) × (owner_at c r ≡ Some o) × OpenReaches c (interface_key o) t)
 made_or_owned c k t h walk.stay = inl itself

@@ -14,7 +14,8 @@ use Rattle.wac_names.specs.Class.{Class, class_of}
 
 -- ---- what a type is made of
 
--- the ids in a defined type, and the source of a resource that is another name of one, but not its owner
+-- the ids in a defined type, and the source of a resource that is another
+-- name of one, but not its owner
 abbrev pub made_keys : Entry → List Key
 made_keys (defined_entry d) = defined_keys d
 made_keys (resource_entry r) = option_map_or (λ a. resource_key a.source ∷ []) r.alias []
@@ -74,7 +75,8 @@ are_of_one_tree c f s t p q = ⊥
 abbrev pub AreOfOneTree : Collection → Collection → Key → Key → Type 0
 AreOfOneTree c f a b = are_of_one_tree c f a.sort b.sort a.id b.id
 
--- a type of c and one of f have one tree, and the owners of the resources that they are made of have identifiers, which are on the same tracks
+-- a type of c and one of f have one tree, and the owners of the resources that they are made of
+-- have identifiers, which are on the same tracks
 pub record AreAlike (c f : Collection) (a b : Key) : Type 0 where
   pub same : AreOfOneTree c f a b
   pub ours : AreOwnersIdentified c a

@@ -16,9 +16,10 @@ use wac_checker::SubtypeChecker;
 use wac_component::{DefinedTypeId, ItemKind, ResourceId, Type, Types, ValueType};
 use wac_mismatch::SubtypeError;
 
-/// Whether a resource of a collection and a resource of another one are alike: their names at the roots of their
-/// aliases are equal, each owner of a resource that either is made of has an identifier, and these are on the same
-/// tracks. Then the answer is the resources with an owner that the other one is made of.
+/// Whether a resource of a collection and a resource of another one are alike: their names at the
+/// roots of their aliases are equal, each owner of a resource that either is made of has an
+/// identifier, and these are on the same tracks. Then the answer is the resources with an owner
+/// that the other one is made of.
 ///
 /// The collections have different numbers, or are one. `Err` is want of memory.
 pub fn alike_resources(
@@ -41,9 +42,9 @@ pub fn alike_resources(
     alike_owners(alloc, own, Part::Resource(a), types, Part::Resource(b))
 }
 
-/// Whether a defined type of a collection and a defined type of another one are alike: their trees are equal, each
-/// owner of a resource that either is made of has an identifier, and these are on the same tracks. Then the answer
-/// is the resources with an owner that the other one is made of.
+/// Whether a defined type of a collection and a defined type of another one are alike: their trees
+/// are equal, each owner of a resource that either is made of has an identifier, and these are on
+/// the same tracks. Then the answer is the resources with an owner that the other one is made of.
 ///
 /// The collections have different numbers, or are one. `Err` is want of memory.
 pub fn alike_values(

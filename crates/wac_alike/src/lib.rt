@@ -1,5 +1,5 @@
-//! Types of two collections that are alike: they have equal trees, and the owners of the resources that they are made
-//! of are on the same tracks.
+//! Types of two collections that are alike: they have equal trees, and the owners of the resources
+//! that they are made of are on the same tracks.
 #![tactic(auto)]
 
 mod alike;

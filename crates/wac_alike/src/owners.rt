@@ -36,7 +36,8 @@ fn track_of(
     }
 }
 
-// Notes the track of a resource's owner, if it has one, and answers whether it has none without identifier.
+// Notes the track of a resource's owner, if it has one, and answers whether
+// it has none without identifier.
 fn note_track(
     alloc: Global,
     tracks: &mut IndexSet<NameClass>,

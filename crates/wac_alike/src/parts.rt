@@ -105,8 +105,8 @@ fn push_members(parts: &mut Vec<Part>, ty: &DefinedType) -> Result<(), AllocErro
     }
 }
 
-/// What a defined type or a resource is made of: what a defined type names, and the source of a resource that is
-/// another name of one.
+/// What a defined type or a resource is made of: what a defined type names, and the source of a
+/// resource that is another name of one.
 pub(crate) fn parts_in(alloc: Global, types: &Types, part: Part) -> Result<Vec<Part>, AllocError>
     requires { Stands types.now (key_of part) }
     ensures { IfOk result (λ ps. map key_of ps.items ≡ made_next types.now (key_of part)) }

@@ -13,7 +13,8 @@ def list d0
 def option s8
 def list d2";
 
-// Why a list of options of one type doesn't fit where one of another is asked for, in a collection of `LISTS`.
+// Why a list of options of one type doesn't fit where one of another is asked
+// for, in a collection of `LISTS`.
 fn refusal(alloc: Global, types: &Types) -> Result<SubtypeError, Fail> {
     let (a, b) = (defined(types, 1)?, defined(types, 3)?);
     let a = ItemKind::Value(ValueType::Defined(a));

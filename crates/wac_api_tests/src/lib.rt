@@ -1,4 +1,5 @@
-//! Tests of what a script can't ask: values handed out, what stays over several calls, failing writers.
+//! Tests of what a script can't ask: values handed out, what stays over
+//! several calls, failing writers.
 #![tactic(auto)]
 
 #[cfg(test)]

@@ -1,5 +1,5 @@
-//! Maps of names over interners of a caller's own: two maps of one interner, what is lent, and clones; and how
-//! versions of names are ordered.
+//! Maps of names over interners of a caller's own: two maps of one interner, what is lent, and
+//! clones; and how versions of names are ordered.
 
 use std::alloc::Global;
 use std::cmp::Ordering;
@@ -27,8 +27,8 @@ fn put(map: &mut Map, cx: &mut Countdown, name: &str, value: u32) -> usize {
     }
 }
 
-// Whether in a new map a name that is on the track of another, and has the other's track key as its own name,
-// stands alone.
+// Whether in a new map a name that is on the track of another, and has the other's track key
+// as its own name, stands alone.
 fn stands_alone(alloc: Global, cx: &mut Countdown) -> bool {
     let mut map: Map = NameMap::new(alloc);
     let before = value(&map, cx, "a:b/c@1.0.0");

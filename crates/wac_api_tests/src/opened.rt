@@ -16,8 +16,8 @@ fn tuples(alloc: Global, number: u64) -> Result<Types, Fail> {
     Ok(built(alloc, number, &lines)?)
 }
 
-// How many pairs a new checker compares where the last tuple of one collection fits where that of another is asked for, and how
-// many where it is asked again.
+// How many pairs a new checker compares where the last tuple of one collection fits where that of
+// another is asked for, and how many where it is asked again.
 fn opened(alloc: Global, at: &Types, bt: &Types) -> Result<(usize, usize), Fail> {
     if at.number() == bt.number() {
         return Err(Fail::new("the collections have one number"));

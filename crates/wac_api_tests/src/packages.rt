@@ -8,8 +8,8 @@ use std::test::Fail;
 use wac_script_entries::built;
 use wac_types::{BorrowedKey, BorrowedPackageKey, Package, PackageKey, same_key};
 
-// A world that imports an instance as `in` and exports it as `out`, and exports the type of a world that
-// exports it under the name of an interface as `d`.
+// A world that imports an instance as `in` and exports it as `out`, and exports the type of a world
+// that exports it under the name of an interface as `d`.
 const PLUG: &str = "func sync -
 iface - e:f=F:fn0
 world - e:wasi:http/types=I:i0

@@ -46,8 +46,8 @@ static LINES: [Line; 12] = [
     (&["compatible", "a:b/c@0.2.0"], "", USAGE, 2),
 ];
 
-// Runs a command line over writers whose writes of this number fail; whether one did. Then the status is 1,
-// nothing more is written, and what was written is the front of what the line prints.
+// Runs a command line over writers whose writes of this number fail; whether one did. Then the
+// status is 1, nothing more is written, and what was written is the front of what the line prints.
 fn fails<R: Abort>(rt: &R, alloc: Global, line: &Line, number: u32) -> bool {
     let (words, text, error, status) = line;
     let mut out = Expecting::failing_at(text, number);

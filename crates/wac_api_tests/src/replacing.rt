@@ -1,4 +1,5 @@
-//! What replacing an entry answers where that would close a cycle: the content is handed back, and nothing changes.
+//! What replacing an entry answers where that would close a cycle: the content is
+//! handed back, and nothing changes.
 
 use super::finding::defined;
 use super::showing::debugs;

@@ -1,4 +1,5 @@
-//! Entries that share others, thirty levels deep: what is made once for each pair of them, and not once for each use.
+//! Entries that share others, thirty levels deep: what is made once for each pair of
+//! them, and not once for each use.
 
 use super::finding::interface;
 use std::alloc::{AllocError, Global};
@@ -6,7 +7,8 @@ use std::test::Fail;
 use wac_script_entries::built;
 use wac_types::{ItemKind, Types, join, meet};
 
-// Two chains of interfaces, whose first ones have an export each: every next one exports the one before it in its chain twice.
+// Two chains of interfaces, whose first ones have an export each: every next one exports the
+// one before it in its chain twice.
 fn chains(alloc: Global) -> Result<Types, Fail> {
     let first = "func sync -\niface - e:f=F:fn0\niface - e:g=F:fn0";
     let mut lines = String::from_str(alloc, first)?;

@@ -24,7 +24,8 @@ abbrev pub IsTable : {K V M : Type 0} → (M → K → Option V) → (K → Opti
 IsTable {K} look g None = (k : K) × (g k ≡ None)
 IsTable {K} look g (Some m) = (k : K) → g k ≡ Some (look m k)
 
--- o has at each name the meet of what a and b have there; where it is none, these have no meet at some name
+-- o has at each name the meet of what a and b have there; where it is none,
+-- these have no meet at some name
 abbrev pub IsMeetByName : {K V M : Type 0} → (V → V → Type 0) → (M → K → Option V) → (a b : K → Option V) → Option M → Type 0
 IsMeetByName {K} R look a b None = (k : K) × IsMeetIn (Serves R) (a k) (b k) None
 IsMeetByName {K} R look a b (Some m) = (k : K) → IsMeetIn (Serves R) (a k) (b k) (Some (look m k))
@@ -34,8 +35,8 @@ abbrev pub meet_or : {V : Type 0} → (V → V → Option V) → Option V → Op
 meet_or f None b t = Some t
 meet_or f (Some v) b t = option_map Some (met (f v) v b)
 
--- a step: the first collection has v at n, and at other names what a has; the second has what b has.
--- `look m k` is what the collection m has at the name k
+-- a step: the first collection has v at n, and at other names what a has; the second has what b
+-- has. `look m k` is what the collection m has at the name k
 module _ {K V M : Type 0} (is_same : K → K → Bool) (decides : (j k : K) → Decides (is_same j k) (j ≡ k))
     (look : M → K → Option V) (add : K → V → M → M) (add_at : (n : K) (v : V) (m : M) (k : K) → look (add n v m) k ≡ cond (is_same k n) (Some v) (look m k))
     (f : V → V → Option V) (n : K) (v : V) (a b : K → Option V) where

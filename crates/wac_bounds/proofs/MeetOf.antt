@@ -1,4 +1,5 @@
--- The meet and the join of two values in any relation, and of what two collections have at one name.
+-- The meet and the join of two values in any relation, and of what
+-- two collections have at one name.
 use Rattle.std.proofs.Common.{◌≡◌, refl, Option, Some, None, option_map, option_and_then}
 use Rattle.wac_model.specs.CoreTree.{Serves}
 use Rattle.wac_bounds.specs.MeetIn.{IsMeetIn, IsJoinIn}

@@ -1,4 +1,5 @@
--- `tree_meet` gives the meet, and none exactly where there is no lower bound; `tree_join` the join likewise.
+-- `tree_meet` gives the meet, and none exactly where there is no lower bound;
+-- `tree_join` the join likewise.
 use Rattle.std.proofs.Common.{◌≡◌, sym, subst, subst₂, ◌∙◌, Option, Some, None, option_map}
 use Rattle.wac_model.specs.Text.{Text}
 use Rattle.wac_model.specs.CoreTree.{ModuleTree, Serves}

@@ -1,5 +1,5 @@
--- Bounds of a list of trees: its meet is the greatest tree that is below each of them in the order "fits", its join
--- the least that is above each.
+-- Bounds of a list of trees: its meet is the greatest tree that is below each of them in the order
+-- "fits", its join the least that is above each.
 use Rattle.std.specs.Prelude.{List, All, Option, Some, None}
 use Rattle.wac_model.specs.ItemTree.{ItemTree}
 use Rattle.wac_model.specs.Order.{Fits}

@@ -34,7 +34,8 @@ MeetsDependOnMembers = (ts us : List ItemTree) → HaveSameMembers ts us → (m 
 abbrev pub JoinsDependOnMembers : Type 0
 JoinsDependOnMembers = (ts us : List ItemTree) → HaveSameMembers ts us → (m : ItemTree) → IsJoin m ts ↔ IsJoin m us
 
--- what is below a list's meet and below one tree more is below the list with that tree, and the other way round
+-- what is below a list's meet and below one tree more is below the list with
+-- that tree, and the other way round
 abbrev pub BoundsOfMore : Type 0
 BoundsOfMore = (ts : List ItemTree) (m t c : ItemTree) → IsMeet m ts → (Fits c m × Fits c t) ↔ IsLowerBound c (t ∷ ts)
 

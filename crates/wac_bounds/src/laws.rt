@@ -32,8 +32,8 @@ pub fn joins_depend_on_members()
     ensures { JoinsDependOnMembers }
 {}
 
-/// What is below the meet of a list and below one tree more is below all of these trees, and the other
-/// way round.
+/// What is below the meet of a list and below one tree more is below all of these
+/// trees, and the other way round.
 pub fn bounds_of_a_meet_are_bounds_of_all()
     ensures { BoundsOfMore }
 {}

@@ -1,4 +1,5 @@
--- A walk from an interface as WIT packages give them to another leads to one that is reached by uses.
+-- A walk from an interface as WIT packages give them to another leads
+-- to one that is reached by uses.
 use Rattle.std.proofs.Common.{arith, ◌≡◌, ◌⊎◌, inl, inr, refl, subst, sym, ap, ◌∙◌, List, [], ◌∷◌, Option, Some, None, option_map, option_and_then, Contains, slice_get}
 use Rattle.std.specs.Option.{option_map_or}
 use Rattle.std.proofs.lemmas.List.Elements.{All-contains}

@@ -22,7 +22,8 @@ pub record OwnsOn (c : Call) (t : Class) : Type 0 where
   pub owned : owner_at c.types resource ≡ Some owner
   pub is_on : IsIdentifiedOn c.types owner t
 
--- the track of a handed-in name, or of the identifier of an owner that a handed-in item openly reaches
+-- the track of a handed-in name, or of the identifier of an owner that
+-- a handed-in item openly reaches
 pub data IsDue (calls : List Call) (t : Class) : Type 0 where
   of_name : (c : Call) → IsCallOn calls t c → IsDue calls t
   of_owner : (c : Call) → Contains calls c → OwnsOn c t → IsDue calls t
@@ -47,8 +48,8 @@ pub record IsReachedIdentifier (calls : List Call) (name : Text) : Type 0 where
 abbrev pub IsHandedInName : List Call → Text → Type 0
 IsHandedInName calls name = (c : Call) × Contains calls c × (c.name ≡ name)
 
--- what an import may be named: a handed-in name or the identifier of an interface reached, where no handed-in name on
--- its track has a higher version
+-- what an import may be named: a handed-in name or the identifier of an interface reached, where no
+-- handed-in name on its track has a higher version
 pub record IsImportName (calls : List Call) (name : Text) : Type 0 where
   pub due : IsDue calls (class_of name)
   pub source : IsHandedInName calls name ⊎ IsReachedIdentifier calls name

@@ -35,7 +35,8 @@ use Rattle.wac_call_lists.specs.WitList.{IsNamedInstance, IsLeafItem, IsWitList,
 use Rattle.wac_call_lists.specs.WitReason.{IsWitReason}
 use Rattle.wac_call_lists.specs.WitRun.{AreMembers, AreWitImports, IsWitRun}
 
--- plain items that are met one after another are accepted exactly where they are compatible, and each import is the meet of its track
+-- plain items that are met one after another are accepted exactly where they are compatible, and
+-- each import is the meet of its track
 abbrev pub PlainRunsAnswer : Type 0
 PlainRunsAnswer = (calls : List Call) (a : Answer) → IsPlainList calls → IsPlainRun 0 no_imports calls a → IsPlainAnswer calls a
 
@@ -47,7 +48,8 @@ PlainRunsExist = (calls : List Call) → (a : Answer) × IsPlainRun 0 no_imports
 abbrev pub PlainAnswersInAnyOrder : Type 0
 PlainAnswersInAnyOrder = (calls others : List Call) (a b : Answer) → IsPermutation calls others → IsPlainAnswer calls a → IsPlainAnswer others b → AreSameAnswers a b
 
--- a plain list is a WIT list without members, compatible as the one exactly where it is as the other
+-- a plain list is a WIT list without members, compatible as the one
+-- exactly where it is as the other
 pub record PlainListsAreWitLists : Type 0 where
   pub is_wit : (calls : List Call) → IsPlainList calls → IsWitList calls
   pub no_member : (calls : List Call) (c : Collection) (i : Id) → IsPlainList calls → ¬ IsMember calls c i
@@ -59,7 +61,8 @@ pub record PlainListsAreWitLists : Type 0 where
 abbrev pub MembersAreLeafMaps : Type 0
 MembersAreLeafMaps = (calls : List Call) (c : Collection) (i : Id) → IsWitList calls → AreSoundCalls calls → IsMember calls c i → IsLeafMap (item_tree c (Instance i))
 
--- the tree of an instance whose exports are leaves follows from these leaves, in whatever collection has them
+-- the tree of an instance whose exports are leaves follows from these leaves,
+-- in whatever collection has them
 abbrev pub LeafInstancesFollowLeaves : Type 0
 LeafInstancesFollowLeaves = (c d : Collection) (i : Id) → IsSound c → IsSound d → HasLeavesOf c d → Stands d (interface_key i) → All (λ e. IsLeafItem e.1) (exports_at d (interface_key i))
     → AllStand c (named_keys item_keys (exports_at d (interface_key i))) → item_tree d (Instance i) ≡ composite item interface no_items (items_of (item_tree c) (exports_at d (interface_key i)))
@@ -81,14 +84,15 @@ pub record SourcesGrow : Type 0 where
   pub leads : (start : Collection) (calls others : List Call) → ((c : Call) → Contains calls c → Contains others c)
       → (s t : Class) → Leads (TrackLeads (record { start = start; calls = calls })) s t → Leads (TrackLeads (record { start = start; calls = others })) s t
 
--- where a shared entry can't take in a member of a WIT list, after some were taken in, the list isn't compatible
+-- where a shared entry can't take in a member of a WIT list, after some were
+-- taken in, the list isn't compatible
 abbrev pub RefusedMembersAreIncompatible : Type 0
 RefusedMembersAreIncompatible = (calls : List Call) (taken : Taken) (own : Collection) (shared : SharedEntries) (c : Collection) (i : Id)
     → IsWitList calls → AreShared taken own shared → ((d : Collection) (j : Id) → Contains taken (d, j) → IsMember calls d j)
     → IsMember calls c i → CannotTake own shared c i → ¬ IsCompatibleWitList calls
 
--- nothing is shared before anything was taken in; what is shared stays so where the collection is only added to, and where
--- one more interface is taken in
+-- nothing is shared before anything was taken in; what is shared stays so where the collection is
+-- only added to, and where one more interface is taken in
 pub record SharingGoesOn : Type 0 where
   pub start : (own : Collection) → IsSound own → AreShared [] own none_shared
   pub added : (taken : Taken) (own after : Collection) (shared : SharedEntries) → AreShared taken own shared → Extends own after → IsSound after → AreShared taken after shared
@@ -99,7 +103,8 @@ pub record GrowthTakesIn : Type 0 where
   pub added : (taken : Taken) (own after : Collection) (shared now : SharedEntries) (c : Collection) (i : Id) → IsSound c → Stands c (interface_key i) → AreShared taken own shared → IsAdded own shared after now c i → TakesIn own shared after now c i
   pub grown : (taken : Taken) (own after : Collection) (shared : SharedEntries) (c : Collection) (i : Id) → IsSound c → Stands c (interface_key i) → AreShared taken own shared → IsGrown own shared after c i → TakesIn own shared after shared c i
 
--- one call more has the members of those before it and, where its item is a named instance, what that reaches by uses
+-- one call more has the members of those before it and, where its item is a named
+-- instance, what that reaches by uses
 abbrev pub MembersOfMore : Type 0
 MembersOfMore = (front : List Call) (call : Call) (c : Collection) (i : Id)
     → IsMember (front ++ call ∷ []) c i ↔ (IsMember front c i ⊎ ((call.types ≡ c) × ((j : Id) × IsNamedInstance call j × ReachesByUses c j i)))
@@ -119,7 +124,8 @@ pub record WitAnswersInAnyOrder : Type 0 where
   pub due : (calls others : List Call) (t : Class) → IsPermutation calls others → IsDue calls t → IsDue others t
   pub answers : (calls others : List Call) (a b : Answer) → IsPermutation calls others → IsWitAnswer calls a → IsWitAnswer others b → AreSameAnswers a b
 
--- where calls serve their items one after another, each import serves all that was handed in on its track
+-- where calls serve their items one after another, each import serves all
+-- that was handed in on its track
 abbrev pub StepsServeAll : Type 0
 StepsServeAll = (a b : Aggregated) (calls : List Call) → AreSteps a calls b → IsByTrack b → AllAreServed calls b
 
@@ -141,16 +147,18 @@ ClashingExportsHaveNoBound = (c d : Collection) (i j : Id) (name : Text) (x y : 
 abbrev pub WitReasonsAreReasons : Type 0
 WitReasonsAreReasons = (a : Attempt) (why : Refusal) → Touches a → IsWitReason a why → IsReason a why
 
--- answers are exact: a list is accepted exactly where it is compatible, and each refused list has one call that is refused
+-- answers are exact: a list is accepted exactly where it is compatible, and each refused
+-- list has one call that is refused
 pub record AnswersAreExact : Type 0 where
   pub plain : (calls : List Call) (a : Answer) → IsPlainAnswer calls a → IsAccepted a ↔ IsCompatiblePlainList calls
   pub wit : (calls : List Call) (a : Answer) → IsWitAnswer calls a → IsAccepted a ↔ IsCompatibleWitList calls
   pub one_plain_call : (calls : List Call) (m n : ℕ) → IsPlainAnswer calls (refused m) → IsPlainAnswer calls (refused n) → m ≡ n
   pub one_wit_call : (calls : List Call) (m n : ℕ) → IsWitAnswer calls (refused m) → IsWitAnswer calls (refused n) → m ≡ n
 
--- after every accepted list the import at the canonical name of each name that was handed in is a subtype of every item
--- that was handed in on that name's track; a list of plain items, or of WIT interfaces, is accepted exactly where its
--- tracks are compatible; and each import is then the greatest lower bound of its track, whatever the order of calls
+-- after every accepted list the import at the canonical name of each name that was handed in is a
+-- subtype of every item that was handed in on that name's track; a list of plain items, or of WIT
+-- interfaces, is accepted exactly where its tracks are compatible; and each import is then the
+-- greatest lower bound of its track, whatever the order of calls
 pub record ImportsAreGreatestBounds : Type 0 where
   pub serves : (calls : List Call) (a : Aggregated) → IsAggregated calls a
       → (c d : Call) → Contains calls c → Contains calls d → call_track d ≡ call_track c → (import : ItemKind) × (import_of a c.name ≡ Some import) × Fits (item_tree a.types import) (call_tree d)

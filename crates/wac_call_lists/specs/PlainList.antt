@@ -11,7 +11,8 @@ use Rattle.wac_names.specs.Class.{Class}
 use Rattle.wac_call_lists.specs.Call.{Call, IsItemOn}
 use Rattle.wac_call_lists.specs.TreeSets.{HaveLowerBound}
 
--- the ids reach no interface with an identifier, no interface or world with uses, and no resource with an owner
+-- the ids reach no interface with an identifier, no interface or world with
+-- uses, and no resource with an owner
 pub record ArePlain (c : Collection) (ks : List Key) : Type 0 where
   pub no_identifier : (j : Id) → NamesReach c ks (interface_key j) → identifier c j ≡ None
   pub no_uses : (k : Key) → NamesReach c ks k → uses_at c k ≡ []

@@ -29,7 +29,8 @@ pub data Refusal : Type 0 where
   taken : (name : Text) → Refusal
   cycle : (interface : Text) → Refusal
 
--- the import on the name's track and the item differ in case, or in the case of their type; these are their descriptions
+-- the import on the name's track and the item differ in case, or in the case of their
+-- type; these are their descriptions
 pub record KindsDiffer (a : Attempt) (existing found : Text) : Type 0 where
   pub tree : ItemTree
   pub stood : a.import ≡ Some tree
@@ -70,7 +71,8 @@ pub record OwnerUnidentified (a : Attempt) (name : Text) : Type 0 where
   pub owned : owner_at a.call.types resource ≡ Some owner
   pub unidentified : identifier a.call.types owner ≡ None
 
--- no import stood on the name's track, and the item openly reaches an owner whose identifier is on it
+-- no import stood on the name's track, and the item openly reaches an
+-- owner whose identifier is on it
 pub record IsTaken (a : Attempt) (name : Text) : Type 0 where
   pub none_stood : a.import ≡ None
   pub resource : Id
@@ -92,7 +94,8 @@ pub record TrackLeads (sources : Sources) (s t : Class) : Type 0 where
   pub another : to ≢ from
   pub walk : OpenReaches types (interface_key from) (interface_key to)
 
--- the item openly reaches an interface with the identifier, from whose track this relation leads back to it
+-- the item openly reaches an interface with the identifier, from whose track
+-- this relation leads back to it
 pub record ClosesCycle (a : Attempt) (name : Text) : Type 0 where
   pub interface : Id
   pub reached : OpenlyReached a (interface_key interface)

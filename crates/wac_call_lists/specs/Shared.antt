@@ -1,4 +1,5 @@
--- The shared entries of an aggregator, after it took in some interfaces with identifiers that export leaves alone.
+-- The shared entries of an aggregator, after it took in some interfaces with
+-- identifiers that export leaves alone.
 use Rattle.std.specs.Prelude.{◌≡◌, ◌≢◌, List, Option, Some, All, Contains}
 use Rattle.std.specs.Str.{bytes_eq}
 use Rattle.wac_model.specs.Text.{Text, lookup}
@@ -34,7 +35,8 @@ pub record IsTakenTree (taken : Taken) (t : Class) (tree : ItemTree) : Type 0 wh
   pub is_on : IsTakenOn taken t types id
   pub is_tree : tree ≡ item_tree types (Instance id)
 
--- the aggregator's use v is the interface's use u: of the shared entry on its track, and with its `name`
+-- the aggregator's use v is the interface's use u: of the shared entry on
+-- its track, and with its `name`
 pub record IsUseOf (shared : SharedEntries) (v : UseContent) (c : Collection) (u : UseContent) : Type 0 where
   pub track : Class
   pub is_on : IsIdentifiedOn c u.interface track
@@ -69,8 +71,9 @@ pub record AreShared (taken : Taken) (own : Collection) (shared : SharedEntries)
   pub uses : (t : Class) (s : Id) (c : Collection) (i : Id) (name : Text) (u : UseContent) → shared t ≡ Some s → IsTakenOn taken t c i → HasUse c (interface_key i) name u → HasSharedUse own shared s name c u
   pub no_others : (t : Class) (s : Id) (name : Text) (v : UseContent) → shared t ≡ Some s → lookup bytes_eq (uses_at own (interface_key s)) name ≡ Some v → IsTakenUse taken shared t name v
 
--- why the shared entry on an interface's track can't take it in: their trees have no common lower bound, or a use of the
--- one is of an interface on another track than the other's use of this name, or has another `name`
+-- why the shared entry on an interface's track can't take it in: their trees have no common
+-- lower bound, or a use of the one is of an interface on another track than the other's use of
+-- this name, or has another `name`
 pub data CannotTake (own : Collection) (shared : SharedEntries) (c : Collection) (i : Id) : Type 0 where
   no_bound : (t : Class) (s : Id) → IsIdentifiedOn c i t → shared t ≡ Some s → HaveNoLowerBound (item_tree own (Instance s)) (item_tree c (Instance i)) → CannotTake own shared c i
   interfaces_clash : (t : Class) (s : Id) (name : Text) (v u : UseContent) (on other_on : Class) → IsIdentifiedOn c i t → shared t ≡ Some s

@@ -43,8 +43,8 @@ pub record IsNewUse (shared : SharedEntries) (c : Collection) (i : Id) (name : T
   pub has : HasUse c (interface_key i) name content
   pub is_use : IsUseOf shared v c content
 
--- the interface at i is taken in, after those that it uses: as a new entry with its tree, or by the entry that stood on its
--- track, whose tree is met with its own. The entry has what uses either has
+-- the interface at i is taken in, after those that it uses: as a new entry with its tree, or by the
+-- entry that stood on its track, whose tree is met with its own. The entry has what uses either has
 pub record TakesIn (own : Collection) (shared : SharedEntries) (after : Collection) (now : SharedEntries) (c : Collection) (i : Id) : Type 0 where
   pub sound : IsSound after
   pub track : Class
@@ -66,7 +66,8 @@ pub record TakesIn (own : Collection) (shared : SharedEntries) (after : Collecti
 abbrev pub none_shared : SharedEntries
 none_shared t = None
 
--- where none stood on the track, an entry is added whose exports are those of the interface, and whose uses are its uses
+-- where none stood on the track, an entry is added whose exports are those of the
+-- interface, and whose uses are its uses
 pub record IsAdded (own : Collection) (shared : SharedEntries) (after : Collection) (now : SharedEntries) (c : Collection) (i : Id) : Type 0 where
   pub sound : IsSound after
   pub grows : Extends own after
@@ -87,7 +88,8 @@ pub record IsAdded (own : Collection) (shared : SharedEntries) (after : Collecti
   pub is_entry : now track ≡ Some entry
   pub others : (t : Class) → t ≢ track → now t ≡ shared t
 
--- where one stood, its content is replaced by one whose exports are met name by name, and whose uses are those of both
+-- where one stood, its content is replaced by one whose exports are met name by name,
+-- and whose uses are those of both
 pub record IsGrown (own : Collection) (shared : SharedEntries) (after : Collection) (c : Collection) (i : Id) : Type 0 where
   pub sound : IsSound after
   pub same_leaves : HasLeavesOf own after

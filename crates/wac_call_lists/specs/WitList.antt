@@ -1,5 +1,5 @@
--- Lists of calls as the interfaces of WIT packages give them: instances under their identifiers, whose interfaces export
--- types and functions, and plain items under other names.
+-- Lists of calls as the interfaces of WIT packages give them: instances under their identifiers,
+-- whose interfaces export types and functions, and plain items under other names.
 use Rattle.std.specs.Prelude.{◌≡◌, ◌⊎◌, List, All, Contains, Some}
 use Rattle.wac_model.specs.ItemTree.{ItemTree}
 use Rattle.wac_component.specs.Id.{Id}
@@ -62,8 +62,8 @@ IsLeafItem (OfType (TypeValue v)) = Unit {0}
 IsLeafItem (OfType (TypeResource r)) = Unit {0}
 IsLeafItem i = ⊥
 
--- interfaces of a collection, with each that one of them uses: identified, with leaves as exports; and what owns a resource
--- that one reaches is reached from it by uses
+-- interfaces of a collection, with each that one of them uses: identified, with leaves as exports;
+-- and what owns a resource that one reaches is reached from it by uses
 pub record AreWit (c : Collection) (P : Id → Type 0) : Type 0 where
   pub uses : (i j : Id) → P i → Uses c i j → P j
   pub identified : (i : Id) → P i → HasIdentifier c i

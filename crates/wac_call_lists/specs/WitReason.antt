@@ -1,4 +1,5 @@
--- Where a call of a list of WIT interfaces may be refused: exports and uses clash only in interfaces on one track.
+-- Where a call of a list of WIT interfaces may be refused: exports and uses clash
+-- only in interfaces on one track.
 use Rattle.std.specs.Prelude.{◌⊎◌, ◌≡◌}
 use Rattle.wac_component.specs.Id.{Id}
 use Rattle.wac_component.specs.Collection.{Collection}

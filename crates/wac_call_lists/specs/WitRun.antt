@@ -1,5 +1,5 @@
--- How lists of WIT interfaces are handed in one after another, on a new aggregator: what holds of it after the calls that
--- it accepted, and what stands where it refuses one.
+-- How lists of WIT interfaces are handed in one after another, on a new aggregator: what holds of
+-- it after the calls that it accepted, and what stands where it refuses one.
 use Rattle.std.specs.Prelude.{◌≡◌, ◌↔◌, List, [], ◌∷◌, ◌++◌, length, Contains, IsSome, Some, None}
 use Rattle.wac_model.specs.Text.{Text}
 use Rattle.wac_model.specs.ItemTree.{ItemTree}
@@ -18,7 +18,8 @@ use Rattle.wac_call_lists.specs.Shared.{Taken, SharedEntries, AreShared, CannotT
 use Rattle.wac_call_lists.specs.TreeSets.{IsMeetOf}
 use Rattle.wac_call_lists.specs.WitList.{IsMember, IsPlainTree, IsTreeOn}
 
--- imports stand on exactly the due tracks: where there is a shared entry, that one, and else the meet of the plain items
+-- imports stand on exactly the due tracks: where there is a shared entry, that one, and
+-- else the meet of the plain items
 pub record AreWitImports (calls : List Call) (own : Collection) (shared : SharedEntries) (imports : Imports) : Type 0 where
   pub due : (t : Class) → IsDue calls t ↔ IsSome (imports t)
   pub of_members : (t : Class) (s : Id) (m : ItemTree) → shared t ≡ Some s → imports t ≡ Some m → m ≡ item_tree own (Instance s)
@@ -35,9 +36,9 @@ pub record IsWitState (calls : List Call) (own : Collection) (shared : SharedEnt
   pub kept : AreShared taken own shared
   pub meets : AreMeets (IsTreeOn calls) calls imports
 
--- why a call is refused that comes after these: what the table says of it and the import on its track alone; or the uses of
--- the members lead from a track back to it; or a member that the shared entry on its track can't take in, after some members
--- were taken in
+-- why a call is refused that comes after these: what the table says of it and the import on its
+-- track alone; or the uses of the members lead from a track back to it; or a member that the shared
+-- entry on its track can't take in, after some members were taken in
 pub data IsWitRefusal (front : List Call) (call : Call) (own : Collection) (imports : Imports) : Type 0 where
   by_kinds : (existing found : Text) → KindsDiffer (single_attempt own (imports (call_track call)) call) existing found → IsWitRefusal front call own imports
   by_import : ImportClashes (single_attempt own (imports (call_track call)) call) → IsWitRefusal front call own imports

@@ -2,17 +2,17 @@
 
 ghost use Rattle.wac_call_lists.specs.Laws.{AnswersAreExact, ClashingExportsHaveNoBound, CompatibleListsAreAccepted, GrowthTakesIn, ImportsAreGreatestBounds, LeafInstancesFollowLeaves, MeetsAreUnions, MembersAreLeafMaps, MembersOfMore, NamedImportsAreDue, NamesLeadToTracks, PlainAnswersInAnyOrder, PlainListsAreWitLists, PlainRunsAnswer, PlainRunsExist, RefusedMembersAreIncompatible, SharingGoesOn, SourcesGrow, StepsServeAll, WitAnswersInAnyOrder, WitImportsAreMeets, WitReasonsAreReasons, WitRunsAnswer};
 
-/// After every accepted list the import at the canonical name of each name that was handed in is a subtype
-/// of every item that was handed in on that name's track. A list of plain items, or of WIT interfaces, is
-/// accepted exactly where its tracks are compatible. Each import is then the greatest lower bound of its
-/// track, whatever the order of calls.
+/// After every accepted list the import at the canonical name of each name that was handed in is a
+/// subtype of every item that was handed in on that name's track. A list of plain items, or of WIT
+/// interfaces, is accepted exactly where its tracks are compatible. Each import is then the
+/// greatest lower bound of its track, whatever the order of calls.
 pub fn imports_are_greatest_bounds()
     ensures { ImportsAreGreatestBounds }
 {}
 
 /// Plain items that are met one after another are accepted exactly where the items of each track
-/// have a common lower bound. Each import is the meet of its track, and the refused call is the first
-/// with which the calls so far aren't compatible.
+/// have a common lower bound. Each import is the meet of its track, and the refused call is the
+/// first with which the calls so far aren't compatible.
 pub fn plain_runs_answer()
     ensures { PlainRunsAnswer }
 {}
@@ -37,7 +37,8 @@ pub fn members_are_leaf_maps()
     ensures { MembersAreLeafMaps }
 {}
 
-/// The tree of an instance whose exports are leaves follows from these, in whatever collection has them.
+/// The tree of an instance whose exports are leaves follows from these, in
+/// whatever collection has them.
 pub fn leaf_instances_follow_leaves()
     ensures { LeafInstancesFollowLeaves }
 {}
@@ -68,8 +69,8 @@ pub fn wit_answers_in_any_order()
     ensures { WitAnswersInAnyOrder }
 {}
 
-/// Where calls serve their items one after another, each import serves all that was handed in on its
-/// track.
+/// Where calls serve their items one after another, each import serves all
+/// that was handed in on its track.
 pub fn steps_serve_all()
     ensures { StepsServeAll }
 {}
@@ -79,8 +80,8 @@ pub fn answers_are_exact()
     ensures { AnswersAreExact }
 {}
 
-/// After each interface that is taken in, its track's shared entry is the meet of those on the track and
-/// has their uses.
+/// After each interface that is taken in, its track's shared entry is the meet of those on
+/// the track and has their uses.
 pub fn sharing_goes_on()
     ensures { SharingGoesOn }
 {}
@@ -105,13 +106,14 @@ pub fn wit_reasons_are_reasons()
     ensures { WitReasonsAreReasons }
 {}
 
-/// One call more has the members of those before it and what its item, where it is a named instance,
-/// reaches by uses.
+/// One call more has the members of those before it and what its item, where it is a
+/// named instance, reaches by uses.
 pub fn members_of_more()
     ensures { MembersOfMore }
 {}
 
-/// Where the imports on members' tracks are the shared entries, each import is the meet of its track.
+/// Where the imports on members' tracks are the shared entries, each
+/// import is the meet of its track.
 pub fn wit_imports_are_meets()
     ensures { WitImportsAreMeets }
 {}
@@ -121,7 +123,8 @@ pub fn growth_takes_in()
     ensures { GrowthTakesIn }
 {}
 
-/// What is a source is one where there are more calls, and tracks lead to each other where they did.
+/// What is a source is one where there are more calls, and tracks lead
+/// to each other where they did.
 pub fn sources_grow()
     ensures { SourcesGrow }
 {}

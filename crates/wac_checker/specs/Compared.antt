@@ -42,7 +42,8 @@ IsSeen c d ps p i (New q) = PairHasPart c d p i × (Contains ps q → ⊥) × Is
 abbrev pub FitBefore : Collection → Collection → Step → Type 0
 FitBefore c d s = (i : ℕ) → s.next ≡ i + 1 → PairPartsFit c d s.pair i
 
--- what is next of a pair: one that isn't known to fit, below a part before which all fit, or nothing
+-- what is next of a pair: one that isn't known to fit, below a part
+-- before which all fit, or nothing
 abbrev pub IsTurn : Collection → Collection → List EntryPair → EntryPair → Turn → Type 0
 IsTurn c d ps p Closed = PairFits c d p
 IsTurn c d ps p Apart = ¬ (PairFits c d p)

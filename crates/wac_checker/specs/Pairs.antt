@@ -100,7 +100,8 @@ abbrev pub HaveAt : Collection → Collection → Side → Side → ℕ → ℕ 
 HaveAt c d s t m n i (DefinedTypes x y) = AreAt s t i (value_tree c (Defined x)) (value_tree d (Defined y)) × EntriesStand c d (DefinedTypes x y) × (height c (defined_key x) < m) × (height d (defined_key y) < n)
 HaveAt c d s t m n i e = ⊥
 
--- the parts at a place of two sides: there are no more, they are one, or so far as two others are, or they differ
+-- the parts at a place of two sides: there are no more, they are one, or so far as
+-- two others are, or they differ
 abbrev pub IsValuePart : SubtypeCheck → Collection → Collection → Side → Side → ℕ → ℕ → ℕ → Part → Type 0
 IsValuePart check c d s t m n i End = SameBefore s t i → s ≡ t
 IsValuePart check c d s t m n i Same = IsIndex s i × SamePart s t i
@@ -113,7 +114,8 @@ AreOptionsCompared check c d None None p = p ≡ Same
 AreOptionsCompared check c d (Some v) (Some w) p = AreValuesCompared check c d v w p
 AreOptionsCompared check c d v w p = ⊥
 
--- two items are those of two entries, which are no higher: they fit where the entries do and only there, and a path from these is one from them
+-- two items are those of two entries, which are no higher: they fit where the entries do and only
+-- there, and a path from these is one from them
 pub record AreOfItems (c d : Collection) (x y : ItemKind) (e : Entries) : Type 0 where
   pub stand : EntriesStand c d e
   pub left_lower : height c (left_key e) ≤ keys_height c (item_keys x)
@@ -241,7 +243,8 @@ ExplainsPair check c d p r = ExplainsEntries (check_of check p.swapped) (left_of
 abbrev pub PairPath : SubtypeCheck → Collection → Collection → EntryPair → List Frame → Fault → Type 0
 PairPath check c d p frames f = EntriesPath (check_of check p.swapped) (left_of c d p.swapped) (right_of c d p.swapped) p.entries frames f
 
--- the pair stands at a place of these two entries: it is lower, the parts there fit where it does, a frame leads to it, and the two entries fit only where it does
+-- the pair stands at a place of these two entries: it is lower, the parts there fit where it does,
+-- a frame leads to it, and the two entries fit only where it does
 pub record IsBelow (c d : Collection) (e : Entries) (i : ℕ) (q : EntryPair) : Type 0 where
   pub stand : PairStands c d q
   pub lower : pair_height c d q < entries_height c d e
@@ -257,7 +260,8 @@ pub record IsBelowPair (c d : Collection) (p : EntryPair) (i : ℕ) (q : EntryPa
   pub leads : (check : SubtypeCheck) (f : Frame) → IsPairFrame c d p i f → (gs : List Frame) (g : Fault) → PairPath check c d q gs g → PairPath check c d p (f ∷ gs) g
   pub needed : PairFits c d p → PairFits c d q
 
--- what a comparison of the parts at a place of two entries says: where the parts differ, the two don't fit
+-- what a comparison of the parts at a place of two entries says: where the
+-- parts differ, the two don't fit
 abbrev pub IsEntriesPart : SubtypeCheck → Collection → Collection → Entries → ℕ → Part → Type 0
 IsEntriesPart check c d e i End = PartsFit c d e i → EntriesFit c d e
 IsEntriesPart check c d e i Same = HasPart c d e i × PartFits c d e i

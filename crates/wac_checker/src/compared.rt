@@ -21,7 +21,8 @@ use std::mem;
 use wac_component::{ItemKind, Types};
 use wac_mismatch::{SubtypeCheck, SubtypeError};
 
-/// The pairs of entries of two collections that were compared: those that fit, and those that don't.
+/// The pairs of entries of two collections that were compared: those
+/// that fit, and those that don't.
 pub struct Compared {
     fitting: Known,
     unfitting: Known,
@@ -73,8 +74,9 @@ impl Compared {
     }
 
     /// Whether the item `a` of the collection `at` fits where the item `b` of `bt` is asked for
-    /// (Component Model explainer, "Subtyping"). Of each pair that is compared for it the answer is remembered,
-    /// so that none is compared again; two entries as they stand and swapped, as below an import, are two pairs.
+    /// (Component Model explainer, "Subtyping"). Of each pair that is compared for it the answer
+    /// is remembered, so that none is compared again; two entries as they stand and swapped, as
+    /// below an import, are two pairs.
     pub fn fits(
         &mut self,
         alloc: Global,
@@ -133,7 +135,8 @@ impl Compared {
         }
     }
 
-    // Whether a pair fits of which nothing is known, by comparing it and then each such pair below it.
+    // Whether a pair fits of which nothing is known, by comparing it and
+    // then each such pair below it.
     fn compare(
         &mut self,
         alloc: Global,

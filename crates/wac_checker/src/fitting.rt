@@ -1,7 +1,7 @@
 //! Whether two items fit: pairs of entries are named, and compared one after another, each once.
 //!
-//! A yes of the functions below holds where the named pairs fit. No error is built here, but of two core
-//! modules, which are compared as after a no: theirs is dropped.
+//! A yes of the functions below holds where the named pairs fit. No error is built here, but of two
+//! core modules, which are compared as after a no: theirs is dropped.
 
 ghost use Rattle.std.specs.Prelude.{◌≡◌, ◌+◌, ◌*◌, [], IsTrue};
 ghost use Rattle.wac_model.specs.Order.{Fits};

@@ -13,7 +13,8 @@ use std::alloc::{AllocError, Global};
 use std::marker::Model;
 use wac_mismatch::SubtypeError;
 
-// So many pairs are looked through one after another, and more are hashed: most comparisons name few.
+// So many pairs are looked through one after another, and more are
+// hashed: most comparisons name few.
 const FEW: usize = 4;
 
 /// At most a few pairs, in the order in which they were named. They lie in the value itself.

@@ -228,54 +228,54 @@ fn remember(
 
 // Puts a step last.
 pub(crate) fn push_step(
-    open: &mut Vec<Step>,
+    steps: &mut Vec<Step>,
     entries: Entries,
     swapped: bool,
     next: usize,
 ) -> Result<(), AllocError>
-    ensures { OnOk result (open.new.items ≡ open.old.items ++ (record { pair = record { entries = entries; swapped = swapped }; next = next }) ∷ []) }
+    ensures { OnOk result (steps.new.items ≡ steps.old.items ++ (record { pair = record { entries = entries; swapped = swapped }; next = next }) ∷ []) }
 {
     let pair = EntryPair { entries, swapped };
-    open.push(Step { pair, next })?;
+    steps.push(Step { pair, next })?;
     Ok(())
 }
 
 // Begins to compare a pair that isn't known yet.
 fn open_pair(
     known: &mut IndexSet<EntryPair>,
-    open: &mut Vec<Step>,
+    steps: &mut Vec<Step>,
     pair: EntryPair,
 ) -> Result<(), AllocError>
     requires { Contains known.old.keys pair → ⊥ }
     ensures known { known.new.keys ≡ known.old.keys ⊎ (known.new.keys ≡ known.old.keys ++ pair ∷ []) }
     ensures added { OnOk result (known.new.keys ≡ known.old.keys ++ pair ∷ []) }
-    ensures opened { OnOk result ((s : Step) × (s.pair ≡ pair) × (s.next ≡ 0) × (open.new.items ≡ open.old.items ++ s ∷ [])) }
+    ensures opened { OnOk result ((s : Step) × (s.pair ≡ pair) × (s.next ≡ 0) × (steps.new.items ≡ steps.old.items ++ s ∷ [])) }
 {
     remember(known, pair.entries, pair.swapped)?;
-    push_step(open, pair.entries, pair.swapped, 0)
+    push_step(steps, pair.entries, pair.swapped, 0)
 }
 
 // Opens the pair that is next, if one is, above the last one, which was taken off.
 fn open_next(
     known: &mut IndexSet<EntryPair>,
-    open: &mut Vec<Step>,
+    steps: &mut Vec<Step>,
     step: &Step,
     next: Next,
     at: &Types,
     bt: &Types,
 ) -> Result<(), AllocError>
-    requires compared { IsComparison at.now bt.now known.old.keys (open.old.items ++ step.now ∷ []) }
+    requires compared { IsComparison at.now bt.now known.old.keys (steps.old.items ++ step.now ∷ []) }
     requires next { IsNext at.now bt.now known.old.keys step.now.pair next }
-    ensures compared { OnOk result (IsComparison at.now bt.now known.new.keys open.new.items) }
+    ensures compared { OnOk result (IsComparison at.now bt.now known.new.keys steps.new.items) }
     ensures same_asked { (r : EntryPair) → IsAsked known.old.keys r → IsAsked known.new.keys r }
-    ensures closer { OnOk result ((length known.new.keys ≡ length known.old.keys) × (length open.new.items ≡ length open.old.items) ⊎ ((length known.new.keys ≡ length known.old.keys + 1) × (length open.new.items ≡ length open.old.items + 2))) }
+    ensures closer { OnOk result ((length known.new.keys ≡ length known.old.keys) × (length steps.new.items ≡ length steps.old.items) ⊎ ((length known.new.keys ≡ length known.old.keys + 1) × (length steps.new.items ≡ length steps.old.items + 2))) }
     ensures pairs { ArePairsOf at.now bt.now known.new.keys }
 {
     match next {
         Next::Closed => Ok(()),
         Next::Below(index, below) => {
-            push_step(open, step.pair.entries, step.pair.swapped, index)?;
-            open_pair(known, open, below)
+            push_step(steps, step.pair.entries, step.pair.swapped, index)?;
+            open_pair(known, steps, below)
         }
     }
 }
@@ -285,25 +285,25 @@ fn advance(
     check: SubtypeCheck,
     alloc: Global,
     known: &mut IndexSet<EntryPair>,
-    open: &mut Vec<Step>,
+    steps: &mut Vec<Step>,
     step: &Step,
     at: &Types,
     bt: &Types,
 ) -> Result<(), SubtypeError>
     requires one { at.now.number ≡ bt.now.number → at.now ≡ bt.now }
-    requires compared { IsComparison at.now bt.now known.old.keys (open.old.items ++ step.now ∷ []) }
-    ensures compared { OnOk result (IsComparison at.now bt.now known.new.keys open.new.items) }
+    requires compared { IsComparison at.now bt.now known.old.keys (steps.old.items ++ step.now ∷ []) }
+    ensures compared { OnOk result (IsComparison at.now bt.now known.new.keys steps.new.items) }
     ensures same_asked { (r : EntryPair) → IsAsked known.old.keys r → IsAsked known.new.keys r }
-    ensures closer { OnOk result ((length known.new.keys ≡ length known.old.keys) × (length open.new.items ≡ length open.old.items) ⊎ ((length known.new.keys ≡ length known.old.keys + 1) × (length open.new.items ≡ length open.old.items + 2))) }
+    ensures closer { OnOk result ((length known.new.keys ≡ length known.old.keys) × (length steps.new.items ≡ length steps.old.items) ⊎ ((length known.new.keys ≡ length known.old.keys + 1) × (length steps.new.items ≡ length steps.old.items + 2))) }
     ensures pairs { ArePairsOf at.now bt.now known.new.keys }
     ensures no { IfErr result (ExplainsAsked check at.now bt.now known.old.keys) }
 {
     match next_pair(check, alloc, known, step, at, bt) {
         Ok(next) => {
-            open_next(known, open, step, next, at, bt)?;
+            open_next(known, steps, step, next, at, bt)?;
             Ok(())
         }
-        Err(e) => Err(under_steps(alloc, e, open, at, bt)),
+        Err(e) => Err(under_steps(alloc, e, steps, at, bt)),
     }
 }
 
@@ -322,10 +322,10 @@ pub(crate) fn compare_pairs(
     ensures answer { MatchResult result (λ _. PairFits at.now bt.now asked) (ExplainsPair check at.now bt.now asked) }
     ensures pairs { ArePairsOf at.now bt.now known.new.keys }
 {
-    let mut open = Vec::new(alloc);
-    open_pair(known, &mut open, asked)?;
-    while let Some(step) = open.pop() {
-        advance(check, alloc, known, &mut open, &step, at, bt)?;
+    let mut steps = Vec::new(alloc);
+    open_pair(known, &mut steps, asked)?;
+    while let Some(step) = steps.pop() {
+        advance(check, alloc, known, &mut steps, &step, at, bt)?;
     }
     Ok(())
 }

@@ -10,7 +10,8 @@ use Rattle.wac_component.specs.declared.defined.Record.{Record}
 use Rattle.wac_component.specs.declared.defined.Variant.{Variant}
 use Rattle.wac_component.specs.declared.items.ValueType.{ValueType}
 
--- a map's clone shows what the map does: D relates a value and its clone, and f is what a value shows
+-- a map's clone shows what the map does: D relates a value and its
+-- clone, and f is what a value shows
 pub named-clones : {V W S : Type 0} {D : V → V → Type 0} (f : V → W) → ((v w : V) → D v w → f w ≡ f v)
     → (m n : IndexMap (String Global) V S) → IsClone (λ s t. string_bytes t ≡ string_bytes s) D m n → named f n.entries ≡ named f m.entries
 named-clones {V} {D = D} f same m n z = step m.entries n.entries z where

@@ -1,4 +1,5 @@
--- What resources, values and functions stand for depends on the lists of resources, defined types and functions alone.
+-- What resources, values and functions stand for depends on the lists of resources,
+-- defined types and functions alone.
 use Rattle.std.proofs.Common.{◌≡◌, ◌<◌, ◌⊎◌, inl, inr, ℕ, suc, zero, List, [], ◌∷◌, length, map, Option, Some, None, slice_get, get_or, ◌≤◌, refl, ap, sym, ◌∙◌, subst, arith}
 use Rattle.std.proofs.lemmas.List.{length-map}
 use Rattle.std.proofs.lemmas.Option.{slice_get_cases}

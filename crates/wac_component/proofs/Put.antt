@@ -1,4 +1,5 @@
--- An entry that names what is kept stands for what it says, by what the collection before stood for.
+-- An entry that names what is kept stands for what it says, by what
+-- the collection before stood for.
 use Rattle.std.proofs.Common.{◌≡◌, Some, [], slice_get, ◌∙◌}
 use Rattle.wac_component.specs.Id.{Id}
 use Rattle.wac_component.specs.Collection.{Collection, DefinedContent, ResourceContent, FuncContent, InterfaceContent, WorldContent}

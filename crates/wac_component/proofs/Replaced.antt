@@ -1,4 +1,5 @@
--- A collection with another entry at an id, from which no walk led to the id, is sound, and what didn't reach the id is as it was.
+-- A collection with another entry at an id, from which no walk led to the id, is sound, and what
+-- didn't reach the id is as it was.
 use Rattle.std.proofs.Common.{◌≡◌, ◌≢◌, List, Some, length, ◌⊎◌, inl, inr, refl, ap, sym, ◌∙◌, subst}
 use Rattle.wac_component.specs.Collection.{Collection}
 use Rattle.wac_component.specs.Key.{Key, Sort, Entry, entries, entry_at, entry_keys, next, optional_keys, Each, Stands, AllStand, item_keys}

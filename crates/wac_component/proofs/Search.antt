@@ -38,7 +38,8 @@ module_next c p = ap (optional_keys entry_keys) (slice_get-map module_entry c.mo
     nothing None = refl
     nothing (Some m) = refl
 
--- the search among ids reached from some: those before a place aren't the target, and all that they name was reached
+-- the search among ids reached from some: those before a place aren't the target, and
+-- all that they name was reached
 pub record Searched (c : Collection) (ks : List Key) (t : Key) (n : ℕ) (reached : List Key) : Type 0 where
   pub names : (k : Key) → IsAmong k ks → IsAmong k reached
   pub leads : (k : Key) → IsAmong k reached → NamesReach c ks k

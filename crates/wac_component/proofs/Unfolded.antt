@@ -1,4 +1,5 @@
--- What an id stands for follows from what the ids in its entry stand for, and so from what a walk reaches.
+-- What an id stands for follows from what the ids in its entry stand for,
+-- and so from what a walk reaches.
 use Rattle.std.proofs.Common.{◌≡◌, ◌<◌, ℕ, suc, zero, List, [], ◌∷◌, Option, Some, None, Bool, true, refl, ap, sym, ◌∙◌, arith}
 use Rattle.std.specs.List.{list_all}
 use Rattle.std.specs.Option.{option_map_or}
@@ -49,7 +50,8 @@ abbrev pub more : ℕ → ℕ → ℕ
 more zero n = n
 more (suc j) n = suc (more j n)
 
--- the ids of P have in d the entries that they have in c, and walks from them in c stay in P and end
+-- the ids of P have in d the entries that they have in c, and walks
+-- from them in c stay in P and end
 pub record Keeps (c d : Collection) (P : Key → Type 0) : Type 0 where
   pub closed : (k : Key) → P k → Each P (next c k)
   pub same_entry : (k : Key) → P k → entry_at d k ≡ entry_at c k

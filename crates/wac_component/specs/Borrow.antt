@@ -1,4 +1,5 @@
--- Whether a borrowed handle stands in a value type (Component Model explainer, "Type Definitions": `borrow`).
+-- Whether a borrowed handle stands in a value type (Component Model explainer,
+-- "Type Definitions": `borrow`).
 use Rattle.std.specs.Prelude.{Bool, true, false, ◌||◌}
 use Rattle.wac_model.specs.ValueTree.{ValueTree, ValueTrees, node, no_parts, part, borrow}
 

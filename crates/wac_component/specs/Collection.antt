@@ -7,7 +7,8 @@ use Rattle.wac_component.specs.Id.{Id}
 use Rattle.wac_component.specs.declared.items.ValueType.{ValueType}
 use Rattle.wac_component.specs.declared.items.ItemKind.{ItemKind}
 
--- what a defined type says: the type that it is another name of, or its label and its members in order
+-- what a defined type says: the type that it is another name of, or its
+-- label and its members in order
 pub data DefinedContent : Type 0 where
   alias_of : (of : ValueType) → DefinedContent
   composed : (label : ValueLabel) → (members : List ValueType) → DefinedContent

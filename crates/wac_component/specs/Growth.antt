@@ -10,7 +10,8 @@ use Rattle.wac_component.specs.declared.items.ItemKind.{ItemKind}
 abbrev pub BeginsWith : {A : Type 0} → List A → List A → Type 0
 BeginsWith {A} ys xs = (zs : List A) × (ys ≡ xs ++ zs)
 
--- the lists of d begin with those of c; what stood in c stands in d, with its entry, as high as it was, and with its tree
+-- the lists of d begin with those of c; what stood in c stands in d, with its entry, as
+-- high as it was, and with its tree
 pub record Extends (c d : Collection) : Type 0 where
   pub number : d.number ≡ c.number
   pub lists : (s : Sort) → BeginsWith (entries d s) (entries c s)

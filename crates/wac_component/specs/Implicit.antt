@@ -1,4 +1,5 @@
--- The interfaces from which a world uses types. It imports them without saying so (WIT, "World syntax", on `use`).
+-- The interfaces from which a world uses types. It imports them without saying so
+-- (WIT, "World syntax", on `use`).
 use Rattle.std.specs.Prelude.{◌≡◌, List, [], ◌∷◌, ◌++◌, Option, Some, None, IsSome, MatchResult, map, slice_get, Contains, Result, codes}
 use Rattle.std.specs.List.{flat_map}
 use Rattle.std.specs.Option.{option_and_then, option_map_or}
@@ -22,7 +23,8 @@ abbrev pub used_by_import : Collection → ItemKind → List Id
 used_by_import c (Instance i) = option_map_or (λ e. used_by e.uses) (slice_get c.interfaces i.index) []
 used_by_import c k = []
 
--- the interfaces that a world uses: those of its own uses, and then those that its imports use, one level deep
+-- the interfaces that a world uses: those of its own uses, and then those that
+-- its imports use, one level deep
 abbrev pub used_interfaces : Collection → WorldContent → List Id
 used_interfaces c w = used_by w.uses ++ flat_map (λ e. used_by_import c e.1) w.imports
 
@@ -38,7 +40,8 @@ HasIdentifier c i = IsSome (identifier c i)
 abbrev pub as_instance : Collection → Id → List (Text × ItemKind)
 as_instance c i = option_map_or (λ name. (name, Instance i) ∷ []) (identifier c i) []
 
--- the used interfaces under their identifiers: one that comes again keeps its place and takes the last interface
+-- the used interfaces under their identifiers: one that comes again keeps its
+-- place and takes the last interface
 abbrev pub implicit_imports : Collection → WorldContent → List (Text × ItemKind)
 implicit_imports c w = insert_all bytes_eq [] (flat_map (as_instance c) (used_interfaces c w))
 

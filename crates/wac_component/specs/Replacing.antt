@@ -22,7 +22,8 @@ replaced c i (module_entry e) = record c { modules = slice_set c.modules i e }
 abbrev pub NamesReach : Collection → List Key → Key → Type 0
 NamesReach c ks t = (j : Key) × IsAmong j ks × Reaches c j t
 
--- d is c with another entry at k: each other entry stays, and what doesn't reach k is as high as it was, with its tree
+-- d is c with another entry at k: each other entry stays, and what doesn't reach k is
+-- as high as it was, with its tree
 pub record Replaces (c d : Collection) (k : Key) : Type 0 where
   pub number : d.number ≡ c.number
   pub standing : (j : Key) → Stands c j → Stands d j
@@ -30,7 +31,8 @@ pub record Replaces (c d : Collection) (k : Key) : Type 0 where
   pub heights : (j : Key) → Stands c j → ¬ Reaches c j k → height d j ≡ height c j
   pub trees : (i : ItemKind) → AllStand c (item_keys i) → ¬ NamesReach c (item_keys i) k → item_tree d i ≡ item_tree c i
 
--- the call succeeds only where the fact is false, and finds a cycle only where it is true; a refusal hands the content back
+-- the call succeeds only where the fact is false, and finds a cycle only where it is true; a
+-- refusal hands the content back
 abbrev pub AnswersReplace : {T : Type 0} → Result Unit (ReplaceError T) → T → Type 0 → Type 0
 AnswersReplace (Ok done) content IsCycle = ¬ IsCycle
 AnswersReplace (Err (Cycle back)) content IsCycle = (back ≡ content) × IsCycle

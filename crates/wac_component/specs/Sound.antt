@@ -13,7 +13,8 @@ abbrev pub walks_end : ℕ → Collection → Key → Bool
 walks_end zero c k = false
 walks_end (suc n) c k = list_all (walks_end n c) (next c k)
 
--- a walk that leads back to its start has no end, and a walk that doesn't passes through no entry twice
+-- a walk that leads back to its start has no end, and a walk that
+-- doesn't passes through no entry twice
 pub record IsSound (c : Collection) : Type 0 where
   pub standing : (k : Key) → Stands c k → AllStand c (next c k)
   pub ending : (k : Key) → Stands c k → IsTrue (walks_end (entry_count c) c k)

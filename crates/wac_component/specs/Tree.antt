@@ -1,4 +1,5 @@
--- What items stand for: their trees, with aliases peeled and each resource by the name at the root of its aliases.
+-- What items stand for: their trees, with aliases peeled and each resource by the
+-- name at the root of its aliases.
 use Rattle.std.specs.Prelude.{◌≡◌, ◌≢◌, List, [], ◌∷◌, Some, None, map, slice_get, false, option_map}
 use Rattle.std.specs.Option.{option_map_or}
 use Rattle.wac_model.specs.Text.{Text}

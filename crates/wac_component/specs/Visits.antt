@@ -61,7 +61,8 @@ abbrev pub member_ids : DefinedContent → List Id
 member_ids (alias_of of) = []
 member_ids (composed label members) = flat_map own_id members
 
--- what a visit of a type sees: where it starts at a defined type, that and what stands directly in it
+-- what a visit of a type sees: where it starts at a defined type, that
+-- and what stands directly in it
 abbrev pub visits : Collection → TypeOf → List Id
 visits c (TypeFunc f) = referred c (func_key f)
 visits c (TypeValue (Defined d)) = d ∷ option_map_or member_ids (slice_get c.defined d.index) []
@@ -69,7 +70,8 @@ visits c (TypeInterface i) = referred c (interface_key i)
 visits c (TypeWorld w) = referred c (world_key w)
 visits c t = []
 
--- a call of the visitor, on the collection and an id, which answers r and takes it from one state to another
+-- a call of the visitor, on the collection and an id, which answers r and
+-- takes it from one state to another
 pub record CallsOn {F E : Type 0} (calls : Mut F (Bor Collection × (Id × Unit {0})) (Result (Unit {0}) E)) (c : Collection) (f : F) (id : Id) (r : Result (Unit {0}) E) (g : F) : Type 0 where
   pub shown : Bor Collection
   pub shows : shown.now ≡ c

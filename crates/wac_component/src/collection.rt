@@ -39,8 +39,8 @@ pub struct Types {
     modules: Vec<ModuleType>,
 }
 
-// By hand, as of each large type that hides its fields: a function that drops one calls this, while what is derived is proved
-// field by field wherever one is dropped.
+// By hand, as of each large type that hides its fields: a function that drops one calls this, while
+// what is derived is proved field by field wherever one is dropped.
 impl Drop for Types {
     fn drop(self) {
         let Types {

@@ -1,4 +1,5 @@
-//! The ids of a collection's entries: the number of the collection, and an index in the list of its sort.
+//! The ids of a collection's entries: the number of the collection, and an
+//! index in the list of its sort.
 
 ghost use Rattle.std.specs.Prelude.{◌≡◌, Some};
 ghost use Rattle.std.specs.Fmt.{decimal};

@@ -58,8 +58,8 @@ impl fmt::Display for TargetError {
 
 impl World {
     /// The interfaces that the world uses, as instances under their identifiers: those of its own
-    /// uses, and then those that its imports use, where they are instances. An identifier that comes
-    /// again keeps its place and takes the last interface.
+    /// uses, and then those that its imports use, where they are instances. An identifier that
+    /// comes again keeps its place and takes the last interface.
     ///
     /// `NoIdentifier` comes exactly where one of them has no identifier, and `Memory` is want of
     /// memory.

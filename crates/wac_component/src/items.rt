@@ -3,7 +3,8 @@
 use super::ids::{DefinedTypeId, FuncTypeId, InterfaceId, ModuleTypeId, ResourceId, WorldId};
 use wac_model::PrimitiveType;
 
-/// The kind of an item that a component imports or exports (Component Model explainer, `externtype`).
+/// The kind of an item that a component imports or exports (Component
+/// Model explainer, `externtype`).
 #[derive(Clone, Copy, PartialEq, Eq, Hash, Debug)]
 pub enum ItemKind {
     /// A type.

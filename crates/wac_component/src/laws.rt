@@ -1,4 +1,5 @@
-//! Laws of collections and of their entries. Each is the contract of a function that changes nothing.
+//! Laws of collections and of their entries. Each is the contract of a
+//! function that changes nothing.
 
 ghost use Rattle.wac_component.specs.Laws.{IsReflexive, IsTransitive, TreesFollowEntries, ImportsAreApart, LeavesDependOnLeaves, OneSourceHasOneName, WalksStand, NoWalkReturns, VisitsStand};
 ghost use Rattle.wac_core.specs.Content.{module_content};
@@ -22,7 +23,8 @@ pub fn growth_is_transitive()
     ensures { IsTransitive }
 {}
 
-/// In a sound collection the tree of each id follows from its entry and the trees of what that names.
+/// In a sound collection the tree of each id follows from its entry and
+/// the trees of what that names.
 pub fn trees_follow_entries()
     ensures { TreesFollowEntries }
 {}
@@ -73,7 +75,8 @@ pub fn names_in_an_interface_are_distinct(interface: &Interface)
     let _ = interface.exports.len();
 }
 
-/// The names of a world's uses are distinct, and so are those of its imports and those of its exports.
+/// The names of a world's uses are distinct, and so are those of its
+/// imports and those of its exports.
 pub fn names_in_a_world_are_distinct(world: &World)
     ensures { HasDistinctNames (world_entry (world_content world.now)) }
 {

@@ -15,8 +15,8 @@ use super::resources::Resource;
 use super::worlds::World;
 use indexmap::IndexMap;
 
-/// Items that an entry names, in order. A used type is the instance of its interface, and a place of
-/// a variant's case may be empty.
+/// Items that an entry names, in order. A used type is the instance of its interface, and a place
+/// of a variant's case may be empty.
 #[derive(Clone, Copy)]
 pub(crate) enum Parts<'a> {
     Pair(Option<ItemKind>, Option<ItemKind>),

@@ -5,7 +5,8 @@ use std::alloc::Global;
 use std::collections::HashSet;
 use wac_types::{ItemKind, SubtypeChecker, SubtypeError, Types};
 
-/// Puts last whether an item of one collection fits where one of another is asked for, or the path to where it doesn't.
+/// Puts last whether an item of one collection fits where one of another is asked for, or
+/// the path to where it doesn't.
 pub(crate) fn push_answer(
     alloc: Global,
     text: &mut String,

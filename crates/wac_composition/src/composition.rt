@@ -37,7 +37,8 @@ fn merge(alloc: Global, text: &mut String, graph: &Graph) -> Result<(), Failure>
     }
 }
 
-// What the composed component imports, what each component has of that, and the worlds that it may be made for.
+// What the composed component imports, what each component has of that, and the
+// worlds that it may be made for.
 fn push_merged(
     alloc: Global,
     text: &mut String,
@@ -72,7 +73,8 @@ fn push_links(
     Ok(())
 }
 
-// Which call was refused, the steps to the two items that have no common lower bound, and the path from there.
+// Which call was refused, the steps to the two items that have no common lower
+// bound, and the path from there.
 fn push_refusal(
     text: &mut String,
     name: &str,
@@ -113,7 +115,8 @@ fn push_import(
     Ok(())
 }
 
-// Of each name that a component imports, the merged import to which it leads, if no other component gives it.
+// Of each name that a component imports, the merged import to which it leads,
+// if no other component gives it.
 fn push_served(
     alloc: Global,
     text: &mut String,

@@ -1,5 +1,5 @@
-//! The three components. The handler gives the middleware what it hands requests on to, and the client gives the handler its
-//! store.
+//! The three components. The handler gives the middleware what it hands requests on to, and the
+//! client gives the handler its store.
 
 ghost use Rattle.wac_composition.specs.Numbers.{AreNumbered};
 

@@ -1,4 +1,5 @@
-//! The program `wac-composition`: composes three components, and prints what the library says of each step.
+//! The program `wac-composition`: composes three components, and prints what
+//! the library says of each step.
 #![tactic(auto)]
 
 mod building;
@@ -25,7 +26,8 @@ fn main(rt: HostRuntime) -> io::Result<()> {
     }
 }
 
-// What is said of the composition whose client has texts as the others do, and of one whose client doesn't.
+// What is said of the composition whose client has texts as the others do,
+// and of one whose client doesn't.
 fn both_compositions(alloc: Global) -> Result<String, Failure> {
     let mut text = String::new(alloc);
     text.push_str("With a client whose texts are strings:\n")?;

@@ -1,4 +1,5 @@
-//! What remains to be imported by the components of a graph, and the imports that it is merged into.
+//! What remains to be imported by the components of a graph, and the
+//! imports that it is merged into.
 
 ghost use Rattle.std.specs.Prelude.{◌≡◌, [], ◌∷◌, ◌++◌, Some, IfOk, OnOk};
 ghost use Rattle.wac_aggregator.specs.HandedIn.{handed_in};

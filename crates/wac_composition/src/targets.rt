@@ -1,9 +1,10 @@
 //! The composed component, and worlds that it may be made for.
 //!
-//! A component and its target world stand in one collection, and the merged imports in another. So the composed component
-//! is entered beside the target worlds, with the packages' interfaces of the same names. These are checked to fit where the
-//! merged imports are asked for, and what the middleware exports to fit where theirs are. Where they do, the composed
-//! component fits whatever target world the entered one does.
+//! A component and its target world stand in one collection, and the merged imports in another. So
+//! the composed component is entered beside the target worlds, with the packages' interfaces of the
+//! same names. These are checked to fit where the merged imports are asked for, and what the
+//! middleware exports to fit where theirs are. Where they do, the composed component fits whatever
+//! target world the entered one does.
 
 use super::checking::push_answer;
 use super::component::{Component, add_world, interface_named};
@@ -14,7 +15,8 @@ use wac_types::{
     ItemKind, PrimitiveType, TargetError, Type, TypeAggregator, Types, WorldId, validate_target,
 };
 
-/// Says in which of two worlds the composed component fits: one has the newer logging, the other the older.
+/// Says in which of two worlds the composed component fits: one has the newer
+/// logging, the other the older.
 pub(crate) fn push_targets(
     alloc: Global,
     text: &mut String,
@@ -65,7 +67,8 @@ fn push_imported(
     push_answer(alloc, text, &given, types, wanted, merged.types())
 }
 
-// Says whether what the middleware exports fits where the packages' interface of this name is asked for.
+// Says whether what the middleware exports fits where the packages'
+// interface of this name is asked for.
 fn push_exported(
     alloc: Global,
     text: &mut String,

@@ -9,7 +9,8 @@ use Rattle.wac_narrowing.specs.Taking as mapped
 use Rattle.wac_narrowing.specs.Values.{AreListed}
 use Rattle.wac_narrowing.specs.Values as listed
 
--- the first values of the list stand in the relation to those in their places, and the others are as they were
+-- the first values of the list stand in the relation to those in their places,
+-- and the others are as they were
 pub data ArePlaced {V : Type 0} (R : V → V → Type 0) : ℕ → List V → List V → Type 0 where
   start : {xs : List V} → ArePlaced R zero xs xs
   one : {i : ℕ} {x y : V} {xs ys : List V} → R x y → ArePlaced R i xs ys → ArePlaced R (suc i) (x ∷ xs) (y ∷ ys)

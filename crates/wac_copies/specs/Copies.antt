@@ -30,7 +30,9 @@ pub record MayCopy (f c : Collection) (m : Memo) : Type 0 where
 abbrev pub moved : State → Collection → Memo → State
 moved s d n = record s { own = d; copies = memo_of n }
 
--- what copying from f does to the own collection and to what was copied: entries are only added, each state runs on to one of which the fact holds, no id above the height is noted, and what open walks lead to stays apart from copies and from what is below imports
+-- what copying from f does to the own collection and to what was copied: entries are only added,
+-- each state runs on to one of which the fact holds, no id above the height is noted, and what open
+-- walks lead to stays apart from copies and from what is below imports
 pub record Copies (f c : Collection) (m : Memo) (d : Collection) (n : Memo) (top : ℕ) (Holds : State → Type 0) : Type 0 where
   pub low : (k : Key) → top < height f k → memo_of m k ≡ None → memo_of n k ≡ None
   pub grows : (s : State) → IsState f c m s → Extends c d

@@ -10,7 +10,8 @@ use indexmap::IndexMap;
 use std::alloc::{AllocError, Global};
 use wac_component::{DefinedTypeId, FuncTypeId, InterfaceId, ModuleTypeId, ResourceId, WorldId};
 
-/// Entries of other collections, each with the entry of its sort that stands for it in one collection.
+/// Entries of other collections, each with the entry of its sort that
+/// stands for it in one collection.
 #[derive(Debug)]
 pub struct Memo {
     defined: IndexMap<DefinedTypeId, DefinedTypeId>,

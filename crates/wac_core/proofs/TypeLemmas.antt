@@ -147,7 +147,8 @@ pub and_both : (a b : Bool) → a ≡ true → b ≡ true → (a && b) ≡ true
 and_both true b h g = g
 and_both false b h g = h
 
--- function types that `==` doesn't tell apart have one content, and those that it tells apart have others
+-- function types that `==` doesn't tell apart have one content, and those
+-- that it tells apart have others
 pub func_decides : (x y : CoreFuncType) → Decides (of_funcs.eq x y) (func_content x ≡ func_content y)
 func_decides x y =
     let params : Bool = pointwise of_types.eq x.params.items y.params.items in

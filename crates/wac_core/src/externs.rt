@@ -36,7 +36,8 @@ pub enum CoreExtern {
         initial: u64,
         /// Its greatest size, in pages, if it has one.
         maximum: Option<u64>,
-        /// The logarithm to base 2 of the size of its pages in bytes, where that isn't the usual one.
+        /// The logarithm to base 2 of the size of its pages in bytes,
+        /// where that isn't the usual one.
         page_size_log2: Option<u32>,
     },
     /// A global.

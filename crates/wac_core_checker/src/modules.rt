@@ -47,7 +47,8 @@ fn import_fault(
     })
 }
 
-// Whether the right module imports what the left one does, and the left's fit where the right's are asked for.
+// Whether the right module imports what the left one does, and the left's fit
+// where the right's are asked for.
 fn imports_fit(
     check: SubtypeCheck,
     alloc: Global,

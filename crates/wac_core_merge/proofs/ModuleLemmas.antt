@@ -1,4 +1,5 @@
--- Lists of named core externs, met and joined: what stands at each name there, and where each entry comes from.
+-- Lists of named core externs, met and joined: what stands at each name there,
+-- and where each entry comes from.
 use Rattle.std.proofs.Common.{◌≡◌, refl, sym, ap, subst, ◌∙◌, Bool, List, [], ◌∷◌, ◌++◌, map, Option, None, Some, option_map, All, String, Global, string_bytes}
 use Rattle.std.specs.Bool.{Decides}
 use Rattle.std.specs.Cmp.{IsEquivalence}

@@ -30,7 +30,8 @@ module _ {K : Type 0} (eq : K → K → Bool) where
   abbrev pub IsEachMet : (es ts ms : List (K × CoreExtern)) → Type 0
   IsEachMet es ts ms = Replaces (λ n v o. IsMeetAt (Some (core_tree v)) (extern_at ts n) (option_map core_tree o)) es ms
 
-  -- ms is es, with each extern joined with what ts has under its name, or left out where they have no join
+  -- ms is es, with each extern joined with what ts has under its name, or
+  -- left out where they have no join
   abbrev pub IsEachJoined : (es ts ms : List (K × CoreExtern)) → Type 0
   IsEachJoined es ts ms = Replaces (λ n v o. IsJoinAt (Some (core_tree v)) (extern_at ts n) (option_map core_tree o)) es ms
 
@@ -43,7 +44,8 @@ module _ {K : Type 0} (eq : K → K → Bool) where
   IsEachMetIfAny es ts None = HasNoMeet es ts
   IsEachMetIfAny es ts (Some ms) = IsEachMet es ts ms
 
-  -- the externs of es, met with those of ts, and then what only ts has, if those of one name have a meet
+  -- the externs of es, met with those of ts, and then what only ts has, if
+  -- those of one name have a meet
   abbrev pub AreAllMet : (es ts : List (K × CoreExtern)) → Option (List (K × CoreExtern)) → Type 0
   AreAllMet es ts None = HasNoMeet es ts
   AreAllMet es ts (Some ms) = (each : List (K × CoreExtern)) × IsEachMet es ts each × (ms ≡ with_new eq each ts)

@@ -117,8 +117,8 @@ fn limited(of: &CoreExtern, limits: LimitsType) -> Result<CoreExtern, AllocError
     }
 }
 
-/// The greatest core extern that fits where either is asked for, if any does: both are equal but for
-/// limits, and it starts at the greater initial size and ends at the smaller maximum
+/// The greatest core extern that fits where either is asked for, if any does: both are equal but
+/// for limits, and it starts at the greater initial size and ends at the smaller maximum
 /// (WebAssembly core specification, "Import Subtyping").
 pub fn meet_externs(a: &CoreExtern, b: &CoreExtern) -> Result<Option<CoreExtern>, AllocError>
     ensures { IfOk result (λ m. IsMeetIn CoreFits (core_tree a.now) (core_tree b.now) (option_map core_tree m)) }
@@ -133,8 +133,8 @@ pub fn meet_externs(a: &CoreExtern, b: &CoreExtern) -> Result<Option<CoreExtern>
 }
 
 /// The least core extern where either fits, if there is one: both are equal but for limits, and it
-/// starts at the smaller initial size and ends at the greater maximum, or has none if either has none
-/// (WebAssembly core specification, "Import Subtyping").
+/// starts at the smaller initial size and ends at the greater maximum, or has none if either has
+/// none (WebAssembly core specification, "Import Subtyping").
 pub fn join_externs(a: &CoreExtern, b: &CoreExtern) -> Result<Option<CoreExtern>, AllocError>
     ensures { IfOk result (λ m. IsJoinIn CoreFits (core_tree a.now) (core_tree b.now) (option_map core_tree m)) }
 {

@@ -93,10 +93,10 @@ fn join_each<K: Eq + Hash + Drop>(
     Ok(joined)
 }
 
-/// The greatest core module that fits where either is asked for, if any does. It exports what either
-/// does, where they export one name the meet of both exports, and imports what both do, joined
-/// (WebAssembly core specification, "Import Subtyping"). An import whose types have no join is left
-/// out. Exports have the first module's order, and then the second's; imports the first's.
+/// The greatest core module that fits where either is asked for, if any does. It exports what
+/// either does, where they export one name the meet of both exports, and imports what both do,
+/// joined (WebAssembly core specification, "Import Subtyping"). An import whose types have no join
+/// is left out. Exports have the first module's order, and then the second's; imports the first's.
 pub fn meet_modules(
     alloc: Global,
     a: &ModuleType,

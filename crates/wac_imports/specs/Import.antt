@@ -36,7 +36,8 @@ led_of is n = lookup (bytes_eq n) is.led
 abbrev pub canonical : ImportsContent → Text → Text
 canonical is n = option_map_or (λ i. i.0) (option_and_then (import_of is) (led_of is n)) n
 
--- the classes are distinct; each import is under the class of its name, and so is each other name, which leads to an import
+-- the classes are distinct; each import is under the class of its name, and so is each other
+-- name, which leads to an import
 pub record AreFiled (is : ImportsContent) : Type 0 where
   pub distinct : IsDistinct class_eq (keys_of is.list)
   pub imports : (c : Class) (i : ImportContent) → import_of is c ≡ Some i → class_of i.0 ≡ c
@@ -59,7 +60,8 @@ pub data IsNewerBy (name than : Text) : Bool → Type 0 where
   newer : IsVersionOrder name than (Some Greater) → IsNewerBy name than true
   not_newer : (o : Option Ordering) → IsVersionOrder name than o → ¬ (o ≡ Some Greater) → IsNewerBy name than false
 
--- the import named `was` is this item now, for an item handed in under the name: that becomes its name where it has a higher version, and else leads to it
+-- the import named `was` is this item now, for an item handed in under the name: that becomes its
+-- name where it has a higher version, and else leads to it
 pub data IsNoted (before now : ImportsContent) (c : Class) (was name : Text) (k : ItemKind) : Type 0 where
   stays : name ≡ was → PutsImport before now c (was, k) → now.led ≡ before.led → IsNoted before now c was name k
   leads : IsNewerBy name was false → PutsImport before now c (was, k) → PutsName before now name c → IsNoted before now c was name k

@@ -16,8 +16,8 @@ use std::marker::Model;
 use wac_component::ItemKind;
 use wac_names::NameClass;
 
-/// Imports in order, one at most of each class of names, and the names that lead to them. Each is found by the
-/// class of a name, however many there are.
+/// Imports in order, one at most of each class of names, and the names that lead to them. Each is
+/// found by the class of a name, however many there are.
 #[derive(Debug)]
 pub struct ImportList {
     // The imports in order. One that went last left an empty place.
@@ -116,8 +116,9 @@ impl ImportList {
         Ok(())
     }
 
-    /// Notes what the import of a name's class was merged to, for an item that was handed in under the name. Where
-    /// that has a higher version it becomes the import's name, which goes last; else it leads to the import.
+    /// Notes what the import of a name's class was merged to, for an item that was handed in under
+    /// the name. Where that has a higher version it becomes the import's name, which goes last;
+    /// else it leads to the import.
     pub fn note(
         &mut self,
         alloc: Global,

@@ -83,10 +83,10 @@ fn push_page_size(text: &mut String, page_size_log2: Option<u32>) -> Result<(), 
     }
 }
 
-/// Puts the word that writes a core extern in a script last: `func:PARAMS:RESULTS`, `tag:PARAMS:RESULTS`,
-/// `table:REF:INITIAL:MAXIMUM:TABLE64:SHARED`,
-/// `mem:INITIAL:MAXIMUM:MEMORY64:SHARED:PAGE_SIZE_LOG2` or `global:CORE:MUTABLE:SHARED`. A flag is `0`
-/// or `1`, and a number that isn't there `-`.
+/// Puts the word that writes a core extern in a script last: `func:PARAMS:RESULTS`,
+/// `tag:PARAMS:RESULTS`, `table:REF:INITIAL:MAXIMUM:TABLE64:SHARED`,
+/// `mem:INITIAL:MAXIMUM:MEMORY64:SHARED:PAGE_SIZE_LOG2` or `global:CORE:MUTABLE:SHARED`. A flag is
+/// `0` or `1`, and a number that isn't there `-`.
 pub fn push_extern(text: &mut String, of: &CoreExtern) -> Result<(), AllocError> {
     match of {
         CoreExtern::Func(ty) => {

@@ -1,8 +1,8 @@
 //! The canonical text of the tree of an item.
 //!
 //! It hangs on the tree alone: aliases are peeled, a resource stands by the name at the root of its
-//! aliases, and identifiers, uses and owners are left out. Names are written as words of a script write
-//! them (`wac_script_syntax`'s `name_word`).
+//! aliases, and identifiers, uses and owners are left out. Names are written as words of a script
+//! write them (`wac_script_syntax`'s `name_word`).
 //!
 //! | Item | Text |
 //! |---|---|

@@ -1,4 +1,5 @@
--- The meets and the joins of interfaces, of worlds and of core modules, by what they import and export.
+-- The meets and the joins of interfaces, of worlds and of core modules,
+-- by what they import and export.
 use Rattle.std.proofs.Common.{◌≡◌, refl, ap, sym, subst, ◌∙◌, Option, Some, None}
 use Rattle.std.specs.Option.{option_map}
 use Rattle.wac_model.specs.CoreTree.{ModuleTree, ModuleFits}

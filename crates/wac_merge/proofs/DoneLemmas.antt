@@ -47,7 +47,8 @@ module _ (c d : Collection) (m : Memo) (e : Collection) (n : Memo) (x y : Id) (r
   interface_joined_done joined made = done Join (Interfaces x y) c d m e n r grown more sx sy known IsAdded
       (λ h. (counted h, (λ k. subst (λ z. IsJoinedAs c e (entry_item k (interface_key x)) (entry_item k (interface_key y)) (Some (entry_item k (entry_key z)))) (sym h.1) (interfaces_joined c d e grown x y k es ts hx hy fs h.0 joined h.2.tree)), stand h)) made
 
--- c when two worlds are read, d when what they have of one sort is met, f when what they have of the other is joined, e at the end
+-- c when two worlds are read, d when what they have of one sort is met, f when what they have of
+-- the other is joined, e at the end
 module _ (c d f : Collection) (m : Memo) (e : Collection) (n : Memo) (x y : Id) (r : EntryId) (sound : IsSound c) (grown : Extends c d) (joined : Extends d f) (more : Extends f e) (sx : Stands c (world_key x)) (sy : Stands c (world_key y))
     (known : IsTrueMemo f m) (fs gs : Externs) where
   abbrev IsWorldAdded : Externs → Externs → Type 0

@@ -134,7 +134,8 @@ module _ (c d e : Collection) (m n : Memo) (u : Bound) (x y : Id) (r : EntryId) 
           (λ b o g. of_interfaces record { no_identifier = refl; uses = refl; exports = rw (es_are, ts_are) g; names = rw (es_are, ts_are) names })
           bound run
 
--- c when what the two worlds have of one sort is read, d when that is met, f when what they have of the other in d is joined, e at the end
+-- c when what the two worlds have of one sort is read, d when that is met, f when what they have of
+-- the other in d is joined, e at the end
 module _ (c d f e : Collection) (m n : Memo) (u : Bound) (x y : Id) (r : EntryId) (sx : Stands c (world_key x)) (sy : Stands c (world_key y)) (grown : Extends c d) (joined : Extends d f) (more : Extends f e) where
   abbrev world_keys : List Key
   world_keys = world_key x ∷ world_key y ∷ []

@@ -25,7 +25,8 @@ AreUnlike (composite type_item interface i e) (composite type_item interface j f
 AreUnlike (composite type_item world i e) (composite type_item world j f) = ⊥
 AreUnlike s t = Unit {0}
 
--- the answer is x where the first tree fits where the second is asked for, else y where the second does where the first is
+-- the answer is x where the first tree fits where the second is asked for, else y where the
+-- second does where the first is
 abbrev pub IsKept : ItemTree → ItemTree → ItemKind → ItemKind → Option ItemKind → Type 0
 IsKept s t x y answer = (Fits s t → answer ≡ Some x) × (¬ (Fits s t) → Fits t s → answer ≡ Some y)
 

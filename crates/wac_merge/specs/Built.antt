@@ -71,7 +71,8 @@ pub data IsEntryFrom (c d : Collection) (o : Origins) : Entry → Entry → Entr
 abbrev pub IsMadeOf : Collection → Collection → Origins → Key → Key → Key → Type 0
 IsMadeOf c d o x y m = Stands d m × (¬ (Stands c m)) × (o m ≡ (x, y))
 
--- an added entry is the meet or the join of the two of its origin, which stood, and what it names is from what these name
+-- an added entry is the meet or the join of the two of its origin, which stood, and what
+-- it names is from what these name
 pub record IsAddedBuilt (c d : Collection) (o : Origins) (m : Key) : Type 0 where
   pub first_stands : Stands c (o m).0
   pub second_stands : Stands c (o m).1

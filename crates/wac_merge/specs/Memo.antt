@@ -72,7 +72,8 @@ abbrev pub order_of : Bound → ItemTree → ItemTree → Type 0
 order_of Meet s t = Fits s t
 order_of Join s t = Fits t s
 
--- the entry, in d, is the meet or the join of two in c, as items and as types; none where there is none
+-- the entry, in d, is the meet or the join of two in c, as items and as
+-- types; none where there is none
 abbrev pub IsBoundOf : Bound → Collection → Collection → Pair → Option EntryId → Type 0
 IsBoundOf b c d p m = (k : Kind) → IsMeetIn (order_of b) (item_tree c (entry_item k (first_key p))) (item_tree c (entry_item k (second_key p))) (option_map (item_tree d) (option_map (λ e. entry_item k (entry_key e)) m))
 

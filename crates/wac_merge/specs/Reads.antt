@@ -44,7 +44,8 @@ pub record AreRead (c : Collection) (k : Key) (all es : Externs) : Type 0 where
   pub standing : AllStand c (extern_keys es)
   pub lower : keys_height c (extern_keys es) < height c k
 
--- the interface at p is all that d has more than c: it has these exports, and uses what two interfaces do
+-- the interface at p is all that d has more than c: it has these exports,
+-- and uses what two interfaces do
 pub record IsInterfaceOfBoth (c d : Collection) (x y : Id) (es : Externs) (p : Id) : Type 0 where
   pub first : InterfaceContent
   pub second : InterfaceContent
@@ -55,7 +56,8 @@ pub record IsInterfaceOfBoth (c d : Collection) (x y : Id) (es : Externs) (p : I
   pub stands : Stands d (interface_key p)
   pub tree : externs d (interface_key p) ≡ record { imports = no_items; exports = items_of (item_tree c) es }
 
--- the world at p is all that d has more than c: it has these imports and exports, and uses what two worlds do
+-- the world at p is all that d has more than c: it has these imports and
+-- exports, and uses what two worlds do
 pub record IsWorldOfBoth (c d : Collection) (x y : Id) (is es : Externs) (p : Id) : Type 0 where
   pub first : WorldContent
   pub second : WorldContent

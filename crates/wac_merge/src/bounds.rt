@@ -23,8 +23,8 @@ use wac_component::{ItemKind, Types};
 /// name met; a world that imports only names that both import, with what both have there joined; a
 /// core module likewise. Functions, values and resources have a meet where they are equal.
 ///
-/// Entries are only added, also where the answer is `None` or an error: at most one meet and one join
-/// of each ordered pair of entries that stood.
+/// Entries are only added, also where the answer is `None` or an error: at most one meet and one
+/// join of each ordered pair of entries that stood.
 pub fn meet(
     alloc: Global,
     types: &mut Types,
@@ -45,17 +45,17 @@ pub fn meet(
     meet_items(alloc, types, &mut memo, a, b)
 }
 
-/// The join of two items: the least item where whatever fits where one of the two is asked for fits,
-/// or `None` where there is no such item (Component Model explainer, "Subtyping").
+/// The join of two items: the least item where whatever fits where one of the two is asked for
+/// fits, or `None` where there is no such item (Component Model explainer, "Subtyping").
 ///
-/// It is `b` where `a` fits where that is asked for, else `a` where `b` does, else a new entry with no
-/// identifier: an interface that exports the names that both do, with what both have there joined,
-/// and without those that have no join; a world that exports likewise and imports what both do, with
-/// the imports of one name met; a core module likewise. Functions, values and resources have a join
-/// where they are equal.
+/// It is `b` where `a` fits where that is asked for, else `a` where `b` does, else a new entry with
+/// no identifier: an interface that exports the names that both do, with what both have there
+/// joined, and without those that have no join; a world that exports likewise and imports what both
+/// do, with the imports of one name met; a core module likewise. Functions, values and resources
+/// have a join where they are equal.
 ///
-/// Entries are only added, also where the answer is `None` or an error: at most one meet and one join
-/// of each ordered pair of entries that stood.
+/// Entries are only added, also where the answer is `None` or an error: at most one meet and one
+/// join of each ordered pair of entries that stood.
 pub fn join(
     alloc: Global,
     types: &mut Types,

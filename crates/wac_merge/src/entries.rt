@@ -108,9 +108,9 @@ fn add_world_of(
     })
 }
 
-// The interface that was made for the two; else a new one, put last and noted, that has these exports and
-// uses what both do. None was made since the exports were built, as all that they name is lower: to look it up
-// costs less than to prove it.
+// The interface that was made for the two; else a new one, put last and noted, that has these
+// exports and uses what both do. None was made since the exports were built, as all that they name
+// is lower: to look it up costs less than to prove it.
 #[inline(never)]
 pub(crate) fn interface_of(
     types: &mut Types,

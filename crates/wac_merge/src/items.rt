@@ -1,6 +1,7 @@
 //! The meet and the join of two items, by their cases.
 //!
-//! Each sort is merged by a call that isn't inlined: a level of a recursion takes the stack of one sort.
+//! Each sort is merged by a call that isn't inlined: a level of a
+//! recursion takes the stack of one sort.
 
 ghost use Rattle.std.specs.Prelude.{◌++◌, ◌∷◌, [], IfOk, IfSome};
 ghost use Rattle.wac_component.specs.Key.{AllStand, Stands, item_keys};

@@ -40,7 +40,8 @@ pub(crate) enum EntryId {
     Module(ModuleTypeId),
 }
 
-/// The entries that were made, each with what it was made for, and what is known of pairs that were compared.
+/// The entries that were made, each with what it was made for, and what is
+/// known of pairs that were compared.
 pub(crate) struct Memo {
     made: IndexMap<Asked, EntryId>,
     pub(crate) compared: Compared,
@@ -83,7 +84,8 @@ impl Memo {
         self.made.reserve(1)
     }
 
-    /// Notes what was made for what is asked, for which nothing was. With room for it this needs no memory.
+    /// Notes what was made for what is asked, for which nothing was. With room
+    /// for it this needs no memory.
     pub(crate) fn put(&mut self, bound: Bound, pair: Pair, made: EntryId) -> Result<(), AllocError>
         requires room { HasRoom self.old }
         requires new { IsNew (made_of self.old) (record { bound = bound; pair = pair }) }

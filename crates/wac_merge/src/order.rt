@@ -10,9 +10,9 @@ use crate::memo::Memo;
 use std::alloc::{AllocError, Global};
 use wac_component::{ItemKind, Types};
 
-// Whether the left item fits where the right one is asked for. What is found of the pairs below them is
-// remembered: what merges the two asks about those next.
-// Its locals, as those of what adds an entry, would stand in the frame of every level of a recursion.
+// Whether the left item fits where the right one is asked for. What is found of the pairs below
+// them is remembered: what merges the two asks about those next. Its locals, as those of what adds
+// an entry, would stand in the frame of every level of a recursion.
 #[inline(never)]
 pub(crate) fn fits(
     alloc: Global,

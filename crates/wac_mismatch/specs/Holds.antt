@@ -143,7 +143,8 @@ HoldsOfSides f (value_side x) absent = IsPayload f true
 HoldsOfSides f absent (value_side y) = IsPayload f false
 HoldsOfSides f x y = ⊥
 
--- what the right side exports under the name, with its description, and the left side, which is such a holder, doesn't
+-- what the right side exports under the name, with its description, and the left side,
+-- which is such a holder, doesn't
 abbrev pub LacksExport : Text → Text → Text → Side → Side → Type 0
 LacksExport h k n (item_side (composite i s is es)) (item_side (composite i' s' is' es')) = (i ≡ i') × (s ≡ s') × (h ≡ item_desc (composite item s is es)) × (item_at es n ≡ None) × ((t : ItemTree) × (item_at es' n ≡ Some t) × (k ≡ item_desc t))
 LacksExport h k n (item_side (core_module i m)) (item_side (core_module i' m')) = (i ≡ i') × (h ≡ item_desc (core_module item m)) × (lookup bytes_eq m.exports n ≡ None) × ((t : CoreTree) × (lookup bytes_eq m'.exports n ≡ Some t) × (k ≡ core_extern_text t))
@@ -180,6 +181,7 @@ HoldsOfPlace (fault.MissingCoreImport k m n c) p = (c ≡ p.check) × LacksCoreI
 HoldsOfPlace (fault.Core field) p = DifferIn field p.left p.right
 HoldsOfPlace f p = ⊥
 
--- a fault of a place: of what is expected there and what is found, or of its left side and its right one
+-- a fault of a place: of what is expected there and what is found, or of
+-- its left side and its right one
 abbrev pub Holds : Fault → Place → Type 0
 Holds f p = by_check p.check (HoldsOfSides f) p.left p.right ⊎ HoldsOfPlace f p

@@ -20,7 +20,8 @@ field_part [] ts n = None
 field_part (m ∷ ms) no_parts n = None
 field_part (m ∷ ms) (part t ts) n = if bytes_eq n m then Some t else field_part ms ts n
 
--- the type of the case of a name, in a variant with these cases and the types of those that have one
+-- the type of the case of a name, in a variant with these cases and
+-- the types of those that have one
 abbrev pub case_part : List (Text × Bool) → ValueTrees → Text → Opt ValueTree
 case_part [] ts n = None
 case_part ((m, false) ∷ cs) ts n = if bytes_eq n m then None else case_part cs ts n

@@ -12,7 +12,8 @@ use Rattle.wac_mismatch.specs.declared.error.SubtypeError.TheVariants.{Mismatch,
 use Rattle.wac_mismatch.specs.declared.check.SubtypeCheck.{SubtypeCheck}
 use Rattle.wac_mismatch.specs.declared.check.SubtypeCheck.TheVariants.{Covariant}
 
--- an import is asked for of the right side by the left one: the sides change places, and the direction turns
+-- an import is asked for of the right side by the left one: the sides change
+-- places, and the direction turns
 abbrev pub entered : Frame → Place → Place
 entered (Import n) p = place (turned p.check) p.right p.left
 entered (CoreImport m n) p = place (turned p.check) p.right p.left
@@ -33,7 +34,8 @@ AreAlike (value_side t) (value_side u) = Unit {0}
 AreAlike absent absent = Unit {0}
 AreAlike a b = ⊥
 
--- from a place to the place below it: the sides are alike, and both have the part that the frame names
+-- from a place to the place below it: the sides are alike, and both
+-- have the part that the frame names
 pub record Leads (frame : Frame) (above below : Place) : Type 0 where
   pub alike : AreAlike above.left above.right
   pub left : part_of frame (entered frame above).left ≡ Some below.left

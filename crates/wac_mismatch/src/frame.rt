@@ -7,7 +7,8 @@ use std::fmt;
 pub enum Frame {
     /// To the exports of this name, of two interfaces, worlds or core modules.
     Export(String),
-    /// To the imports of this name of two worlds, with the sides exchanged and the direction turned.
+    /// To the imports of this name of two worlds, with the sides
+    /// exchanged and the direction turned.
     Import(String),
     /// To the imports of this module and name of two core modules, with the sides exchanged and the
     /// direction turned.

@@ -1,4 +1,5 @@
--- Trees that fit each other are the same but for the order of names, and the same trees fit each other.
+-- Trees that fit each other are the same but for the order of names, and
+-- the same trees fit each other.
 use Rattle.std.proofs.Common.{◌≡◌, refl, Option, Some, None}
 use Rattle.wac_model.specs.Text.{Text}
 use Rattle.wac_model.specs.CoreTree.{ModuleTree, Serves}

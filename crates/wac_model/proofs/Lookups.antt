@@ -1,4 +1,5 @@
--- Names: when they are equal, when those that keys show are distinct, and look-ups by them in the first entries of a list.
+-- Names: when they are equal, when those that keys show are distinct, and look-ups by them
+-- in the first entries of a list.
 use Rattle.std.proofs.Common.{◌≡◌, ℕ, suc, zero, List, [], ◌∷◌, map, take, Some, slice_get, Bool, true, false, cond, refl, ap, sym, subst, ◌∙◌}
 use Rattle.std.specs.Bool.{Decides}
 use Rattle.std.specs.List.{IsDistinct, AllByRecursion}

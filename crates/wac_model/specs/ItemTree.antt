@@ -1,4 +1,5 @@
--- What an item of a component is (Component Model explainer, "Type Definitions", `externtype`), as a tree.
+-- What an item of a component is (Component Model explainer, "Type
+-- Definitions", `externtype`), as a tree.
 use Rattle.std.specs.Prelude.{Option, Some, None, if◌then◌else◌}
 use Rattle.std.specs.Str.{bytes_eq}
 use Rattle.wac_model.specs.Text.{Text}

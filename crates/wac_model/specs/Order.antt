@@ -1,10 +1,12 @@
--- The order on items (Component Model explainer, "Type Checking" and "Subtyping"): what fits where another is asked for.
+-- The order on items (Component Model explainer, "Type Checking" and "Subtyping"): what
+-- fits where another is asked for.
 use Rattle.std.specs.Prelude.{Option, Some, None}
 use Rattle.wac_model.specs.Text.{Text}
 use Rattle.wac_model.specs.CoreTree.{ModuleTree, ModuleFits}
 use Rattle.wac_model.specs.ItemTree.{Kind, Leaf, Shape, ItemTree, Items, leaf, core_module, composite, item_at}
 
--- a fits where b is asked for: the same sort of thing, which exports what b does and imports no more than b
+-- a fits where b is asked for: the same sort of thing, which exports what b
+-- does and imports no more than b
 mutual
   pub data Fits : ItemTree → ItemTree → Type 0 where
     leaves : {k : Kind} {l : Leaf} → Fits (leaf k l) (leaf k l)

@@ -1,5 +1,5 @@
--- What a value type of the Component Model is (explainer, "Type Definitions", `defvaltype`), as a tree:
--- no name of an alias is left in it, and a resource stands in it by its name.
+-- What a value type of the Component Model is (explainer, "Type Definitions", `defvaltype`), as a
+-- tree: no name of an alias is left in it, and a resource stands in it by its name.
 use Rattle.std.specs.Prelude.{ℕ, suc, zero, List, [], ◌∷◌, Bool, Option, Some, None}
 use Rattle.wac_model.specs.declared.primitive.PrimitiveType.{PrimitiveType}
 use Rattle.wac_model.specs.Text.{Text}

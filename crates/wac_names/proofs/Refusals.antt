@@ -1,4 +1,5 @@
--- The reader of versions answers want of memory for no text: a text that is no version is refused as such.
+-- The reader of versions answers want of memory for no text: a text that is
+-- no version is refused as such.
 use Rattle.std.proofs.Common.{◌≡◌, ℕ, ◌+◌, ◌*◌, ◌-◌, ◌^◌, ◌==◌, ◌∷◌, [], Bool, true, false, List, Result, Ok, Err, if◌then◌else◌, refl, sym, ap, ◌∙◌, length}
 use Rattle.std.specs.Char.{is_ascii_digit}
 use Rattle.std.specs.Prelude.{nat_lt, nat_le}

@@ -1,4 +1,5 @@
--- Facts on tracks: a name has one key and one version, compatibility is an equivalence, and what the code cuts is a key.
+-- Facts on tracks: a name has one key and one version, compatibility is an equivalence,
+-- and what the code cuts is a key.
 use Rattle.std.proofs.Common.{◌≡◌, ◌≢◌, ℕ, suc, Bool, List, [], ◌∷◌, ◌++◌, refl, sym, ap, subst, ◌∙◌, arith, inl, inr}
 use Rattle.std.specs.Prelude.{IsTrue, false}
 use Rattle.std.specs.Str.{bytes_eq}

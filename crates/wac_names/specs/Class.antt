@@ -14,7 +14,8 @@ pub data Class : Type 0 where
   on_track : (key : Text) → Class
   alone : (name : Text) → Class
 
--- whether two classes are one; a name alone is none of a track, also where its text is the track's key
+-- whether two classes are one; a name alone is none of a track, also
+-- where its text is the track's key
 abbrev pub class_eq : Class → Class → Bool
 class_eq (on_track k) (on_track l) = bytes_eq k l
 class_eq (on_track k) (alone b) = false

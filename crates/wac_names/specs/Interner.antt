@@ -1,5 +1,6 @@
--- An interner stands for a partial function from texts to keys, where keys are told apart by their `==` alone.
--- The function is given as a test: `f text key` is true of a text and each key that is the text's.
+-- An interner stands for a partial function from texts to keys, where keys are told apart
+-- by their `==` alone. The function is given as a test: `f text key` is true of a text
+-- and each key that is the text's.
 use Rattle.std.specs.Prelude.{◌≡◌, Bool, true, false, Option, Some, None}
 use Rattle.wac_model.specs.Text.{Text}
 

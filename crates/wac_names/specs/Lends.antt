@@ -10,8 +10,8 @@ use Rattle.wac_names.specs.NameMap.{Represents, definitions}
 use Rattle.wac_names.specs.contracts.name_map.NameMap.{the_row}
 use Rattle.wac_names.specs.declared.name_map.NameMap.{NameMap}
 
--- n is m after w is written at the key k: no key and no other value changes, and where m stands for some pairs
--- n stands for these with w at the key's text
+-- n is m after w is written at the key k: no key and no other value changes, and where m stands for
+-- some pairs n stands for these with w at the key's text
 pub record WritesAt {K V : Type 0} (eq : K → K → Bool) (k : K) (m : NameMap K V) (w : V) (n : NameMap K V) : Type 0 where
   pub values : definitions n ≡ set_value (eq k) (definitions m) w
   pub stands : (f : Interning K) (ps : List (Text × V)) (text : Text) → IsLawful eq f → Represents eq f m ps → f text k ≡ true → HasText ps text

@@ -49,8 +49,8 @@ module _ {K V : Type 0} where
   abbrev pub value_with_key : Interning K → List (Text × V) → K → Option V
   value_with_key f ps key = lookup (λ text. f text key) ps
 
--- the map stands for these pairs under the function f: its definitions are the values at the texts' keys, in order,
--- and for each track it notes the name with the greatest version
+-- the map stands for these pairs under the function f: its definitions are the values at the texts'
+-- keys, in order, and for each track it notes the name with the greatest version
 pub record Represents {K V : Type 0} (eq : K → K → Bool) (f : Interning K) (m : NameMap K V) (ps : List (Text × V)) : Type 0 where
   pub defined : AreEntriesOf f ps m.definitions.entries
   pub distinct : HasDistinctTexts ps
@@ -75,7 +75,8 @@ abbrev pub IsRefusalAt : {V : Type 0} → List (Text × V) → Text → Bool →
 IsRefusalAt ps name allow_shadowing (Twice text) = (allow_shadowing ≡ false) × HasText ps name × (string_bytes text ≡ name)
 IsRefusalAt ps name allow_shadowing Memory = ⊤
 
--- what `insert` answers, memory aside: it refuses exactly a name that is there, where shadowing is not allowed
+-- what `insert` answers, memory aside: it refuses exactly a name that is there,
+-- where shadowing is not allowed
 abbrev pub InsertAnswers : {K V : Type 0} → List (Text × V) → Text → Bool → Result K NameError → Type 0
 InsertAnswers ps name allow_shadowing r =
     MatchResult r (λ _. (allow_shadowing ≡ true) ⊎ (HasText ps name → ⊥)) (IsRefusalAt ps name allow_shadowing)
@@ -86,7 +87,8 @@ InsertAnswers ps name allow_shadowing r =
 abbrev pub ClonesPairs : {V : Type 0} → (V → V → Type 0) → List (Text × V) → List (Text × V) → Type 0
 ClonesPairs {V} C ps qs = AllZip (λ (p : Text × V) (q : Text × V). (q.0 ≡ p.0) × C p.1 q.1) ps qs
 
--- n is a clone of m, where a clone of a key by C equals it: it stands for clones by D of what m stands for
+-- n is a clone of m, where a clone of a key by C equals it: it stands for
+-- clones by D of what m stands for
 abbrev pub IsNameMapClone : {K V : Type 0} → (K → K → Bool) → (K → K → Type 0) → (V → V → Type 0) → NameMap K V → NameMap K V → Type 0
 IsNameMapClone {K} {V} eq C D m n = ((j k : K) → C j k → eq j k ≡ true) → (f : Interning K) (ps : List (Text × V)) → IsLawful eq f → Represents eq f m ps
     → (qs : List (Text × V)) × ClonesPairs D ps qs × Represents eq f n qs

@@ -42,8 +42,8 @@ module _ {V : Type 0} where
   abbrev pub NoneCompatible : List (Text × V) → Text → Type 0
   NoneCompatible ps name = (other : Text) → HasText ps other → IsCompatible name other → ⊥
 
-  -- what is found at a name: the value at the name itself, or else the value at the greatest version
-  -- among the compatible names, or else none
+  -- what is found at a name: the value at the name itself, or else the value at the greatest
+  -- version among the compatible names, or else none
   abbrev pub IsFound : List (Text × V) → Text → Option V → Type 0
   IsFound ps name r = MatchOption (value_at ps name) (MatchOption r (NoneCompatible ps name) (IsGreatest ps name)) (λ v. r ≡ Some v)
 

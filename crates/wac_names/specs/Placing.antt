@@ -13,14 +13,16 @@ use Rattle.wac_names.specs.declared.error.NameError.{NameError}
 use Rattle.wac_names.specs.declared.error.NameError.TheVariants.{Memory, Twice}
 use Rattle.wac_names.specs.declared.name_map.NameMap.{NameMap}
 
--- what a call that notes a version on a track may do to the notes: a note that is above it stays, or it takes the track's place
+-- what a call that notes a version on a track may do to the notes: a note that is above it
+-- stays, or it takes the track's place
 abbrev pub NotesVersion : {K : Type 0} → (K → K → Bool) → List (K × Lead K) → List (K × Lead K) → K → Lead K → Type 0
 NotesVersion {K} eq old new track lead =
     ((noted : Lead K) × (lookup (eq track) old ≡ Some noted) × (is_lt (version_cmp (parts_of lead.1) (parts_of noted.1)) ≡ true) × (new ≡ old))
     ⊎ (MatchOption (lookup (eq track) old) ⊤ (λ noted. is_lt (version_cmp (parts_of lead.1) (parts_of noted.1)) ≡ false)
     × ((k : K) → lookup (eq k) new ≡ cond (eq track k) (Some lead) (lookup (eq k) old)))
 
--- what a call that notes a name may do to the notes, where the name has this key and g is the interner's function afterwards
+-- what a call that notes a name may do to the notes, where the name has this key and g is the
+-- interner's function afterwards
 abbrev pub NotesName : {K : Type 0} → (K → K → Bool) → Interning K → Text → K → List (K × Lead K) → List (K × Lead K) → Type 0
 NotesName {K} eq g name key old new =
     (((track : Text) (w : Parts) → IsTracked name track w → ⊥) × (new ≡ old))

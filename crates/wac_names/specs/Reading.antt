@@ -6,7 +6,8 @@ use Rattle.semver.specs.Identifiers.{parts_text}
 use Rattle.semver.specs.Parse.{Parts}
 use Rattle.wac_model.specs.Text.{Text}
 
--- the front of a version's text that ends a track key: `major`, or `0.minor` where the major number is 0
+-- the front of a version's text that ends a track key: `major`, or
+-- `0.minor` where the major number is 0
 abbrev pub IsKeyFront : Parts → Text → Type 0
 IsKeyFront parts front = ((parts.0 ≢ 0) × (front ≡ decimal parts.0))
     ⊎ ((parts.0 ≡ 0) × (parts.1 ≢ 0) × (front ≡ 48 ∷ 46 ∷ decimal parts.1))

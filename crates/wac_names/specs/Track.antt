@@ -1,5 +1,6 @@
--- Tracks of names. A name may be `base@version` (Component Model explainer, "Import and Export Definitions"),
--- where the version is one of SemVer 2.0.0; names whose versions are compatible stand on one track.
+-- Tracks of names. A name may be `base@version` (Component Model explainer, "Import and
+-- Export Definitions"), where the version is one of SemVer 2.0.0; names whose versions are
+-- compatible stand on one track.
 use Rattle.std.specs.Prelude.{◌≡◌, ◌≢◌, ◌⊎◌, [], ◌∷◌, ◌++◌, Option, Some, None, EachIndex, slice_index}
 use Rattle.std.specs.Fmt.{decimal}
 use Rattle.std.specs.Ordering.{nat_cmp, on, then_cmp}
@@ -15,15 +16,15 @@ use Rattle.wac_model.specs.Text.{Text}
 abbrev pub HasNoAt : Text → Type 0
 HasNoAt text = EachIndex text (λ i. slice_index text i ≢ 64)
 
--- the name is `base@version`: the version is that of the parts (SemVer 2.0.0, items 2, 9 and 10, with numbers
--- of 64 bits), and the base has no `@`
+-- the name is `base@version`: the version is that of the parts (SemVer 2.0.0, items 2, 9 and 10,
+-- with numbers of 64 bits), and the base has no `@`
 pub record IsVersioned (name base : Text) (parts : Parts) : Type 0 where
   pub written : name ≡ base ++ 64 ∷ parts_text parts
   pub plain : HasNoAt base
   pub valid : IsValid parts
 
--- the key of a version with these numbers: `base@major`, or `base@0.minor` where the major number is 0
--- (SemVer 2.0.0, items 4 and 8: what stays compatible)
+-- the key of a version with these numbers: `base@major`, or `base@0.minor` where the major number
+-- is 0 (SemVer 2.0.0, items 4 and 8: what stays compatible)
 abbrev pub IsKeyText : Text → Parts → Text → Type 0
 IsKeyText base parts key = ((parts.0 ≢ 0) × (key ≡ base ++ 64 ∷ decimal parts.0))
     ⊎ ((parts.0 ≡ 0) × (parts.1 ≢ 0) × (key ≡ base ++ 64 ∷ 48 ∷ 46 ∷ decimal parts.1))
@@ -47,8 +48,8 @@ SameKey a b = (key : Text) × HasKey a key × HasKey b key
 abbrev pub IsCompatible : Text → Text → Type 0
 IsCompatible a b = (a ≡ b) ⊎ SameKey a b
 
--- the order of versions: by major, minor and patch, then by pre-release (SemVer 2.0.0, item 11), then by
--- build metadata, which SemVer leaves out and the crate `semver` compares
+-- the order of versions: by major, minor and patch, then by pre-release (SemVer 2.0.0, item 11),
+-- then by build metadata, which SemVer leaves out and the crate `semver` compares
 abbrev pub version_cmp : Parts → Parts → Ordering
 version_cmp = then_cmp (on (λ (p : Parts). p.0) nat_cmp) (then_cmp (on (λ (p : Parts). p.1) nat_cmp)
     (then_cmp (on (λ (p : Parts). p.2) nat_cmp) (then_cmp (on (λ (p : Parts). p.3) pre_cmp) (on (λ (p : Parts). p.4) build_cmp))))
@@ -60,7 +61,8 @@ abbrev pub IsKeyOf : Text → Option Text → Type 0
 IsKeyOf name (Some key) = HasKey name key
 IsKeyOf name None = (key : Text) → HasKey name key → ⊥
 
--- the two names stand on one track, and the first one's version is ordered so to the second's; with none they stand on no common track
+-- the two names stand on one track, and the first one's version is ordered so to the second's; with
+-- none they stand on no common track
 abbrev pub IsVersionOrder : Text → Text → Option Ordering → Type 0
 IsVersionOrder a b (Some o) = (key : Text) × (v w : Parts) × IsTracked a key v × IsTracked b key w × (o ≡ version_cmp v w)
 IsVersionOrder a b None = SameKey a b → ⊥
@@ -73,7 +75,8 @@ HasNoVersion name = (base : Text) (parts : Parts) → IsVersioned name base part
 abbrev pub HasPlainVersion : Text → Type 0
 HasPlainVersion name = (base : Text) × (parts : Parts) × IsVersioned name base parts × (parts.3 ≡ []) × (parts.4 ≡ [])
 
--- the name takes no memory to read: it has no `@`, or no version after it, or one that is three numbers alone
+-- the name takes no memory to read: it has no `@`, or no version after it, or
+-- one that is three numbers alone
 abbrev pub IsPlainName : Text → Type 0
 IsPlainName name = HasNoAt name ⊎ (HasNoVersion name ⊎ HasPlainVersion name)
 

@@ -10,8 +10,8 @@ use std::alloc::{AllocError, Global};
 use std::hash::{Hash, Hasher};
 use std::marker::Model;
 
-/// What a name is compatible with, as a key for an index: the classes of two names are equal exactly
-/// where the names are compatible.
+/// What a name is compatible with, as a key for an index: the classes of two names are equal
+/// exactly where the names are compatible.
 #[derive(Debug, Drop)]
 pub struct NameClass {
     // Whether it is the class of the names on a track.

@@ -9,8 +9,9 @@ ghost use Rattle.wac_names.specs.InternerLaws.{text_keys_lawful};
 
 use std::alloc::{AllocError, Global};
 
-/// What gives keys to texts for a `NameMap`: it stands for a partial function from texts to keys, which
-/// only grows. Keys are told apart by their `==` alone, and different texts have different keys.
+/// What gives keys to texts for a `NameMap`: it stands for a partial function from
+/// texts to keys, which only grows. Keys are told apart by their `==` alone, and
+/// different texts have different keys.
 pub trait NameMapIntern {
     /// The keys.
     type Key: Eq;
@@ -18,8 +19,8 @@ pub trait NameMapIntern {
     // Whether the key is that of the text, which has one at most.
     ghost is_key: { Self → Text → Self.Key → Bool };
 
-    /// The key of the text, which gets one if it had none. After `Err`, which is want of memory, the text
-    /// may have a key.
+    /// The key of the text, which gets one if it had none. After `Err`, which is want of
+    /// memory, the text may have a key.
     fn intern(&mut self, alloc: Global, name: &str) -> Result<Self::Key, AllocError>
         ensures key { IfOk result (λ k. is_key self.new name.now k ≡ true) }
         ensures extends { Extends (is_key self.old) (is_key self.new) }

@@ -24,10 +24,11 @@ use std::alloc::{AllocError, Global};
 use std::cmp::Ordering;
 use std::hash::Hash;
 
-/// A map from names to values, in which a name that is not there finds the greatest version on its track.
+/// A map from names to values, in which a name that is not there finds the
+/// greatest version on its track.
 ///
-/// It stands for a list of pairs of a name and a value under an interner's function: use one interner
-/// with it. What an interner is given later changes nothing in the map.
+/// It stands for a list of pairs of a name and a value under an interner's function: use one
+/// interner with it. What an interner is given later changes nothing in the map.
 #[derive(Debug)]
 pub struct NameMap<K: Eq + Hash, V> {
     definitions: IndexMap<K, V>,
@@ -75,7 +76,8 @@ impl<K: Eq + Hash, V> NameMap<K, V> {
     }
 }
 
-// Notes that the name with this key has this version on a track, unless a greater one is noted there.
+// Notes that the name with this key has this version on a track,
+// unless a greater one is noted there.
 fn note<K: Eq + Hash + Drop>(
     notes: &mut IndexMap<K, (K, Version)>,
     track: K,
@@ -149,12 +151,12 @@ impl<K: Clone + Eq + Hash + Drop, V: Drop> NameMap<K, V> {
         Ok(key)
     }
 
-    /// Defines a name, and answers its key. A name that is there gets the new value in its place, if
-    /// shadowing is allowed; else the answer is `Twice`. `Memory` is want of memory.
+    /// Defines a name, and answers its key. A name that is there gets the new value in its place,
+    /// if shadowing is allowed; else the answer is `Twice`. `Memory` is want of memory.
     ///
-    /// The name is interned first and then, unless the answer is `Twice`, its track key where it has one.
-    /// After a refusal the map is as before, and the interner may have grown. Clones of keys have to
-    /// equal their originals.
+    /// The name is interned first and then, unless the answer is `Twice`, its track key where it
+    /// has one. After a refusal the map is as before, and the interner may have grown. Clones of
+    /// keys have to equal their originals.
     pub fn insert<I: NameMapIntern<Key = K>>(
         &mut self,
         name: &str,
@@ -164,7 +166,8 @@ impl<K: Clone + Eq + Hash + Drop, V: Drop> NameMap<K, V> {
     ) -> Result<K, NameError>
         requires clones { (j k : K) → K.is_clone j k → K.eq j k ≡ true }
 
-        // The interner has the name, and the name's track where it has one, and nothing else is new.
+        // The interner has the name, and the name's track where it has
+        // one, and nothing else is new.
         ensures key { IfOk result (λ k. I.is_key cx.new name.now k ≡ true) }
         ensures track { OnOk result ((track : Text) → HasKey name.now track → IsKnown (I.is_key cx.new) track) }
         ensures extends { Extends (I.is_key cx.old) (I.is_key cx.new) }
@@ -193,9 +196,9 @@ impl<K: Eq + Hash + Drop, V> NameMap<K, V> {
         Ok(self.definitions.get(&key))
     }
 
-    /// The value at a name; where the name is not there, the value at the greatest version on its track;
-    /// else none. The greatest is told by the order of `semver::Version`: that of SemVer 2.0.0, item 11,
-    /// and then build metadata. `Err` is want of memory.
+    /// The value at a name; where the name is not there, the value at the greatest version on its
+    /// track; else none. The greatest is told by the order of `semver::Version`: that of SemVer
+    /// 2.0.0, item 11, and then build metadata. `Err` is want of memory.
     pub fn get<I: NameMapIntern<Key = K>>(
         &self,
         name: &str,

@@ -20,8 +20,8 @@ fn is_memory(e: &semver::Error) -> bool
     *e == semver::Error::from(AllocError)
 }
 
-/// The version that a text is, where it is one of SemVer 2.0.0 (items 2, 9 and 10) with numbers below
-/// 2^64.
+/// The version that a text is, where it is one of SemVer 2.0.0 (items 2, 9
+/// and 10) with numbers below 2^64.
 ///
 /// `Err` is want of memory, which only a version with a pre-release or build metadata asks for.
 pub fn read_version(alloc: Global, text: &str) -> Result<Option<Version>, AllocError>
@@ -78,8 +78,8 @@ pub(crate) fn tracked(alloc: Global, name: &str) -> Result<Option<(&str, Version
 }
 
 /// The track key of a name, where it has one: `x:y/z@1` of `x:y/z@1.2.3`, and `x:y/z@0.2` of
-/// `x:y/z@0.2.3`. What stands after the first `@` has to be a version of SemVer 2.0.0 (items 2, 9 and
-/// 10) with numbers below 2^64, no pre-release, and a major or a minor number that is not 0.
+/// `x:y/z@0.2.3`. What stands after the first `@` has to be a version of SemVer 2.0.0 (items 2, 9
+/// and 10) with numbers below 2^64, no pre-release, and a major or a minor number that is not 0.
 ///
 /// `Err` is want of memory, which only a version with a pre-release or build metadata asks for.
 pub fn track_of(alloc: Global, name: &str) -> Result<Option<&str>, AllocError>
@@ -112,9 +112,9 @@ pub fn are_semver_compatible(alloc: Global, a: &str, b: &str) -> Result<bool, Al
     }
 }
 
-/// How the version of a name stands to that of another on the track that both stand on: by major, minor
-/// and patch number (SemVer 2.0.0, item 11), and then by build metadata. None where they stand on no
-/// common track.
+/// How the version of a name stands to that of another on the track that both stand on: by
+/// major, minor and patch number (SemVer 2.0.0, item 11), and then by build metadata. None where
+/// they stand on no common track.
 ///
 /// `Err` is want of memory, which only versions with a pre-release or build metadata ask for.
 pub fn version_cmp(alloc: Global, a: &str, b: &str) -> Result<Option<Ordering>, AllocError>

@@ -144,7 +144,8 @@ module _ (c : Collection) (ss : List Key) (e : Entry) (k : Key) (last : IsLast c
       let n = subst (λ (ks : List Key). IsAmong j ks) (ap (optional_keys entry_keys) last.at) m in
       among_each (IsApart c ss) j (entry_keys e) n h t mt (walk_was c (with_entry c e) g.sound grows j t (among_each (Stands c) j (entry_keys e) n named) w)
 
-  -- what openly names only what leads to shared interfaces does so, where it is itself no more than one of them
+  -- what openly names only what leads to shared interfaces does so, where it is
+  -- itself no more than one of them
   new_covered : (ts : List Key) → ((t : Key) → IsAmong t ss → IsAmong t ts) → ((n : Text) → entry_identifier e ≡ Some n → IsAmong k ts) → Each (IsCovered c ss) (other_keys e) → IsCovered (with_entry c e) ts k
   new_covered ts more self h t n walk.stay is = self n (sym (ap (λ o. option_map_or entry_identifier o None) last.at) ∙ is)
   new_covered ts more self h t n (walk.step {j = j} m w) is =

@@ -1,4 +1,5 @@
--- What meets and joins add: a fact of the ids in the two entries that an added one was made of is one of the ids in it.
+-- What meets and joins add: a fact of the ids in the two entries that an added one was
+-- made of is one of the ids in it.
 use Rattle.std.proofs.Common.{◌≡◌, List, ◌++◌, Some, None, inl, inr, refl, ap, sym, subst, ◌∙◌}
 use Rattle.std.proofs.lemmas.List.Elements.{All-weaker}
 use Rattle.std.specs.Option.{option_map_or}

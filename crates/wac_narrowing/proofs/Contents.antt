@@ -18,7 +18,8 @@ use Rattle.wac_component.proofs.Trees.{interface-externs, world-externs}
 use Rattle.wac_checker.specs.Externs.{AreServed}
 use Rattle.wac_checker.proofs.ExternLemmas.{interfaces_fit, worlds_fit}
 
--- what the entries of two interfaces, and of two worlds, say decides whether one fits where the other is asked for
+-- what the entries of two interfaces, and of two worlds, say decides whether one
+-- fits where the other is asked for
 module _ (c d : Collection) (s : IsSound c) (t : IsSound d) (p q : Id) where
   pub interface_fits : (e f : InterfaceContent) → Stands c (interface_key p) → Stands d (interface_key q) → slice_get c.interfaces p.index ≡ Some e → slice_get d.interfaces q.index ≡ Some f
       → AreServed c d e.exports f.exports → (k : Kind) → Fits (composite k interface no_items (externs c (interface_key p)).exports) (composite k interface no_items (externs d (interface_key q)).exports)

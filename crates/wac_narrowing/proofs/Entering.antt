@@ -63,7 +63,8 @@ module _ {T : Type 0} (track : Text → T) (f : Collection) (s : State) (kept : 
       (added_covered s.own s.shared z (last_key s.own z) (last_at s.own z) kept.good may.named may.plain (taken_each track f s (IsCovered s.own s.shared) (λ i j k. k.covered) (open_next f theirs) (other_keys z) may.parts))
       (λ u n w is. let r = closed_by_taken track f s theirs (other_keys z) may.theirs_plain may.parts u n w is in (r.0, adds.remembers.kept u r.0 r.1))
 
-  -- an interface with an entry_identifier, of parts that were taken in, is closed once it is remembered
+  -- an interface with an entry_identifier, of parts that were taken in,
+  -- is closed once it is remembered
   closed_shared : (now : Memo) (theirs own : Key) (js : List Key) → AddsPair s.taken now theirs own → AreTakenKeys track f s (open_next f theirs) js → IsClosedIn f now theirs
   closed_shared now theirs own js adds parts = closed_by_parts f now theirs (λ n is. (own, adds.is))
       (λ i m u n w is. let r = (taken_of track f s (open_next f theirs) js i parts m).2.closed u n w is in (r.0, adds.kept u r.0 r.1))

@@ -24,7 +24,8 @@ IsIsolated c ss = (k : Key) → Stands c k → AreApart c ss (import_next c k)
 abbrev pub AreIdentified : Collection → List Key → Type 0
 AreIdentified c ss = (s : Key) → IsAmong s ss → (n : Text) × (identifier_at c s ≡ Some n)
 
--- a sound collection with shared entries: identified interfaces that stand, isolated, with those to which they openly lead
+-- a sound collection with shared entries: identified interfaces that stand, isolated, with
+-- those to which they openly lead
 pub record IsGood (c : Collection) (ss : List Key) : Type 0 where
   pub sound : IsSound c
   pub shared : AllStand c ss

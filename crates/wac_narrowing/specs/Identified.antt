@@ -18,7 +18,8 @@ use_names e = used_names (entry_uses e)
 abbrev pub use_names_at : Collection → Key → List Text
 use_names_at c k = option_map_or use_names (entry_at c k) []
 
--- an open walk from k that passes through no identified interface stops at t, which is identified by n
+-- an open walk from k that passes through no identified interface stops
+-- at t, which is identified by n
 pub data StopsAt (c : Collection) : Key → Key → Text → Type 0 where
   stop : {t : Key} {n : Text} → identifier_at c t ≡ Some n → StopsAt c t t n
   goes_on : {k j t : Key} {n : Text} → identifier_at c k ≡ None → IsAmong j (open_next c k) → StopsAt c j t n → StopsAt c k t n

@@ -45,7 +45,8 @@ StepsFollow = (c d e : Collection) (ss ts us : List Key) → IsStep c ss d ts �
 abbrev pub last_interface : Collection → Key
 last_interface c = interface_key (record { number = c.number; index = length c.interfaces })
 
--- an entry of any sort is added, which names what stands, and imports nothing that leads to a shared entry
+-- an entry of any sort is added, which names what stands, and imports
+-- nothing that leads to a shared entry
 abbrev pub AddingIsAStep : Type 0
 AddingIsAStep = (c d : Collection) (ss : List Key) (e : Entry) → d ≡ with_entry c e → IsGood c ss → AllStand c (entry_keys e) → AreApart c ss (import_keys e) → IsStep c ss d ss
 
@@ -68,7 +69,8 @@ BuildingIsAStep = (c d : Collection) (ss : List Key) (a b : ItemKind) (r : Resul
 abbrev pub CopiesAreApart : Type 0
 CopiesAreApart = (c d : Collection) (ss : List Key) (e : Entry) → d ≡ with_entry c e → IsGood c ss → AllStand c (entry_keys e) → AreApart c ss (entry_keys e) → IsApart d ss (last_key c e)
 
--- one without entry_identifier that openly names only what leads to shared interfaces alone does so too
+-- one without entry_identifier that openly names only what leads to
+-- shared interfaces alone does so too
 abbrev pub AddedIsCovered : Type 0
 AddedIsCovered = (c d : Collection) (ss : List Key) (e : Entry) → d ≡ with_entry c e → IsGood c ss → AllStand c (entry_keys e) → entry_identifier e ≡ None → Each (IsCovered c ss) (other_keys e) → IsCovered d ss (last_key c e)
 
@@ -93,7 +95,8 @@ PairsStayTrue = (f c d : Collection) (ss ts : List Key) (theirs own : Key) → N
 abbrev pub CopiesStay : Type 0
 CopiesStay = (f c d : Collection) (ss ts : List Key) (theirs own : Key) → Narrows c ss d ts → IsCopy f c ss theirs own → IsCopy f d ts theirs own
 
--- resources, values and functions keep what they stand for, whatever owns a resource, and so do core modules
+-- resources, values and functions keep what they stand for, whatever owns a
+-- resource, and so do core modules
 abbrev pub LeavesStay : Type 0
 LeavesStay = (c d : Collection) (ss ts : List Key) → Narrows c ss d ts → KeepsLeaves c d
 
@@ -124,7 +127,8 @@ pub record AreWorlds (f c : Collection) (p q : Id) (x z : WorldContent) : Type 0
   pub theirs : slice_get f.worlds p.index ≡ Some x
   pub own : slice_get c.worlds q.index ≡ Some z
 
--- an interface stands for another whose exports it serves, a world for one whose imports serve its own too
+-- an interface stands for another whose exports it serves, a world for one
+-- whose imports serve its own too
 abbrev pub InterfacesStandFor : Type 0
 InterfacesStandFor = (f c : Collection) (p q : Id) (x z : InterfaceContent) → AreInterfaces f c p q x z → AreServed c f z.exports x.exports → StandsFor f c (interface_key p) (interface_key q)
 
@@ -186,7 +190,8 @@ TrueOfRuns = HasRuns IsTrueOf (λ f s now theirs own. StandsFor f s.own theirs o
 abbrev pub RemembersRuns : Type 0
 RemembersRuns = HasRuns (RemembersTruly class_of) (λ f s now theirs own. IsRememberedAs class_of f s.own s.shared theirs own × IsClosedIn f now theirs)
 
--- a state that remembers nothing, with no imports and no shared entry, is in order, and true of every collection
+-- a state that remembers nothing, with no imports and no shared entry, is in
+-- order, and true of every collection
 pub record IsNew (s : State) : Type 0 where
   pub sound : IsSound s.own
   pub shared : s.shared ≡ []
@@ -206,7 +211,8 @@ RememberedStay = (f g : Collection) (s : State) → IsSound f → Extends f g �
 abbrev pub PairsAreRememberedStill : Type 0
 PairsAreRememberedStill = (f c d : Collection) (ss ts : List Key) (theirs own : Key) → Narrows c ss d ts → KeepsStops c ss d ts → IsRememberedAs class_of f c ss theirs own → IsRememberedAs class_of f d ts theirs own
 
--- an entry without entry_identifier that uses the same names, and whose ids were taken in for those of the foreign entry, one by one
+-- an entry without entry_identifier that uses the same names, and whose ids were taken in for those
+-- of the foreign entry, one by one
 abbrev pub PlainIsRemembered : Type 0
 PlainIsRemembered = (f d : Collection) (s : State) (theirs own : Key) (z : Entry) → IsSound s.own → Extends s.own d → entry_at d own ≡ Some z
     → StandsFor f d theirs own → (IsQuiet f theirs → SameTree f d theirs own)
@@ -246,7 +252,8 @@ TakenValuesStay = (f g : Collection) (s t : State) (v w : ValueType) → IsKept 
 abbrev pub CopiedValuesStay : Type 0
 CopiedValuesStay = (f g : Collection) (s t : State) (v w : ValueType) → IsKept s → Runs (RemembersTruly class_of) g s t → IsCopiedValue f s v w → IsCopiedValue f t v w
 
--- functions, and defined types, of values that were taken in: their ids were, one by one, and they say the same
+-- functions, and defined types, of values that were taken in: their ids were,
+-- one by one, and they say the same
 abbrev pub TakenFuncsSaySame : Type 0
 TakenFuncsSaySame = (f : Collection) (s : State) (x z : FuncContent) → AreFuncs (IsTakenValue class_of f s) x z → AreTakenKeys class_of f s (func_keys x) (func_keys z) × AreFuncs (SameValue f s.own) x z
 
@@ -260,7 +267,8 @@ CopiedFuncsSaySame = (f : Collection) (s : State) (x z : FuncContent) → AreFun
 abbrev pub CopiedDefinedSaySame : Type 0
 CopiedDefinedSaySame = (f : Collection) (s : State) (x z : DefinedContent) → AreDefined (IsCopiedValue f s) x z → AllStand s.own (defined_keys z) × AreApart s.own s.shared (defined_keys z) × AreDefined (SameValue f s.own) x z
 
--- the ids in named items that were taken in, one by one; they stand, and openly lead to shared interfaces alone
+-- the ids in named items that were taken in, one by one; they stand, and openly
+-- lead to shared interfaces alone
 pub record AreTakenNames (f : Collection) (s : State) (xs ys : List (Text × ItemKind)) : Type 0 where
   pub keys : AreTakenKeys class_of f s (named_keys item_keys xs) (named_keys item_keys ys)
   pub stand : AllStand s.own (named_keys item_keys ys)
@@ -306,7 +314,8 @@ abbrev pub SharedInterfacesEnter : Type 0
 SharedInterfacesEnter = (f : Collection) (s t : State) (p : Id) (x z : InterfaceContent) (n m : Text) → IsKept s → InterfaceIsTaken class_of f s p x z → x.id ≡ Some n → z.id ≡ Some m → class_of m ≡ class_of n → AddsEntry f s t (interface_key p) (interface_entry z) → AddsShared s.shared t.shared (last_interface s.own)
     → IsEntered class_of f s t (interface_key p) (last_interface s.own)
 
--- into the shared interface that stands on its track, which grows so that it serves what the new one would export
+-- into the shared interface that stands on its track, which grows so that it
+-- serves what the new one would export
 abbrev pub GrownInterfacesEnter : Type 0
 GrownInterfacesEnter = (f : Collection) (s t : State) (p : Id) (x z : InterfaceContent) (e : Id) (old new : InterfaceContent) (n m : Text) → IsKept s → InterfaceIsTaken class_of f s p x z
     → x.id ≡ Some n → old.id ≡ Some m → class_of m ≡ class_of n → CanGrow s.own s.shared e old new → AreServed s.own s.own new.exports z.exports → ¬ (NamesReach s.own (interface_keys new) (interface_key e))
@@ -357,7 +366,8 @@ pub record ArrowsStay (c : Collection) (ss : List Key) (rs : List Root) : Type 0
 abbrev pub ChangesFollowArrows : Type 0
 ChangesFollowArrows = (c : Collection) (ss : List Key) (rs : List Root) → IsGood c ss → IsArrowed c ss rs → ArrowsStay c ss rs
 
--- what a shared entry names leads along from its track, and so does what stands for a part of an interface on the track that is openly reached from a root, and what is built of such
+-- what a shared entry names leads along from its track, and so does what stands for a part of an
+-- interface on the track that is openly reached from a root, and what is built of such
 abbrev pub SharedLeadAlong : Type 0
 SharedLeadAlong = (c : Collection) (ss : List Key) (rs : List Root) (s j : Key) (n : Text) → IsArrowed c ss rs → IsSharedAs c ss s n → IsAmong j (open_next c s) → LeadsAlongArrows c ss rs (class_of n) j
 

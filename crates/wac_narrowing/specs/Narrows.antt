@@ -13,7 +13,8 @@ use Rattle.wac_checker.specs.Externs.{AreServed}
 use Rattle.wac_narrowing.specs.Identified.{use_names_at, StopsAt, IsUnstopped, IsCovered}
 use Rattle.wac_narrowing.specs.Apart.{IsApart, AreApart, IsGood}
 
--- what stood in c stands in d, where it fits as it was asked for in c; what was apart from the shared entries is so still, with its tree
+-- what stood in c stands in d, where it fits as it was asked for in c; what was apart from the
+-- shared entries is so still, with its tree
 pub record Narrows (c : Collection) (ss : List Key) (d : Collection) (ts : List Key) : Type 0 where
   pub number : d.number ≡ c.number
   pub standing : (k : Key) → Stands c k → Stands d k
@@ -21,7 +22,9 @@ pub record Narrows (c : Collection) (ss : List Key) (d : Collection) (ts : List 
   pub apart : (k : Key) → Stands c k → IsApart c ss k → IsApart d ts k
   pub same : (x : ItemKind) → AllStand c (item_keys x) → AreApart c ss (item_keys x) → item_tree d x ≡ item_tree c x
 
--- what stood in c keeps its identifier in d, and the names of its uses if it has none; an open walk from it stops in d where one did in c; what leads only to shared interfaces does so still, and where no open walk stopped it keeps its tree
+-- what stood in c keeps its identifier in d, and the names of its uses if it has none; an open walk
+-- from it stops in d where one did in c; what leads only to shared interfaces does so still, and
+-- where no open walk stopped it keeps its tree
 pub record KeepsStops (c : Collection) (ss : List Key) (d : Collection) (ts : List Key) : Type 0 where
   pub shared : (k : Key) → IsAmong k ss → IsAmong k ts
   pub identifiers : (k : Key) → Stands c k → identifier_at d k ≡ identifier_at c k
@@ -46,7 +49,8 @@ pub record AddsShared (before now : List Key) (k : Key) : Type 0 where
   pub kept : (t : Key) → IsAmong t before → IsAmong t now
   pub only : (t : Key) → IsAmong t now → (t ≡ k) ⊎ IsAmong t before
 
--- the shared interface e may say `new` in place of `old`: it keeps its identifier, and names what stands, leads only to shared interfaces, with exports that fit where the old ones did
+-- the shared interface e may say `new` in place of `old`: it keeps its identifier, and names what
+-- stands, leads only to shared interfaces, with exports that fit where the old ones did
 pub record CanGrow (c : Collection) (ss : List Key) (e : Id) (old new : InterfaceContent) : Type 0 where
   pub is_shared : IsAmong (interface_key e) ss
   pub was : slice_get c.interfaces e.index ≡ Some old

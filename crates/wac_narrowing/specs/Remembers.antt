@@ -13,7 +13,8 @@ use Rattle.wac_narrowing.specs.Identified.{use_names_at, StopsAt, IsQuiet, Openl
 use Rattle.wac_narrowing.specs.Standing.{StandsFor, IsCopy}
 use Rattle.wac_narrowing.specs.State.{State}
 
--- an own entry without an identifier, as that of an id without one: it uses the same names, and each open walk from it stops on a track to which the id openly leads
+-- an own entry without an identifier, as that of an id without one: it uses the same names, and
+-- each open walk from it stops on a track to which the id openly leads
 pub record IsPlainFor {T : Type 0} (track : Text → T) (f c : Collection) (theirs own : Key) : Type 0 where
   pub plain : identifier_at c own ≡ None
   pub uses : use_names_at c own ≡ use_names_at f theirs
@@ -26,14 +27,16 @@ pub record IsSharedFor {T : Type 0} (track : Text → T) (c : Collection) (ss : 
   pub identified : identifier_at c own ≡ Some name
   pub on_track : track name ≡ track n
 
--- the own entry stands for the id; it has the same tree where the id openly leads to no identified interface; it is a shared one on the same track, or plain
+-- the own entry stands for the id; it has the same tree where the id openly leads to no identified
+-- interface; it is a shared one on the same track, or plain
 pub record IsRememberedAs {T : Type 0} (track : Text → T) (f c : Collection) (ss : List Key) (theirs own : Key) : Type 0 where
   pub stands_for : StandsFor f c theirs own
   pub quiet : IsQuiet f theirs → (k : Kind) → item_tree c (entry_item k own) ≡ item_tree f (entry_item k theirs)
   pub shared : (n : Text) → identifier_at f theirs ≡ Some n → IsSharedFor track c ss own n
   pub plain : identifier_at f theirs ≡ None → IsPlainFor track f c theirs own
 
--- all that is remembered of ids that carry the number of f is true of f, and each identified interface to which one that was taken in openly leads was taken in
+-- all that is remembered of ids that carry the number of f is true of f, and each identified
+-- interface to which one that was taken in openly leads was taken in
 pub record RemembersTruly {T : Type 0} (track : Text → T) (f : Collection) (s : State) : Type 0 where
   pub taken : (theirs own : Key) → s.taken theirs ≡ Some own → theirs.id.number ≡ f.number → IsRememberedAs track f s.own s.shared theirs own
   pub copies : (theirs own : Key) → s.copies theirs ≡ Some own → theirs.id.number ≡ f.number → IsCopy f s.own s.shared theirs own

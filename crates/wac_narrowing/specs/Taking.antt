@@ -35,7 +35,9 @@ pub data AreTakenKeys {T : Type 0} (track : Text → T) (f : Collection) (s : St
   no_keys : AreTakenKeys track f s [] []
   one_key : {i j : Key} {is js : List Key} → IsTakenKey track f s i j → AreTakenKeys track f s is js → AreTakenKeys track f s (i ∷ is) (j ∷ js)
 
--- an own item that stands, fits where the foreign one is asked for, and names what may be remembered for what that names; it has the same tree where the foreign one openly leads to no identified interface
+-- an own item that stands, fits where the foreign one is asked for, and names what may
+-- be remembered for what that names; it has the same tree where the foreign one openly
+-- leads to no identified interface
 pub record IsTakenItem {T : Type 0} (track : Text → T) (f : Collection) (s : State) (x y : ItemKind) : Type 0 where
   pub stands : AllStand s.own (item_keys y)
   pub fits : Fits (item_tree s.own y) (item_tree f x)

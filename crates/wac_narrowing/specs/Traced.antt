@@ -36,7 +36,8 @@ pub data IsRoot (c : Collection) (k : Key) : List Root → Type 0 where
   here : {rs : List Root} → IsRoot c k (record { of = c; at = k } ∷ rs)
   there : {r : Root} {rs : List Root} → IsRoot c k rs → IsRoot c k (r ∷ rs)
 
--- an identified interface on the one track, openly reached from a root, openly leads to one on the other
+-- an identified interface on the one track, openly reached from a root,
+-- openly leads to one on the other
 pub record Arrow {T : Type 0} (track : Text → T) (rs : List Root) (a b : T) : Type 0 where
   pub of : Collection
   pub root : Key

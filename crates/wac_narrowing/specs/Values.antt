@@ -9,7 +9,8 @@ use Rattle.wac_narrowing.specs.Apart.{AreApart}
 use Rattle.wac_narrowing.specs.State.{State, IsNotedCopy}
 use Rattle.wac_narrowing.specs.Taking.{AreTakenKeys, AreMapped}
 
--- an own value type that stands, has the tree of the foreign one, and names what may be remembered for what that names
+-- an own value type that stands, has the tree of the foreign one, and names what may be
+-- remembered for what that names
 pub record IsTakenValue {T : Type 0} (track : Text → T) (f : Collection) (s : State) (v w : ValueType) : Type 0 where
   pub stands : AllStand s.own (value_keys w)
   pub same : value_tree s.own w ≡ value_tree f v
@@ -35,7 +36,8 @@ pub data IfAny {V W : Type 0} (R : V → W → Type 0) : Option V → Option W �
   neither : IfAny R None None
   both : {x : V} {y : W} → R x y → IfAny R (Some x) (Some y)
 
--- functions of the same parameters and result; defined types of the same label and members, or other names of the same; resources of the same name, or other names of one of the same
+-- functions of the same parameters and result; defined types of the same label and members, or
+-- other names of the same; resources of the same name, or other names of one of the same
 pub record AreFuncs (R : ValueType → ValueType → Type 0) (x z : FuncContent) : Type 0 where
   pub params : AreMapped R x.params z.params
   pub «result» : IfAny R x.«result» z.«result»

@@ -1,6 +1,6 @@
--- The interfaces and worlds that a package defines. A package of WIT is a component that exports, under each name, the type
--- of a component which exports that interface or that world alone, under its whole name (WIT.md of the Component Model,
--- "Package Format").
+-- The interfaces and worlds that a package defines. A package of WIT is a component that exports,
+-- under each name, the type of a component which exports that interface or that world alone, under
+-- its whole name (WIT.md of the Component Model, "Package Format").
 use Rattle.std.specs.Prelude.{◌≡◌, ◌⊎◌, List, [], ◌∷◌, Option, Some, None, MatchOption, slice_get}
 use Rattle.wac_model.specs.Text.{Text}
 use Rattle.wac_component.specs.Collection.{Collection, WorldContent}
@@ -16,8 +16,8 @@ defined_type (Instance i) = Some (OfType (TypeInterface i))
 defined_type (Component w) = Some (OfType (TypeWorld w))
 defined_type k = None
 
--- an export of this kind defines such a type: it is the type of a world that exports an instance or a component of that
--- type and nothing else, under the name of an interface
+-- an export of this kind defines such a type: it is the type of a world that exports an instance or
+-- a component of that type and nothing else, under the name of an interface
 pub record Defines (c : Collection) (kind defined : ItemKind) : Type 0 where
   pub world : Id
   pub content : WorldContent
@@ -36,7 +36,8 @@ DefinesNothing c kind = (defined : ItemKind) → Defines c kind defined → ⊥
 abbrev pub IsDefinition : Collection → ItemKind → Option ItemKind → Type 0
 IsDefinition c kind r = MatchOption r (DefinesNothing c kind) (Defines c kind)
 
--- the definitions among these exports, in order: each export's name with what it defines; one that defines nothing is left out
+-- the definitions among these exports, in order: each export's name with what it defines; one
+-- that defines nothing is left out
 abbrev pub AreDefinitions : Collection → List (Text × ItemKind) → List (Text × ItemKind) → Type 0
 AreDefinitions c [] ds = ds ≡ []
 AreDefinitions c (e ∷ es) ds = (DefinesNothing c e.1 × AreDefinitions c es ds)

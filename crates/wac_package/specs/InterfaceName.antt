@@ -1,5 +1,6 @@
--- The names of interfaces (Component Model explainer, "Import and Export Definitions", `interfacename`), with
--- one namespace and no projection, and with a version of SemVer 2.0.0 where there is one.
+-- The names of interfaces (Component Model explainer, "Import and Export
+-- Definitions", `interfacename`), with one namespace and no projection, and with a
+-- version of SemVer 2.0.0 where there is one.
 use Rattle.std.specs.Prelude.{◌≡◌, ◌⊎◌, [], ◌∷◌, ◌++◌, ◌&&◌, ◌||◌, Bool, true, false, List, ℕ, length, nat_lt}
 use Rattle.std.specs.Char.{is_ascii_alphabetic, is_ascii_digit, is_ascii_lowercase, is_ascii_uppercase}
 use Rattle.std.specs.List.{join_with_byte, list_all}

@@ -23,7 +23,8 @@ pub record KeyContent : Type 0 where
 abbrev pub borrowed_content : BorrowedPackageKey → KeyContent
 borrowed_content k = record { name = k.name.now; version = option_map (λ v. parts_of v.now) k.version }
 
--- whether two versions are equal: their numbers, and the texts of their pre-releases and of their build metadata
+-- whether two versions are equal: their numbers, and the texts of their
+-- pre-releases and of their build metadata
 abbrev pub version_eq : Parts → Parts → Bool
 version_eq v w = (v.0 == w.0) && ((v.1 == w.1) && ((v.2 == w.2) && (bytes_eq v.3 w.3 && bytes_eq v.4 w.4)))
 

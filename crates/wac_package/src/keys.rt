@@ -240,8 +240,8 @@ pub fn is_same_key<A: BorrowedKey, B: BorrowedKey>(a: &A, b: &B) -> bool
     a.borrowed_key() == b.borrowed_key()
 }
 
-/// Whether two keys have the same name and the same version. `is_same_key` says the same of keys whose
-/// types are known, to a caller that is proved.
+/// Whether two keys have the same name and the same version. `is_same_key` says the same of keys
+/// whose types are known, to a caller that is proved.
 pub fn same_key(a: &dyn BorrowedKey, b: &dyn BorrowedKey) -> bool
     ensures { IsTrue result ↔ (key a.now ≡ key b.now) }
 {

@@ -1,4 +1,5 @@
--- Items that come from sources and have no common lower bound are always apart, or two exports in sources clash.
+-- Items that come from sources and have no common lower bound are always apart,
+-- or two exports in sources clash.
 use Rattle.std.proofs.Common.{◌≡◌, ◌⊎◌, inl, inr, refl, ap, subst, ◌∙◌}
 use Rattle.wac_model.specs.Text.{Text}
 use Rattle.wac_model.specs.ItemTree.{ItemTree, item_at}

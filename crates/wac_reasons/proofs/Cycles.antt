@@ -1,4 +1,5 @@
--- Arrows between tracks are those of the table, where all that is openly reached from their roots are sources.
+-- Arrows between tracks are those of the table, where all that is openly
+-- reached from their roots are sources.
 use Rattle.std.specs.Option.{option_map_or}
 use Rattle.std.proofs.Common.{◌≡◌, List, ℕ, Option, Some, None, refl, sym, ap, subst, ◌∙◌, map, slice_get, option_map}
 use Rattle.wac_model.specs.Text.{Text}

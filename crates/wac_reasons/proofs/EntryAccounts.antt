@@ -1,4 +1,5 @@
--- An entry all parts of which were taken in comes from sources, and is open; it has its source's tree unless the item touches.
+-- An entry all parts of which were taken in comes from sources, and is open; it has its
+-- source's tree unless the item touches.
 use Rattle.std.proofs.Common.{◌≡◌, inr, List, [], ◌∷◌, Some, refl, sym, subst, ◌∙◌}
 use Rattle.wac_model.specs.Text.{Text}
 use Rattle.wac_component.specs.Collection.{Collection}
@@ -29,7 +30,8 @@ use Rattle.wac_reasons.proofs.TakenParts.{taken_exports, taken_uses}
 use Rattle.wac_reasons.proofs.TakenSame.{taken_same}
 use Rattle.wac_reasons.proofs.Accounts.{accounted_entry}
 
--- all that the foreign entry openly names was taken in, as what the own one names; and the own one has its tree where its exports have those of the foreign one's
+-- all that the foreign entry openly names was taken in, as what the own one names; and the own one
+-- has its tree where its exports have those of the foreign one's
 pub record IsMadeFrom (f : Collection) (s : State) (theirs : Key) (z : Entry) : Type 0 where
   pub named : AllStand s.own (entry_keys z)
   pub parts : AreTakenKeys class_of f s (open_next f theirs) (other_keys z)

@@ -1,4 +1,5 @@
--- What is so where an import and an item are to be merged, and where the start and the call's collection differ.
+-- What is so where an import and an item are to be merged, and where the start
+-- and the call's collection differ.
 use Rattle.std.proofs.Common.{◌≡◌, ◌≢◌, ◌⊎◌, inl, inr, List, ◌∷◌, Some, sym, ap, subst, arith}
 use Rattle.wac_component.specs.Collection.{Collection}
 use Rattle.wac_component.specs.Id.{Id}

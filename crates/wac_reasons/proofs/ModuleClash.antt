@@ -1,5 +1,5 @@
--- Modules that have no common lower bound export something under one name with different labels, so where the meet of two
--- has none with a third, one of the two has none with it.
+-- Modules that have no common lower bound export something under one name with different labels, so
+-- where the meet of two has none with a third, one of the two has none with it.
 use Rattle.std.specs.Str.{bytes_eq}
 use Rattle.std.proofs.Common.{◌≡◌, ◌⊎◌, inl, inr, refl, sym, ap, subst, ◌∙◌, Option, Some, None, List, [], ◌∷◌}
 use Rattle.std.proofs.lemmas.Slice.Eq.{bytes_eq-Decides}

@@ -1,4 +1,5 @@
--- Named items and uses that come from sources: of entries that do, taken in, met, and after each change.
+-- Named items and uses that come from sources: of entries that do, taken
+-- in, met, and after each change.
 use Rattle.std.specs.Str.{bytes_eq}
 use Rattle.std.specs.declared.alloc.AllocError.{AllocError}
 use Rattle.std.proofs.Common.{◌≡◌, inl, inr, List, Option, Some, Result, Contains}

@@ -153,7 +153,8 @@ module _ (s : State) (call : Call) (import : Option ItemTree) (kept : IsKept s) 
       touches_start attempt s t.id h.name h.entry_name h.entry (subst (λ (j : Key). (i : Key) × IsAmong i (item_keys call.kind) × OpenReaches call.types i j) same (k, m, w))
       (sym (identifier_is call.types t.id) ∙ sym (ap (identifier_at call.types) same) ∙ h.identified) h.same_track refl (λ e. apart (sym (ap (λ (c : Collection). c.number) e))) held h.is_shared h.entry_identified
 
-  -- else what was taken in for what it openly reaches leads to no identified interface, and has its tree
+  -- else what was taken in for what it openly reaches leads to no
+  -- identified interface, and has its tree
   none_untold : ((k : Key) → IsAmong k (item_keys call.kind) → (t : Key) → OpenReaches call.types k t → IsMet call.types s t → ⊥) → IsUntold attempt s
   none_untold none = record {
     grows = Extends-refl s.own;

@@ -61,7 +61,8 @@ module _ (sources : Sources) where
         sharer_moves s t n n refl (λ j o q. (o, subst (λ (m : Memo). m j ≡ Some o) (sym same_taken) q)) (h.sharers k n among (sym (names k (root_stands s kept k (of_shared among))) ∙ is));
   }
 
-  -- one more id is remembered, or shared, or other imports stand: what comes new to the roots is sourced
+  -- one more id is remembered, or shared, or other imports stand: what
+  -- comes new to the roots is sourced
   pub more_roots : (s t : State) → t.own ≡ s.own → ((k o : Key) → s.taken k ≡ Some o → (z : Key) × (t.taken k ≡ Some z))
       → ((k : Key) → IsOpenRoot t k → IsOpenRoot s k ⊎ IsSourced (IsSource sources) s.own k)
       → ((k : Key) (n : Text) → IsAmong k t.shared → identifier_at s.own k ≡ Some n → IsAmong k s.shared ⊎ IsSharer sources t n)

@@ -1,4 +1,5 @@
--- What was taken in has the tree of what it stands for, where the entries that it names have the trees of theirs.
+-- What was taken in has the tree of what it stands for, where the entries that it
+-- names have the trees of theirs.
 use Rattle.std.proofs.Common.{◌≡◌, List, [], ◌∷◌, Some, refl, sym, ap, subst, ◌∙◌}
 use Rattle.wac_model.specs.ItemTree.{ItemTree, Kind, item, type_item, Leaf, leaf, core_module, composite}
 use Rattle.wac_model.specs.Order.{Fits, leaves, modules, composites}

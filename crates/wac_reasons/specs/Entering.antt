@@ -19,7 +19,8 @@ pub record IsFromSources (P : Collection → Key → Type 0) (c : Collection) (e
   pub exports : (name : Text) (x : ItemKind) → lookup bytes_eq (entry_exports e) name ≡ Some x → IsExportFrom P name (item_tree c x)
   pub uses : (name : Text) (u : UseContent) → Contains (entry_uses e) (name, u) → IsUseFrom P c name u
 
--- a use of what was taken in, with the `name` of a foreign one, which is of an interface with an identifier
+-- a use of what was taken in, with the `name` of a foreign one, which is of
+-- an interface with an identifier
 pub record IsTakenIdentifiedUse (f : Collection) (s : State) (theirs own : UseContent) : Type 0 where
   pub same_name : own.name ≡ theirs.name
   pub identified : HasIdentifier f theirs.interface

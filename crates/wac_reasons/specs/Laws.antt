@@ -45,12 +45,14 @@ use Rattle.wac_reasons.specs.Standing.{AreMerged, IsUntouched}
 
 -- ---- clashes
 
--- items that come from sources and have no common lower bound are always apart, or two exports in sources clash
+-- items that come from sources and have no common lower bound are always apart,
+-- or two exports in sources clash
 abbrev pub ItemsClash : Type 0
 ItemsClash = (sources : Sources) (c : Collection) → IsSound c → (x y : ItemKind) → AllStand c (item_keys x) → AllStand c (item_keys y) → Each (IsSourced (IsSource sources) c) (item_keys x) → Each (IsSourced (IsSource sources) c) (item_keys y)
     → HaveNoLowerBound (item_tree c x) (item_tree c y) → AreAlwaysApart (item_tree c x) (item_tree c y) ⊎ ExportsClash (IsSource sources)
 
--- items that come from sources under one name have a common lower bound, unless two exports in sources clash
+-- items that come from sources under one name have a common lower bound,
+-- unless two exports in sources clash
 abbrev pub NamedItemsClash : Type 0
 NamedItemsClash = (sources : Sources) (c : Collection) → IsSound c → (name : Text) (x y : ItemKind) → IsSourcedItem (IsSource sources) c name x → IsSourcedItem (IsSource sources) c name y → HaveNoLowerBound (item_tree c x) (item_tree c y) → ExportsClash (IsSource sources)
 
@@ -101,7 +103,8 @@ WorldsAreFromSources = (sources : Sources) (c : Collection) (w : WorldContent) �
 abbrev pub NewIsSourced : Type 0
 NewIsSourced = (sources : Sources) (s : State) → IsNew s → AreSourced sources s
 
--- where all that open walks lead to is held and uses interfaces with identifiers, and the sources start there, all comes from sources
+-- where all that open walks lead to is held and uses interfaces with identifiers, and the sources
+-- start there, all comes from sources
 abbrev pub HeldIsSourced : Type 0
 HeldIsSourced = (sources : Sources) (s : State) → sources.start ≡ s.own → AreHeld s → AreSourced sources s
 
@@ -137,7 +140,8 @@ EntriesKeepSources = (sources : Sources) (f : Collection) (s t : State) (theirs 
 abbrev pub EnteredIsSourced : Type 0
 EnteredIsSourced = (sources : Sources) (f : Collection) (s t : State) (theirs : Key) (z : Entry) → IsKept s → AddsEntry f s t theirs z → AllStand s.own (entry_keys z) → IsFromSources (IsSource sources) s.own z → IsSourced (IsSource sources) t.own (last_key s.own z)
 
--- sharing an interface that comes from sources, for a source on its track, keeps what comes from sources
+-- sharing an interface that comes from sources, for a source on its
+-- track, keeps what comes from sources
 abbrev pub SharingKeepsSources : Type 0
 SharingKeepsSources = (sources : Sources) (f : Collection) (s t : State) (theirs : Key) (z : InterfaceContent) (n m : Text) → AddsEntry f s t theirs (interface_entry z) → AddsShared s.shared t.shared (last_key s.own (interface_entry z)) → AllStand s.own (interface_keys z)
     → (AreSourced sources s → IsFromSources (IsSource sources) s.own (interface_entry z)) → IsSource sources f theirs → identifier_at f theirs ≡ Some n → z.id ≡ Some m → class_of m ≡ class_of n → KeepsSourced sources s t
@@ -155,7 +159,8 @@ TakingKeepsSources = (sources : Sources) (s t : State) (theirs own : Key) → t.
 abbrev pub ImportsKeepSources : Type 0
 ImportsKeepSources = (sources : Sources) (s t : State) → t.own ≡ s.own → t.shared ≡ s.shared → t.taken ≡ s.taken → (AreSourced sources s → (n : Text) (x : ItemKind) → t.imports n ≡ Some x → (k : Key) → IsAmong k (item_keys x) → IsSourced (IsSource sources) s.own k) → KeepsSourced sources s t
 
--- a collection in which an interface stands isn't the empty one, and collections with two numbers aren't one
+-- a collection in which an interface stands isn't the empty one, and
+-- collections with two numbers aren't one
 abbrev pub StartsAreApart : Type 0
 StartsAreApart = ((c : Collection) (i : Id) → Stands c (interface_key i) → nothing ≢ c) × ((c d : Collection) → c.number ≢ d.number → c ≢ d)
 
@@ -165,7 +170,8 @@ StartsAreApart = ((c : Collection) (i : Id) → Stands c (interface_key i) → n
 abbrev pub NewIsSplit : Type 0
 NewIsSplit = (s : State) → IsNew s → AreSplit s
 
--- where the two are apart and all comes from sources, all that open walks lead to is held and uses interfaces with identifiers
+-- where the two are apart and all comes from sources, all that open walks lead to is held and
+-- uses interfaces with identifiers
 abbrev pub SplitIsHeld : Type 0
 SplitIsHeld = (sources : Sources) (s : State) → IsKept s → AreSplit s → AreSourced sources s → AreHeld s
 
@@ -217,12 +223,14 @@ abbrev pub MergesAreMismatches : Type 0
 MergesAreMismatches = (a : Attempt) (c : Collection) (x y : ItemKind) → IsSound c → AllStand c (item_keys x) → AllStand c (item_keys y)
     → Each (IsSourced (IsSource a.sources) c) (item_keys x) → Each (IsSourced (IsSource a.sources) c) (item_keys y) → AreMerged a c x y → HaveNoLowerBound (item_tree c x) (item_tree c y) → IsReason a mismatch
 
--- an item that was taken in since the import stood, and touches or changed nothing, is merged with it
+-- an item that was taken in since the import stood, and touches or
+-- changed nothing, is merged with it
 abbrev pub MergesFollowTaking : Type 0
 MergesFollowTaking = (a : Attempt) (s t : State) (x y : ItemKind) → IsKept s → Narrows s.own s.shared t.own t.shared → AllStand s.own (item_keys x) → a.import ≡ Some (item_tree s.own x) → IsTakenItem class_of a.call.types t a.call.kind y
     → Touches a ⊎ IsUntouched a.call.types s t a.call.kind y → AreMerged a t.own x y
 
--- where the item touches, and two items that come from sources under one name can't be met, there is reason for a mismatch
+-- where the item touches, and two items that come from sources under one name can't be met,
+-- there is reason for a mismatch
 abbrev pub GrowthsAreMismatches : Type 0
 GrowthsAreMismatches = (a : Attempt) (c : Collection) (name : Text) (x y : ItemKind) → IsSound c → Touches a → IsSourcedItem (IsSource a.sources) c name x → IsSourcedItem (IsSource a.sources) c name y → HaveNoLowerBound (item_tree c x) (item_tree c y) → IsReason a mismatch
 
@@ -235,11 +243,13 @@ InterfacesAreReasons = (a : Attempt) (c : Collection) (used expected found : Tex
 abbrev pub NamesAreReasons : Type 0
 NamesAreReasons = (a : Attempt) (c : Collection) (used : Text) (u v : UseContent) → Meets a → IsUseFrom (IsSource a.sources) c used u → IsUseFrom (IsSource a.sources) c used v → u.name ≢ v.name → IsReason a (used_name used)
 
--- where arrows lead back to the track of an interface that the item openly reaches, there is reason for a cycle
+-- where arrows lead back to the track of an interface that the item openly
+-- reaches, there is reason for a cycle
 abbrev pub CyclesAreReasons : Type 0
 CyclesAreReasons = (a : Attempt) (rs : List Root) (i : Id) (name : Text) → RootsAreSources a.sources rs → OpenlyReached a (interface_key i) → identifier a.call.types i ≡ Some name → Arrows class_of rs (class_of name) (class_of name) → IsReason a (cycle name)
 
--- an item touches that openly reaches an interface which wasn't taken in, with a shared entry on its track
+-- an item touches that openly reaches an interface which wasn't taken in,
+-- with a shared entry on its track
 abbrev pub NewInterfacesTouch : Type 0
 NewInterfacesTouch = (a : Attempt) (s : State) (i : Id) (name m : Text) → OpenlyReached a (interface_key i) → identifier a.call.types i ≡ Some name → class_of m ≡ class_of name
     → a.sources.start ≢ a.call.types → s.taken (interface_key i) ≡ None → IsSharer a.sources s m → Touches a

@@ -22,11 +22,13 @@ pub record IsExportApart (P : Collection → Key → Type 0) (name : Text) (tree
   pub exported : lookup bytes_eq (exports_at types key) name ≡ Some export
   pub apart : AreAlwaysApart (item_tree types export) tree
 
--- whatever the tree is always apart from, an export under the name in one of these entries is so too
+-- whatever the tree is always apart from, an export under the name in
+-- one of these entries is so too
 abbrev pub IsExportFrom : (Collection → Key → Type 0) → Text → ItemTree → Type 0
 IsExportFrom P name tree = (other : ItemTree) → AreAlwaysApart tree other → IsExportApart P name other
 
--- a use under the name in one of these entries has the same `name`, and is of an interface on the same track
+-- a use under the name in one of these entries has the same `name`, and is of
+-- an interface on the same track
 pub record IsUseFrom (P : Collection → Key → Type 0) (c : Collection) (name : Text) (u : UseContent) : Type 0 where
   pub types : Collection
   pub key : Key

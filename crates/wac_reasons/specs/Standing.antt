@@ -10,7 +10,8 @@ use Rattle.wac_call_lists.specs.Call.{call_tree}
 use Rattle.wac_narrowing.specs.State.{State}
 use Rattle.wac_reasons.specs.Bare.{bare}
 
--- the import x on the name's track has the bare tree of the one that stood before the call, and the own item y that of the call's item
+-- the import x on the name's track has the bare tree of the one that stood before the call, and the
+-- own item y that of the call's item
 pub record AreMerged (a : Attempt) (own : Collection) (x y : ItemKind) : Type 0 where
   pub tree : ItemTree
   pub stood : a.import ≡ Some tree

@@ -19,7 +19,8 @@ use Rattle.wac_reasons.specs.Sharing.{AreSourced}
 use Rattle.wac_reasons.specs.Sourced.{IsSourced}
 use Rattle.wac_reasons.specs.Split.{IsLow, IsOpenKey, AreSplit}
 
--- the item of the call openly reaches these ids of its collection f, which isn't the one at the start; the call is a source
+-- the item of the call openly reaches these ids of its collection f, which isn't the one at
+-- the start; the call is a source
 pub record IsTrial (a : Attempt) (f : Collection) (ks : List Key) : Type 0 where
   pub types : a.call.types ≡ f
   pub reached : (k : Key) → IsAmong k ks → OpenlyReached a k
@@ -27,12 +28,15 @@ pub record IsTrial (a : Attempt) (f : Collection) (ks : List Key) : Type 0 where
   pub source : Contains a.sources.calls a.call
   pub apart : a.sources.start ≢ f
 
--- entries were only added since the start, and what was taken in for what the item openly reaches has its tree
+-- entries were only added since the start, and what was taken in for what the
+-- item openly reaches has its tree
 pub record IsUntold (a : Attempt) (s : State) : Type 0 where
   pub grows : Extends a.sources.start s.own
   pub same : (theirs own : Key) → OpenlyReached a theirs → s.taken theirs ≡ Some own → SameTree a.call.types s.own theirs own
 
--- all that open walks lead to comes from sources, and is apart from what is below imports; walks between shared entries follow arrows from roots that lead to sources alone; and the item touches, or what is only new was added
+-- all that open walks lead to comes from sources, and is apart from what is below imports; walks
+-- between shared entries follow arrows from roots that lead to sources alone; and the item
+-- touches, or what is only new was added
 pub record IsAccounted (a : Attempt) (s : State) : Type 0 where
   pub sourced : AreSourced a.sources s
   pub split : AreSplit s
@@ -47,7 +51,8 @@ pub record IsOpenSource (a : Attempt) (s : State) (k : Key) : Type 0 where
   pub sourced : IsSourced (IsSource a.sources) s.own k
   pub opens : IsOpenKey s k
 
--- so is all of the next state; entries were only added, unless the item touches; what was open and came from sources is and does so still, and what was low is
+-- so is all of the next state; entries were only added, unless the item touches; what was open and
+-- came from sources is and does so still, and what was low is
 pub record StaysAccounted (a : Attempt) (s t : State) : Type 0 where
   pub now : IsAccounted a t
   pub grows : Touches a ⊎ Extends s.own t.own

@@ -15,8 +15,8 @@ pub fn clashes_come_from_sources()
     ensures named_items { NamedItemsClash }
 {}
 
-/// Exports and uses come from sources where their entry does, where they were taken in for those of a
-/// source, and where they are met; they do so after each change, and so does an entry of such.
+/// Exports and uses come from sources where their entry does, where they were taken in for those of
+/// a source, and where they are met; they do so after each change, and so does an entry of such.
 pub fn items_come_from_sources()
     ensures old { OldItemsAreSourced }
     ensures taken_exports { TakenExportsAreFromSources }
@@ -29,8 +29,8 @@ pub fn items_come_from_sources()
     ensures worlds { WorldsAreFromSources }
 {}
 
-/// All of a new aggregator comes from sources, and all of one in which what is openly reached is held
-/// and uses interfaces with identifiers.
+/// All of a new aggregator comes from sources, and all of one in which what is openly reached is
+/// held and uses interfaces with identifiers.
 pub fn aggregators_start_sourced()
     ensures new { NewIsSourced }
     ensures held { HeldIsSourced }
@@ -38,7 +38,8 @@ pub fn aggregators_start_sourced()
     ensures apart { StartsAreApart }
 {}
 
-/// Each change of an aggregator keeps what comes from sources, where what it puts in comes from there.
+/// Each change of an aggregator keeps what comes from sources, where
+/// what it puts in comes from there.
 pub fn changes_keep_sources()
     ensures nothing { NothingKeepsSources }
     ensures follow { KeepingFollows }

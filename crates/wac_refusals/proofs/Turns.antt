@@ -16,7 +16,8 @@ use Rattle.wac_checker.proofs.Lookups.{get_named}
 use Rattle.wac_core_merge.proofs.NameLemmas.{lookup-append, lookup-by_test, lookup_at_turn}
 use Rattle.wac_refusals.specs.Found.{HasNone}
 
--- a `for` over all entries, which has yielded ys and yields x now: what all have under the name of x is x
+-- a `for` over all entries, which has yielded ys and yields x now: what
+-- all have under the name of x is x
 pub name_has : {V A : Type 0} (shows : A → String Global × V) (all : List (String Global × V)) (ys : List A) (s t u : List (String Global × V)) (r : Option A) (x : A)
     → s ≡ all → Yields (TakesFirst shows) s ys t → r ≡ Some x → TakesFirst shows t r u → IsDistinct (λ j k. bytes_eq (string_bytes j) (string_bytes k)) (keys_of all)
     → lookup bytes_eq (named (λ v. v) all) (string_bytes (shows x).0) ≡ Some (shows x).1

@@ -60,8 +60,8 @@ HasNoClash a b = AreAlike (item_side a) (item_side b) → (n : Text) (x y : Item
 abbrev pub HasNoCoreClash : ItemTree → ItemTree → Type 0
 HasNoCoreClash a b = AreAlike (item_side a) (item_side b) → (n : Text) (x y : CoreTree) → core_export_of a n ≡ Some x → core_export_of b n ≡ Some y → ¬ (AreCoresApart x y)
 
--- the frames lead on from two items that have no meet, from exports of one name to exports of one name that have none,
--- to the innermost, and the error is what is said of these
+-- the frames lead on from two items that have no meet, from exports of one name to exports of one
+-- name that have none, to the innermost, and the error is what is said of these
 pub data ClashesAt (c : SubtypeCheck) (e : SubtypeError) : List MergeFrame → ItemTree → ItemTree → Type 0 where
   here : {a b : ItemTree} → HasNoClash a b → HasNoCoreClash a b → Says e c (item_side a) (item_side b) → ClashesAt c e [] a b
   in_modules : {a b : ItemTree} (name : String Global) (x y : CoreTree) → AreAlike (item_side a) (item_side b)

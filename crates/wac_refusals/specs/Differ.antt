@@ -12,7 +12,8 @@ use Rattle.wac_refusals.specs.declared.error.AggregateError.{AggregateError}
 use Rattle.wac_refusals.specs.declared.error.AggregateError.TheVariants.{Memory}
 use Rattle.wac_refusals.specs.Said.{said}
 
--- uses of one name in the two lists are of interfaces on different tracks, or of different names in these, it says
+-- uses of one name in the two lists are of interfaces on different tracks, or of
+-- different names in these, it says
 pub data SaysUsesDiffer (c : Collection) (us vs : List (Text × UseContent)) (e : AggregateError) : Type 0 where
   of_interfaces : (name expected found : Text) (u v : UseContent) → Contains us (name, u) → Contains vs (name, v) → identifier c u.interface ≡ Some expected → identifier c v.interface ≡ Some found → class_of expected ≢ class_of found → said e ≡ Some (used_interface name expected found) → SaysUsesDiffer c us vs e
   of_names : (name : Text) (u v : UseContent) → Contains us (name, u) → Contains vs (name, v) → u.name ≢ v.name → said e ≡ Some (used_name name) → SaysUsesDiffer c us vs e

@@ -67,7 +67,8 @@ pub record IsCoreClashOf (a b : ItemTree) (found : CoreClash) : Type 0 where
   pub apart : AreCoresApart left right
   pub says : SaysOfCores found.error left right
 
--- what a search answers: nothing where it says that there is none, else what it says of what it found
+-- what a search answers: nothing where it says that there is none,
+-- else what it says of what it found
 
 -- no name of both has two that are in the relation
 abbrev pub HasNone : {V : Type 0} → (V → V → Type 0) → List (Text × V) → List (Text × V) → Type 0

@@ -24,7 +24,8 @@ pub record AreOfOne (c : Collection) (u v : UseContent) : Type 0 where
 abbrev pub UsesAgree : Collection → List (Text × UseContent) → List (Text × UseContent) → Type 0
 UsesAgree c us vs = (name : Text) (u v : UseContent) → lookup bytes_eq us name ≡ Some u → Contains vs (name, v) → AreOfOne c u v
 
--- the entries of two items of one case, if those use: instances, components, or types that are interfaces or worlds
+-- the entries of two items of one case, if those use: instances, components, or
+-- types that are interfaces or worlds
 abbrev pub users : ItemKind → ItemKind → Option (Key × Key)
 users (Instance a) (Instance b) = Some (interface_key a, interface_key b)
 users (Component a) (Component b) = Some (world_key a, world_key b)

@@ -46,7 +46,8 @@ pub fn mismatch(
     }
 }
 
-// The mismatch of two items that have no meet, and no exports of one name that have none, but those of core modules.
+// The mismatch of two items that have no meet, and no exports of one name that have
+// none, but those of core modules.
 fn innermost(
     alloc: Global,
     own: &Types,

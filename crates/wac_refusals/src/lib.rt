@@ -1,5 +1,5 @@
-//! Why imports of components can't be merged: what an error says, whether uses of one name agree, and where two items
-//! that have no meet clash.
+//! Why imports of components can't be merged: what an error says, whether uses of one name agree,
+//! and where two items that have no meet clash.
 #![tactic(auto)]
 
 mod checks;

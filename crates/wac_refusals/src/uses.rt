@@ -16,8 +16,9 @@ use std::alloc::{AllocError, Global};
 use wac_component::{InterfaceId, ItemKind, Type, Types, UsedType, WorldId};
 use wac_names::are_semver_compatible;
 
-/// Refuses two interfaces, or two worlds, that use one name of interfaces on different tracks (`UsedInterface`), or of
-/// other names there (`UsedName`); two items of other cases are let pass. What stands in them isn't looked at.
+/// Refuses two interfaces, or two worlds, that use one name of interfaces on different tracks
+/// (`UsedInterface`), or of other names there (`UsedName`); two items of other cases are let pass.
+/// What stands in them isn't looked at.
 pub fn check_uses_of(
     alloc: Global,
     types: &Types,
@@ -82,8 +83,9 @@ fn check_worlds(
     check_uses(alloc, types, &types[existing].uses, &types[new].uses)
 }
 
-/// Refuses uses of one name of interfaces on different tracks (`UsedInterface`), or of other names there (`UsedName`);
-/// where none are, each use of the second map may stand with that of its name in the first.
+/// Refuses uses of one name of interfaces on different tracks (`UsedInterface`), or of
+/// other names there (`UsedName`); where none are, each use of the second map may stand
+/// with that of its name in the first.
 pub fn check_uses(
     alloc: Global,
     types: &Types,
@@ -102,7 +104,8 @@ pub fn check_uses(
     Ok(())
 }
 
-// Refuses two uses of one name that are of interfaces on different tracks, or of different names there.
+// Refuses two uses of one name that are of interfaces on different
+// tracks, or of different names there.
 fn check_use(
     alloc: Global,
     types: &Types,

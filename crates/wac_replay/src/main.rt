@@ -1,6 +1,6 @@
-//! The program `wac-replay`: reads a script that builds collections of types and asks questions, and
-//! prints the answers. With the words `check FILE..` it checks scripts whose questions have their answers
-//! beside them, and with `bench NAME N` it measures how long some work takes.
+//! The program `wac-replay`: reads a script that builds collections of types and asks questions,
+//! and prints the answers. With the words `check FILE..` it checks scripts whose questions have
+//! their answers beside them, and with `bench NAME N` it measures how long some work takes.
 #![tactic(auto)]
 
 use std::io::{BufRead, Write};

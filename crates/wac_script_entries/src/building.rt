@@ -7,8 +7,9 @@ use std::alloc::Global;
 use wac_component::Types;
 use wac_script_syntax::{Command, ScriptError, read_line, unexpected};
 
-/// Puts the entry that a line describes last in the list of its sort. Refused, the collection is unchanged:
-/// `Unexpected` where the line adds no entry, and else as [`add`] and `read_line` refuse it.
+/// Puts the entry that a line describes last in the list of its sort. Refused, the
+/// collection is unchanged: `Unexpected` where the line adds no entry, and else as
+/// [`add`] and `read_line` refuse it.
 pub fn add_line<'a>(alloc: Global, types: &mut Types, line: &'a str) -> Result<(), ScriptError<'a>>
     ensures number { types.new.number ≡ types.old.number }
     ensures err { OnErr result (types.new ≡ types.old) }
@@ -19,8 +20,8 @@ pub fn add_line<'a>(alloc: Global, types: &mut Types, line: &'a str) -> Result<(
     }
 }
 
-/// A collection of this number, of the entries that lines describe, in their order. It is refused as the
-/// first line is for which [`add_line`] is.
+/// A collection of this number, of the entries that lines describe, in their order. It is refused
+/// as the first line is for which [`add_line`] is.
 pub fn built<'a>(alloc: Global, number: u64, lines: &'a str) -> Result<Types, ScriptError<'a>>
     ensures { IfOk result (λ types. types.number ≡ number) }
 {

@@ -52,7 +52,8 @@ fn add_value<'a>(
     }
 }
 
-// The items of the members `NAME=ITEM` of one part, whose letter and colon each of them begins with.
+// The items of the members `NAME=ITEM` of one part, whose letter and
+// colon each of them begins with.
 fn named_items<'a>(
     alloc: Global,
     types: &Types,

@@ -12,8 +12,8 @@ use wac_core::ModuleType;
 use wac_item_text::push_extern;
 use wac_script_syntax::push_name;
 
-/// Puts the line that builds an entry last, with its names in their order; of a value type that is no
-/// entry, its word.
+/// Puts the line that builds an entry last, with its names in their order; of a value
+/// type that is no entry, its word.
 pub fn push_entry(line: &mut String, types: &Types, entry: Type) -> Result<(), AllocError>
     requires { AllStand types.now (type_keys entry) }
 {

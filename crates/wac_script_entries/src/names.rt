@@ -99,7 +99,8 @@ pub fn find_value(types: &Types, value: Value) -> Result<ValueType, EntryName>
     }
 }
 
-/// The value type that a word names, if there is one. The name of its entry comes back where that isn't there.
+/// The value type that a word names, if there is one. The name of its entry
+/// comes back where that isn't there.
 pub(crate) fn find_optional_value(
     types: &Types,
     value: Option<Value>,

@@ -54,12 +54,12 @@ fn refuse<E: Write>(err: &mut E, name: &str, line: usize, failure: &Failure<'_>)
 
 /// Checks a script that has answers and refusals beside its lines, and answers the status.
 ///
-/// Each line that is answered otherwise, or not refused as is said beside it, is printed to `out`, after the
-/// name of the script and its number, from 1, with what is expected and what is found; then one line has the
-/// number of questions. The status is 1 where one differs. A line that is refused with no refusal
-/// beside it, a question without an answer, and an answer or a refusal with nothing before it end the
-/// check: `err` gets a line that says so, and the status is 2. Where there is no memory or a write
-/// fails, nothing more is written, and the status is 1.
+/// Each line that is answered otherwise, or not refused as is said beside it, is printed to `out`,
+/// after the name of the script and its number, from 1, with what is expected and what is found;
+/// then one line has the number of questions. The status is 1 where one differs. A line that is
+/// refused with no refusal beside it, a question without an answer, and an answer or a refusal with
+/// nothing before it end the check: `err` gets a line that says so, and the status is 2. Where
+/// there is no memory or a write fails, nothing more is written, and the status is 1.
 pub fn check_script<W: Write, E: Write>(
     alloc: Global,
     name: &str,
@@ -90,9 +90,9 @@ fn check_file<H: Files + AllocGlobal, W: Write, E: Write>(
     }
 }
 
-/// Checks the scripts in files, each as [`check_script`] does, and answers the status: 2 where one is
-/// refused, and then no other is looked at, else 1 where one answers 1, else 0. A file that can't be
-/// read as text is refused.
+/// Checks the scripts in files, each as [`check_script`] does, and answers the status: 2 where one
+/// is refused, and then no other is looked at, else 1 where one answers 1, else 0. A file that
+/// can't be read as text is refused.
 pub(crate) fn check_files<H: Files + AllocGlobal, W: Write, E: Write>(
     rt: &H,
     names: &[&str],

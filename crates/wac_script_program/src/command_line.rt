@@ -11,9 +11,9 @@ use std::time::Clock;
 
 /// Carries out the words after the program's name, and answers the status.
 ///
-/// Without words the script on `reader` is answered. `check FILE..` checks scripts that have answers and
-/// refusals beside their lines, and `bench NAME N` prints the line of a benchmark. Any other words give
-/// the usage line on `err` and the status 2.
+/// Without words the script on `reader` is answered. `check FILE..` checks scripts that have
+/// answers and refusals beside their lines, and `bench NAME N` prints the line of a benchmark. Any
+/// other words give the usage line on `err` and the status 2.
 pub fn run<H: Clock + Files + AllocGlobal, R: BufRead + Drop, W: Write, E: Write>(
     rt: &H,
     words: &[&str],
@@ -29,10 +29,10 @@ pub fn run<H: Clock + Files + AllocGlobal, R: BufRead + Drop, W: Write, E: Write
     }
 }
 
-// Runs the benchmark of this name at this size, prints its line to `out`, and answers the status. A size
-// that is no number from 1 to 2^32 - 1 gives the usage line on `err`, and a name of no benchmark a line that
-// says so, both with the status 2. Where nothing could be measured, `err` gets a line that says why,
-// and the status is 1.
+// Runs the benchmark of this name at this size, prints its line to `out`, and answers the status. A
+// size that is no number from 1 to 2^32 - 1 gives the usage line on `err`, and a name of no
+// benchmark a line that says so, both with the status 2. Where nothing could be measured, `err`
+// gets a line that says why, and the status is 1.
 fn run_benchmark<C: Clock, W: Write, E: Write>(
     clock: &C,
     alloc: Global,

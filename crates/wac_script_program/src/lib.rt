@@ -1,11 +1,11 @@
-//! What the program `wac-replay` does with its words: it answers a script, checks scripts whose questions
-//! have their answers beside them, and measures how long some work takes.
+//! What the program `wac-replay` does with its words: it answers a script, checks scripts whose
+//! questions have their answers beside them, and measures how long some work takes.
 //!
 //! # Questions with their answers
 //!
-//! In a script that is checked, each line of the answer stands after its query, after `= `, without the
-//! number of the query. After a line that is to be refused, one line says how, after `! `; it is a question
-//! too, whatever the line asks for:
+//! In a script that is checked, each line of the answer stands after its query, after `= `, without
+//! the number of the query. After a line that is to be refused, one line says how, after `! `; it
+//! is a question too, whatever the line asks for:
 //!
 //! ```text
 //! # a component may import less than the target world has

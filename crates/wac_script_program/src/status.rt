@@ -3,15 +3,16 @@
 use std::io;
 use std::io::Write;
 
-/// The status after a script that was read to its end, after scripts whose answers are right, and after a
-/// benchmark.
+/// The status after a script that was read to its end, after scripts whose answers are
+/// right, and after a benchmark.
 pub const DONE: u8 = 0;
 
-/// The status where an answer or a refusal differs from the one beside its line, where there was no memory,
-/// and where a read or a write failed.
+/// The status where an answer or a refusal differs from the one beside its line, where there was no
+/// memory, and where a read or a write failed.
 pub const FAILED: u8 = 1;
 
-/// The status after a line that is malformed and isn't said to be refused, or words that are no command.
+/// The status after a line that is malformed and isn't said to be refused,
+/// or words that are no command.
 pub const MALFORMED: u8 = 2;
 
 /// Prints the usage line, and answers the status.

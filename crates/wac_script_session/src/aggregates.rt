@@ -97,8 +97,8 @@ pub(crate) fn aggregate_calls<'a>(
     Ok(aggregated(alloc, number, &calls, true))
 }
 
-/// Puts the answer to `aggregate` last: the imports that calls make, the names that lead to them, and whether they fit
-/// where the items are asked for, or why a call is refused.
+/// Puts the answer to `aggregate` last: the imports that calls make, the names that lead to them,
+/// and whether they fit where the items are asked for, or why a call is refused.
 pub(crate) fn aggregate<'a>(
     alloc: Global,
     text: &mut String,

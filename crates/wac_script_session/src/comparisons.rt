@@ -41,8 +41,8 @@ fn read_comparison<'a>(words: &[&'a str]) -> Result<Comparison, ScriptError<'a>>
     })
 }
 
-/// Puts the answer to `subtype` last: `yes`, or `no: ` and the texts of the frames and of the fault, asked of
-/// a new checker with this cache.
+/// Puts the answer to `subtype` last: `yes`, or `no: ` and the texts of the frames and of the
+/// fault, asked of a new checker with this cache.
 pub(crate) fn subtype<'a>(
     alloc: Global,
     text: &mut String,

@@ -7,8 +7,8 @@ use wac_checker::SubtypeChecker;
 use wac_core::CoreExtern;
 use wac_script_syntax::{ScriptError, read_extern};
 
-/// Puts the answer to `coresub` last: `yes` where the first extern fits where the second is asked for, else
-/// `no: ` and what they disagree in. No frame stands before that.
+/// Puts the answer to `coresub` last: `yes` where the first extern fits where the second is asked
+/// for, else `no: ` and what they disagree in. No frame stands before that.
 pub(crate) fn core_subtype<'a>(
     alloc: Global,
     text: &mut String,
@@ -33,8 +33,8 @@ fn compare(
     push_outcome(alloc, text, checker.core_subtype(alloc, left, right))
 }
 
-/// Puts the sort of an extern, and the text of its function type, its element type or the type of its value
-/// last: the answer to `core`.
+/// Puts the sort of an extern, and the text of its function type, its element type or the type of
+/// its value last: the answer to `core`.
 pub(crate) fn core<'a>(
     alloc: Global,
     text: &mut String,

@@ -53,8 +53,8 @@ fn read_package<'a>(words: &[&'a str]) -> Result<(u64, Growth), ScriptError<'a>>
     Ok((number, Growth::Package(read_world(world)?)))
 }
 
-/// Reads what is made of entries of the collection of a number, which comes first, from the words after a
-/// command: `meet`, `join`, or else `package`.
+/// Reads what is made of entries of the collection of a number, which comes first, from the words
+/// after a command: `meet`, `join`, or else `package`.
 pub(crate) fn read_growth<'a>(
     command: &str,
     words: &[&'a str],
@@ -174,7 +174,8 @@ fn bound_of(
     }
 }
 
-// Puts a package that is made of a world last: the interface that is added, and the definitions in order.
+// Puts a package that is made of a world last: the interface that is
+// added, and the definitions in order.
 fn add_package<'a>(
     alloc: Global,
     text: &mut String,

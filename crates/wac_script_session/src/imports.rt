@@ -16,7 +16,8 @@ use wac_item_text::push_item_text;
 use wac_mismatch::SubtypeError;
 use wac_script_syntax::push_name;
 
-/// Puts `ok` last, the imports of an aggregator, the names that lead to them, and which item each serves.
+/// Puts `ok` last, the imports of an aggregator, the names that lead to
+/// them, and which item each serves.
 pub(crate) fn push_imports(
     alloc: Global,
     text: &mut String,

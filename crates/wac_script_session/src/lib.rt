@@ -1,7 +1,7 @@
 //! What a script has built so far, and the answers to its queries.
 //!
-//! A [`Session`] carries out one command after the other, as they are read by `wac_script_syntax`. [`Numbers`] and [`Countdown`]
-//! number texts, for maps of names.
+//! A [`Session`] carries out one command after the other, as they are read by `wac_script_syntax`.
+//! [`Numbers`] and [`Countdown`] number texts, for maps of names.
 //!
 //! | Query | Answer |
 //! |---|---|
@@ -28,9 +28,9 @@
 //! | `kinds` | the texts of the kinds of functions and of externs |
 //! | `count COLL` | the lengths of the six lists |
 //!
-//! What `meet`, `join` and `package` add stays in the collection. Names are written as words write them
-//! (`name_word`), but in the texts of refusals and of package keys, which stand as they are, on one line (a line
-//! feed as `\n`, a backslash as `\\`).
+//! What `meet`, `join` and `package` add stays in the collection. Names are written as words write
+//! them (`name_word`), but in the texts of refusals and of package keys, which stand as they are,
+//! on one line (a line feed as `\n`, a backslash as `\\`).
 #![tactic(auto)]
 
 mod aggregates;

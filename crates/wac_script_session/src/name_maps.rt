@@ -67,7 +67,8 @@ fn read_operation(alloc: Global, word: &str) -> Result<Operation, ScriptError<'_
     })
 }
 
-// Reads `NAME=N`, which follow `w` for a write, and `s` or `i` for an insertion that may shadow or not.
+// Reads `NAME=N`, which follow `w` for a write, and `s` or `i` for an
+// insertion that may shadow or not.
 fn read_setting<'a>(kind: &str, word: &'a str) -> Result<(Step, &'a str), ScriptError<'a>> {
     let (name, value) = split_named("`NAME=N`", word)?;
     let value = read_number(value)?;
@@ -218,13 +219,14 @@ fn answer<'a, K: Clone + Eq + Hash + Drop + KeyWord, I: NameMapIntern<Key = K>>(
     Ok(push_entries(text, &map)?)
 }
 
-/// Puts the answer to `namemap` last: the answers of the operations, ` | `, and the entries of the map in
-/// order, each as `KEY=N`. Keys are kept as texts, `str`, or as numbers from 0 in the order in which texts
-/// are first interned, `num`.
+/// Puts the answer to `namemap` last: the answers of the operations, ` | `, and the entries of the
+/// map in order, each as `KEY=N`. Keys are kept as texts, `str`, or as numbers from 0 in the order
+/// in which texts are first interned, `num`.
 ///
-/// An insertion, `i:NAME=N`, or one that may shadow, `s:NAME=N`, answers the key, or `twice` where the name
-/// is there; a write, `w:NAME=N`, the value before; the others what they look for, or `none`: the value of
-/// a name or of its track, `g:NAME`, the key of a name that is interned, `n:NAME`, or looked up, `l:NAME`.
+/// An insertion, `i:NAME=N`, or one that may shadow, `s:NAME=N`, answers the key, or `twice` where
+/// the name is there; a write, `w:NAME=N`, the value before; the others what they look for, or
+/// `none`: the value of a name or of its track, `g:NAME`, the key of a name that is interned,
+/// `n:NAME`, or looked up, `l:NAME`.
 pub(crate) fn name_map<'a>(
     alloc: Global,
     text: &mut String,

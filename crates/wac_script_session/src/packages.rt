@@ -46,9 +46,10 @@ fn ordering_word(a: &PackageKey, b: &PackageKey) -> &'static str {
     }
 }
 
-/// Puts the answer to `pkg` last: the texts of the two keys, each on one line; `less`, `equal` or `greater`
-/// by the order of keys; and `same` or `different`. `Keys` comes where the call through `dyn` doesn't say of
-/// two keys what `==` does; no contract can tell here what the keys that it is given stand for.
+/// Puts the answer to `pkg` last: the texts of the two keys, each on one line; `less`, `equal`
+/// or `greater` by the order of keys; and `same` or `different`. `Keys` comes where the call
+/// through `dyn` doesn't say of two keys what `==` does; no contract can tell here what the
+/// keys that it is given stand for.
 pub(crate) fn packages<'a>(
     alloc: Global,
     text: &mut String,

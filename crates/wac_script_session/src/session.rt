@@ -53,11 +53,12 @@ impl Session {
         }
     }
 
-    /// Carries out a command. Gives the lines that it prints, if it prints any, without the line feed
-    /// after the last.
+    /// Carries out a command. Gives the lines that it prints, if it prints any, without
+    /// the line feed after the last.
     ///
-    /// `NoneAtHand`, `NoCollection` and `NoEntry` come where the command names a collection or an entry
-    /// that isn't there, and `Memory` is want of memory. Refused, a command builds nothing and takes no number.
+    /// `NoneAtHand`, `NoCollection` and `NoEntry` come where the command names a collection or
+    /// an entry that isn't there, and `Memory` is want of memory. Refused, a command builds
+    /// nothing and takes no number.
     pub fn run<'a>(
         &mut self,
         alloc: Global,
@@ -75,8 +76,8 @@ impl Session {
         Ok(None)
     }
 
-    /// Hands the items of all calls to a new aggregator, with one checker and an empty cache for all of them. The
-    /// calls stay, so the next aggregator is handed the same.
+    /// Hands the items of all calls to a new aggregator, with one checker and an empty cache for
+    /// all of them. The calls stay, so the next aggregator is handed the same.
     ///
     /// Gives what the aggregator answers; `Memory` is want of memory before it is asked.
     pub fn aggregate_calls<'a>(
@@ -176,8 +177,8 @@ impl Session {
         subtype(alloc, text, &self.collections, &mut self.cache, words)
     }
 
-    // Replaces an entry of the collection at hand. The cache is emptied, since what it holds of the entry
-    // need not be true any longer.
+    // Replaces an entry of the collection at hand. The cache is emptied, since what it holds of the
+    // entry need not be true any longer.
     fn replace<'a>(
         &mut self,
         alloc: Global,

@@ -20,8 +20,8 @@ fn push_refusal(text: &mut String, error: TargetError) -> Result<(), AllocError>
     }
 }
 
-/// Puts the answer to `validate` last: whether a component fits a target world, and if not, each part of the
-/// report in its order.
+/// Puts the answer to `validate` last: whether a component fits a target world, and if not, each
+/// part of the report in its order.
 pub(crate) fn validate<'a>(
     alloc: Global,
     text: &mut String,
@@ -109,8 +109,8 @@ fn kind_text(kind: ExternKind) -> &'static str {
     }
 }
 
-/// Puts the answer to `implicit` last: the interfaces from which a world and its imports use types, as
-/// instances under their identifiers.
+/// Puts the answer to `implicit` last: the interfaces from which a world and its imports use types,
+/// as instances under their identifiers.
 pub(crate) fn implicit_imports<'a>(
     alloc: Global,
     text: &mut String,

@@ -45,8 +45,8 @@ impl Calls {
     }
 }
 
-/// Puts the answer to `visit` last: visits the defined types that a type refers to, with a visitor that fails
-/// at a call, from 1, or at none for 0.
+/// Puts the answer to `visit` last: visits the defined types that a type refers to, with a visitor
+/// that fails at a call, from 1, or at none for 0.
 pub(crate) fn visit<'a>(
     alloc: Global,
     text: &mut String,

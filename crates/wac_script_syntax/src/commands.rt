@@ -115,9 +115,9 @@ fn read_command<'a>(
     }
 }
 
-/// Reads a line of a script. An empty line, and one that begins with `#`, holds no command. Of every other
-/// line the command is read and its words are told apart; what the words of an entry or a query say is for
-/// who carries it out to read.
+/// Reads a line of a script. An empty line, and one that begins with `#`, holds no command. Of
+/// every other line the command is read and its words are told apart; what the words of an entry or
+/// a query say is for who carries it out to read.
 pub fn read_line(alloc: Global, line: &str) -> Result<Option<Command<'_>>, ScriptError<'_>>
     ensures no_command { HasNoCommand line.now → result ≡ Ok None }
     ensures command { IfOk result (λ read. IsNone read → HasNoCommand line.now) }

@@ -24,7 +24,8 @@ pub enum ScriptError<'a> {
     NoCollection(u64),
     /// The line names an entry that isn't there.
     NoEntry(EntryName),
-    /// Two keys of packages are equal as they are and not through `dyn BorrowedKey`, or the other way round.
+    /// Two keys of packages are equal as they are and not through `dyn
+    /// BorrowedKey`, or the other way round.
     Keys,
     /// There was no memory.
     Memory,

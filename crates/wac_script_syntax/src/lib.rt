@@ -1,14 +1,17 @@
-//! Reads the lines of a script, one command each, that builds collections of types and asks questions.
+//! Reads the lines of a script, one command each, that builds
+//! collections of types and asks questions.
 //!
-//! [`read_line`] reads which command a line is, and tells its words apart; the other readers read words.
-//! None looks at anything else: whether an index names an entry that stands, and what a command answers, is
-//! the caller's to say. What is read borrows from the line, and so does a [`ScriptError`].
+//! [`read_line`] reads which command a line is, and tells its words apart; the other
+//! readers read words. None looks at anything else: whether an index names an entry that
+//! stands, and what a command answers, is the caller's to say. What is read borrows from
+//! the line, and so does a [`ScriptError`].
 //!
 //! # Lines
 //!
-//! A line is a command and its words, with a single space between two words. Two spaces, and one at the
-//! end, would stand beside an empty word, which is malformed. An empty line, and one that begins with
-//! `#`, holds no command. A name that stands twice in one map is malformed. Members may stand in any order.
+//! A line is a command and its words, with a single space between two words. Two spaces, and
+//! one at the end, would stand beside an empty word, which is malformed. An empty line, and one
+//! that begins with `#`, holds no command. A name that stands twice in one map is malformed.
+//! Members may stand in any order.
 //!
 //! | Word | Stands for |
 //! |---|---|

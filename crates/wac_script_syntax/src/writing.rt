@@ -7,9 +7,9 @@ use super::names::ESCAPED;
 use percent_encoding::utf8_percent_encode;
 use std::alloc::{AllocError, Global};
 
-/// Puts the word that writes a name last: letters, digits and `:/@.+_-[]#*` stand for themselves, every
-/// other byte is `%` and its two upper-case hexadecimal digits. The empty name is `%`, and the name `-` is
-/// `%2D`, since the word `-` stands for no name.
+/// Puts the word that writes a name last: letters, digits and `:/@.+_-[]#*` stand for themselves,
+/// every other byte is `%` and its two upper-case hexadecimal digits. The empty name is `%`, and
+/// the name `-` is `%2D`, since the word `-` stands for no name.
 pub fn push_name(text: &mut String, name: &str) -> Result<(), AllocError>
     ensures { OnOk result (string_bytes text.new ≡ string_bytes text.old ++ written_name name.now) }
 {

@@ -1,4 +1,5 @@
--- Types that are remembered as alike ones, once the owners of the resources that they are made of were taken in.
+-- Types that are remembered as alike ones, once the owners of the resources that
+-- they are made of were taken in.
 use Rattle.std.proofs.Common.{◌≡◌, false, is_some, ◌<◌, ◌≤◌, ◌⊎◌, ℕ, inl, inr, IsSome, IfSome, List, [], ◌∷◌, Contains, Option, Some, None, length, slice_get, slice_index_or, zero, suc, ◌+◌, refl, ap, sym, subst, ◌∙◌, map, arith}
 use Rattle.std.specs.Option.{option_and_then, option_map, option_map_or}
 use Rattle.wac_model.specs.ItemTree.{item, type_item, leaf, resource, value}
@@ -190,7 +191,8 @@ module _ (f : Collection) (s t : State) (theirs ours : Key) (rs : List Id) (soun
     | inr e ↦ (owner_of_made e.0 e.1 e.2 e.3).0.1.closed x n e.4 at
   ]
 
-  -- where an open walk from the own type stops there is an owner on one of the tracks of the foreign one's
+  -- where an open walk from the own type stops there is an owner on one of
+  -- the tracks of the foreign one's
   alike_track : (x : Key) (n : Text) → StopsAt s.own ours x n → identifier_at s.own x ≡ Some n → OpenlyOn class_of f theirs (class_of n)
   alike_track x n w is =
       let e = stops_at_owner s.own ours alike.ours ours x n is_own_type itself w in

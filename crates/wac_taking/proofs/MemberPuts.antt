@@ -1,4 +1,5 @@
--- An interface as WIT gives it that is added as a shared entry: it is taken in after those that were.
+-- An interface as WIT gives it that is added as a shared entry: it is
+-- taken in after those that were.
 use Rattle.std.proofs.Common.{◌≡◌, ◌≢◌, ◌⊎◌, inl, inr, refl, ap, sym, subst, ◌∙◌, Contains, Bool, true, false, cond, List, [], ◌∷◌, ◌++◌, Some, None}
 use Rattle.std.proofs.lemmas.List.{map-append}
 use Rattle.std.proofs.lemmas.List.Elements.{All-contains}

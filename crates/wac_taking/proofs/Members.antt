@@ -155,7 +155,8 @@ pub openly_by_uses : (f : Collection) (i j : Id) → ReachesByUses f i j → Ope
 openly_by_uses f i j ReachesByUses.stay = stay
 openly_by_uses f i j (ReachesByUses.step {j = o} u v) = step (subst (λ x. IsAmong (interface_key x) (open_next f (interface_key i))) u.is_of (use_opens f (interface_key i) u.name u.content u.has)) (openly_by_uses f o j v)
 
--- once the interfaces that one uses were taken in, so is each with an identifier to which its exports openly lead
+-- once the interfaces that one uses were taken in, so is each with an identifier
+-- to which its exports openly lead
 pub exports_known : (f : Collection) (b : Merging) (p : Id) (ks : List Key) → IsSound f → Stands f (interface_key p) → ((k : Key) → IsAmong k ks → IsAmong k (next f (interface_key p))) → AreWit f (ReachesByUses f p)
     → ((j : Id) → Uses f p j → ((o : Key) × (memo_of b.taken (interface_key j) ≡ Some o)) × IsClosedIn f (memo_of b.taken) (interface_key j)) → AreKnown f b ks
 exports_known f b p ks sound stands parts wit used t n w is =

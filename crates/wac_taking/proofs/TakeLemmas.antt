@@ -297,7 +297,8 @@ module _ (f : Collection) where
         holds = r.1;
       }
 
-  -- what an id openly names was taken in, and its owner, if it is a resource that has one, is imported
+  -- what an id openly names was taken in, and its owner, if it is a
+  -- resource that has one, is imported
   pub record HasOwners (s : State) (theirs : Key) : Type 0 where
     pub parts : (j : Key) → IsAmong j (open_next f theirs) → (o : Key) × (s.taken j ≡ Some o)
     pub self : (r : Id) → theirs ≡ resource_key r → IsOwnerImported f s (owner_at f r)
@@ -397,7 +398,8 @@ module _ (f : Collection) where
       by true e h = let same : i ≡ j = cc in (n, ap (λ k. identifier_at t.own (interface_key k)) (sym same) ∙ identified, of ∙ (classes_decided q r).0 e)
       by false e h = AreFiledIn-run s t ss kept shared run filed r j h
 
-  -- an owner is imported, under the identifier of a shared entry, where there was no import on the class of that
+  -- an owner is imported, under the identifier of a shared entry, where there was
+  -- no import on the class of that
   module _ (a : Merging) (is : ImportsContent) (q : Class) (name : Text) (own : Id) (puts : PutsImport a.imports is q (name, Instance own)) (led : is.led ≡ a.imports.led) (new : import_of a.imports q ≡ None) where
     b : Merging
     b = record a { imports = is }

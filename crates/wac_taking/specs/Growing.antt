@@ -45,7 +45,9 @@ pub record StaysAlong (at : Attempt) (s t : State) (all : IsAccounted at s) : Ty
   pub stays : StaysAccounted at s t
   pub roots : stays.now.roots ≡ all.roots
 
--- in d stands the greatest item that fits where either of two items of c is asked for, which is the first where that fits where the second is; it leads openly to shared interfaces alone where both do
+-- in d stands the greatest item that fits where either of two items of c is asked for,
+-- which is the first where that fits where the second is; it leads openly to shared
+-- interfaces alone where both do
 pub record IsMetWith (c d : Collection) (a b m : ItemKind) : Type 0 where
   pub on : StepsOn c d
   pub stands : AllStand d (item_keys m)
@@ -67,7 +69,9 @@ abbrev pub IsMetIfAny : Collection → Collection → ItemKind → ItemKind → 
 IsMetIfAny c d a b (Some m) = IsMetWith c d a b m
 IsMetIfAny c d a b None = Extends c d × AreApartIn d a b
 
--- the same of named items: under each name the greatest that serves both lists, and under a name of the first alone what it had. Where those are open and come from sources, these are and do so, and all stays accounted for; and they lead along arrows
+-- the same of named items: under each name the greatest that serves both lists, and under a name of
+-- the first alone what it had. Where those are open and come from sources, these are and do so, and
+-- all stays accounted for; and they lead along arrows
 pub record AreMetWith (c d : Collection) (es ts ms : Externs) : Type 0 where
   pub on : StepsOn c d
   pub stand : AllStand d (extern_keys ms)

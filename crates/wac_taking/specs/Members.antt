@@ -1,4 +1,5 @@
--- What taking in does to interfaces as WIT gives them: each is taken in by the shared entry on its track.
+-- What taking in does to interfaces as WIT gives them: each is taken in by
+-- the shared entry on its track.
 use Rattle.std.specs.Prelude.{◌≡◌, ◌⊎◌, IsSome, Some, Contains, List, map, Result, MatchResult}
 use Rattle.wac_model.specs.Text.{Text}
 use Rattle.wac_component.specs.Collection.{Collection, UseContent}
@@ -24,7 +25,8 @@ use Rattle.wac_taking.specs.declared.state.Merging.{Merging}
 abbrev pub roots_of : Taken → List Root
 roots_of taken = map (λ (e : Collection × Id). record { of = e.0; at = interface_key e.1 }) taken
 
--- these interfaces were taken in, and are remembered: the shared entries have what is theirs, each is found on its track, and walks between them lead from track to track as those of these do
+-- these interfaces were taken in, and are remembered: the shared entries have what is theirs, each
+-- is found on its track, and walks between them lead from track to track as those of these do
 pub record HasTakenIn (a : Merging) (taken : Taken) : Type 0 where
   pub shared : AreShared taken a.types (shared_in a.shared.entries)
   pub found : (e : Id) → IsAmong (interface_key e) (shared_keys a.shared.entries) → (t : Class) × (shared_in a.shared.entries t ≡ Some e)
@@ -47,7 +49,8 @@ pub record TakesMembers (f : Collection) (a b : Merging) (P : Id → Type 0) (ta
   pub has : HasTakenIn b more
   pub all : (g : Collection) → IsOneWith f g → HasAllOf g a taken → HasAllOf g b more
 
--- after these, an interface of f of this set can't be taken in: the shared entry on its track can't take it in, or a track leads back to itself
+-- after these, an interface of f of this set can't be taken in: the shared entry on its track can't
+-- take it in, or a track leads back to itself
 pub data Hinders (f : Collection) (P : Id → Type 0) (taken : Taken) : Type 0 where
   at_entry : (own : Collection) (shared : SharedEntries) (i : Id) → AreShared taken own shared → P i → CannotTake own shared f i → Hinders f P taken
   in_cycle : (t : Class) → Arrows class_of (roots_of taken) t t → Hinders f P taken
@@ -70,7 +73,8 @@ IsOfMerging r = ⊥
 abbrev pub IsMemberRefusal : Collection → (Id → Type 0) → Taken → AggregateError → Type 0
 IsMemberRefusal f P taken e = (r : Refusal) → said e ≡ Some r → IsOfMerging r → IsNotTaken f P taken
 
--- where the set is of interfaces as WIT gives them, and others were taken in before, that is what is answered
+-- where the set is of interfaces as WIT gives them, and others were taken in
+-- before, that is what is answered
 abbrev pub AnswersMembers : {T : Type 0} → Result T AggregateError → Collection → Merging → Merging → (Id → Type 0) → Type 0
 AnswersMembers answer f a b P = (taken : Taken) → AreWit f P → HasTakenIn a taken → HasAllOf f a taken → MatchResult answer (λ r. TakesMembers f a b P taken) (IsMemberRefusal f P taken)
 

@@ -33,7 +33,9 @@ IsOfUnidentified (no_identifier used) = Unit {0}
 IsOfUnidentified (owner_without_identifier resource) = Unit {0}
 IsOfUnidentified r = ⊥
 
--- the ids aren't plain; where all was taken in that they openly lead to and that has an identifier, it is for the want of one; and whatever call is tried whose item openly reaches them, where all is accounted for, and what is near is open and comes from sources, there is reason
+-- the ids aren't plain; where all was taken in that they openly lead to and that has an identifier,
+-- it is for the want of one; and whatever call is tried whose item openly reaches them, where all
+-- is accounted for, and what is near is open and comes from sources, there is reason
 pub record IsRefusal (near : List Key) (f : Collection) (a : Merging) (ks : List Key) (e : AggregateError) : Type 0 where
   pub plain : ¬ (ArePlain f ks)
   pub known : AreKnown f a ks → (r : Refusal) → said e ≡ Some r → IsOfUnidentified r
@@ -73,7 +75,9 @@ pub record HasApartLeaves (c : Collection) (es ts : Externs) : Type 0 where
   pub is_second : Contains ts (name, second)
   pub no_bound : HaveNoLowerBound (item_tree c first) (item_tree c second)
 
--- items aren't met with those under their names: whatever state has this collection, in which all is accounted for and these items are open, there is reason if the item touches; and leaves aren't since two are apart
+-- items aren't met with those under their names: whatever state has this collection, in which
+-- all is accounted for and these items are open, there is reason if the item touches; and
+-- leaves aren't since two are apart
 pub record IsItemsRefusal (c : Collection) (es ts : Externs) (e : AggregateError) : Type 0 where
   pub reason : (at : Attempt) (s : State) → IsKept (with_own s c) → IsAccounted at (with_own s c) → AreOpenItems at (with_own s c) es → AreAllOpen at (with_own s c) ts → Touches at → HasReason at e
   pub leaves : All (λ t. IsLeafItem t.1) ts → HasApartLeaves c es ts

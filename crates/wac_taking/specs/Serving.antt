@@ -11,7 +11,8 @@ use Rattle.wac_merge.specs.Items.{Externs, AreFound}
 use Rattle.wac_refusals.specs.Uses.{UsesAgree}
 use Rattle.wac_taking.specs.Growing.{AreMetWith}
 
--- the interface at an id stays as it is where uses, which agree with its own, and exports are merged into it
+-- the interface at an id stays as it is where uses, which agree with its own,
+-- and exports are merged into it
 pub record IsServing (c : Collection) (e : Id) (us : List (Text × UseContent)) (es : Externs) : Type 0 where
   pub entry : InterfaceContent
   pub at : slice_get c.interfaces e.index ≡ Some entry

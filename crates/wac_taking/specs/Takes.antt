@@ -94,11 +94,13 @@ pub record LeadsToOwner (f : Collection) (k : Key) (n : Text) : Type 0 where
   pub owned : owner_at f resource ≡ Some owner
   pub identified : identifier_at f (interface_key owner) ≡ Some n
 
--- each owner to which an id that was taken in openly leads has an import on the track of its identifier
+-- each owner to which an id that was taken in openly leads has an import
+-- on the track of its identifier
 abbrev pub OwnersImported : Collection → State → Type 0
 OwnersImported g s = (theirs own : Key) (n : Text) → s.taken theirs ≡ Some own → theirs.id.number ≡ g.number → LeadsToOwner g theirs n → IsSome (s.imports n)
 
--- an import on the track of an owner to which the ids openly lead: an instance of a shared entry, under the identifier of that
+-- an import on the track of an owner to which the ids openly lead: an instance of a shared
+-- entry, under the identifier of that
 pub record IsOwnersImport (f : Collection) (ks : List Key) (b : Merging) (q : Class) (import : ImportContent) : Type 0 where
   pub from : Key
   pub among : IsAmong from ks
@@ -122,14 +124,19 @@ pub record IsSharedFrom (f : Collection) (ks : List Key) (b : Merging) (e : Key)
 abbrev pub AreKnown : Collection → Merging → List Key → Type 0
 AreKnown f a ks = (t : Key) (n : Text) → OpenlyFrom f ks t → identifier_at f t ≡ Some n → (own : Key) × (memo_of a.taken t ≡ Some own)
 
--- entries were added to the own collection, and those that stood are as they were; no entry is shared that wasn't, and what is noted anew has no identifier
+-- entries were added to the own collection, and those that stood are as they were; no entry is
+-- shared that wasn't, and what is noted anew has no identifier
 pub record OnlyGrows (f : Collection) (a b : Merging) : Type 0 where
   pub grows : Extends a.types b.types
   pub shared : b.shared.entries ≡ a.shared.entries
   pub noted : (k o : Key) → memo_of b.taken k ≡ Some o → (memo_of a.taken k ≡ Some o) ⊎ ((k.id.number ≡ f.number) × (identifier_at f k ≡ None))
 
--- what taking in from f does: the state runs on to one of which the fact holds, and no id above the height is noted; each owner is imported still. What is imported stays; what is new is an owner to which the ids openly lead, and each new shared entry has the identifier of an interface to which they do. Where the ids are plain, nothing is imported; where all was taken in that they openly lead to and that has an identifier, entries are only added
--- While a call is tried whose item openly reaches the ids, and what is near is open and comes from sources, all stays accounted for
+-- what taking in from f does: the state runs on to one of which the fact holds, and no id above the
+-- height is noted; each owner is imported still. What is imported stays; what is new is an owner to
+-- which the ids openly lead, and each new shared entry has the identifier of an interface to which
+-- they do. Where the ids are plain, nothing is imported; where all was taken in that they openly
+-- lead to and that has an identifier, entries are only added While a call is tried whose item
+-- openly reaches the ids, and what is near is open and comes from sources, all stays accounted for
 pub record TakesBy (near : List Key) (f : Collection) (a b : Merging) (top : ℕ) (ks : List Key) (Holds : State → Type 0) : Type 0 where
   pub low : (k : Key) → top < height f k → memo_of a.taken k ≡ None → memo_of b.taken k ≡ None
   pub run : Runs (RemembersTruly class_of) f (state_of a) (state_of b)
@@ -156,7 +163,8 @@ alias_at c r = option_and_then (λ e. e.alias) (slice_get c.resources r.index)
 abbrev pub IsOwnerImported : Collection → State → Option Id → Type 0
 IsOwnerImported f s o = (i : Id) (n : Text) → o ≡ Some i → identifier_at f (interface_key i) ≡ Some n → IsSome (s.imports n)
 
--- the own alias names what was taken in for what the foreign one names; its source has the same name at the root, and its owner is imported
+-- the own alias names what was taken in for what the foreign one names; its source has the same
+-- name at the root, and its owner is imported
 pub record IsTakenAlias (f : Collection) (s : State) (a b : AliasContent) : Type 0 where
   pub keys : AreTakenKeys class_of f s (alias_keys a) (alias_keys b)
   pub source : root_name s.own b.source ≡ root_name f a.source
@@ -175,13 +183,15 @@ owners_keys f rs = flat_map (λ r. optional_keys (λ o. interface_key o ∷ []) 
 abbrev pub AreOwnersTaken : Collection → List Id → State → Type 0
 AreOwnersTaken f rs s = (r : Id) → Contains rs r → (o : Option Id) × IsTakenOwner f (owner_at f r) o s
 
--- the own use is of what was taken in for the interface, which has an identifier, under the same name
+-- the own use is of what was taken in for the interface, which has an
+-- identifier, under the same name
 pub record IsTakenUse (f : Collection) (s : State) (u v : UseContent) : Type 0 where
   pub name : v.name ≡ u.name
   pub identified : HasIdentifier f u.interface
   pub interface : IsTakenKey class_of f s (interface_key u.interface) (interface_key v.interface)
 
--- all that the foreign interface names was taken in, as what these use and export; it was not itself
+-- all that the foreign interface names was taken in, as what these
+-- use and export; it was not itself
 pub record MayPut (f : Collection) (a : Merging) (p : Id) (us : List (Text × UseContent)) (es : List (Text × ItemKind)) : Type 0 where
   pub content : InterfaceContent
   pub taken : InterfaceIsTaken class_of f (state_of a) p content (record { id = None; uses = us; exports = es })

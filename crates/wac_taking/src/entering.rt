@@ -22,7 +22,8 @@ use wac_component::{Interface, InterfaceId, ItemKind, Types, UsedType};
 use wac_names::NameClass;
 use wac_refusals::AggregateError;
 
-// Puts an interface of which all parts were taken in: as an entry of its own, or into the shared one of its identifier's class.
+// Puts an interface of which all parts were taken in: as an entry of its own, or into the shared
+// one of its identifier's class.
 pub(crate) fn put_interface(
     state: &mut Merging,
     types: &Types,
@@ -71,7 +72,8 @@ pub(crate) fn put_plain(
     Ok(own)
 }
 
-// Adds an interface with an identifier, on whose class no entry stands, which is shared from now on.
+// Adds an interface with an identifier, on whose class no entry
+// stands, which is shared from now on.
 pub(crate) fn put_shared(
     state: &mut Merging,
     types: &Types,

@@ -34,8 +34,8 @@ use wac_mismatch::SubtypeCheck;
 use wac_names::are_semver_compatible;
 use wac_refusals::{AggregateError, MergeFrame, check_uses, check_uses_of, mismatch};
 
-// Where exports are met, for what is told of those that have no meet: the direction, and the identifier of the interface,
-// unless it is on the track of the item that was handed in.
+// Where exports are met, for what is told of those that have no meet: the direction, and the
+// identifier of the interface, unless it is on the track of the item that was handed in.
 #[derive(Drop)]
 struct Place {
     check: SubtypeCheck,
@@ -60,7 +60,8 @@ fn place_of(state: &Merging, name: &String) -> Result<Place, AllocError> {
     })
 }
 
-// Merges an interface of which all parts were taken in into the shared entry on its track, which grows unless it serves it.
+// Merges an interface of which all parts were taken in into the shared entry on its track,
+// which grows unless it serves it.
 pub(crate) fn merge_shared(
     state: &mut Merging,
     types: &Types,
@@ -156,8 +157,8 @@ fn meet_export(
     Ok(())
 }
 
-// The meet of an export of an interface with another under its name. Two interfaces or two worlds may not disagree in
-// what they use.
+// The meet of an export of an interface with another under its name. Two interfaces or two worlds
+// may not disagree in what they use.
 fn meet_items(
     alloc: Global,
     place: &Place,

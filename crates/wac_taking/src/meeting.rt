@@ -8,7 +8,8 @@ use std::alloc::{AllocError, Global};
 use wac_component::{ItemKind, Types};
 use wac_merge::meet;
 
-/// The meet of two own items, or none where they have no common lower bound. Entries are only added.
+/// The meet of two own items, or none where they have no common lower
+/// bound. Entries are only added.
 pub fn meet_own(
     alloc: Global,
     types: &mut Types,

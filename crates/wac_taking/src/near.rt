@@ -12,7 +12,8 @@ use wac_component::{InterfaceId, ItemKind, Type, Types};
 use wac_merge::extern_named;
 use wac_names::NameClass;
 
-// The interface that another one is merged with: the shared entry of its identifier's class, else what is near already.
+// The interface that another one is merged with: the shared entry of its identifier's
+// class, else what is near already.
 pub(crate) fn nearest(
     state: &Merging,
     class: &Option<NameClass>,

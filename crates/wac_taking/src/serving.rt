@@ -24,8 +24,9 @@ use wac_component::{InterfaceId, ItemKind, Types, UsedType};
 use wac_merge::extern_named;
 use wac_refusals::{check_uses, check_uses_of};
 
-// Whether an interface stays as it is where others' uses and exports are merged into it: it has uses of their names, and
-// what it exports fits where theirs are asked for. A no says nothing; no refusal is told here.
+// Whether an interface stays as it is where others' uses and exports are merged into it: it
+// has uses of their names, and what it exports fits where theirs are asked for. A no says
+// nothing; no refusal is told here.
 pub(crate) fn serves(
     alloc: Global,
     types: &Types,
@@ -73,7 +74,8 @@ fn has_names(existing: &IndexMap<String, UsedType>, new: &IndexMap<String, UsedT
     true
 }
 
-// Whether each of some exports is served. A pair of entries that they name is compared once for all of them.
+// Whether each of some exports is served. A pair of entries that they name is
+// compared once for all of them.
 fn exports_serve(
     alloc: Global,
     types: &Types,
@@ -94,7 +96,8 @@ fn exports_serve(
     true
 }
 
-// Whether what is exported under a name fits where an item is asked for, and agrees with it in what it uses.
+// Whether what is exported under a name fits where an item is asked for, and
+// agrees with it in what it uses.
 fn export_serves(
     alloc: Global,
     compared: &mut Compared,

@@ -368,7 +368,8 @@ fn take_owner(
     Ok(Some(own))
 }
 
-// Takes in an interface, unless it was taken in. Types that the nearest interface exports alike are taken first.
+// Takes in an interface, unless it was taken in. Types that the nearest interface
+// exports alike are taken first.
 #[cycle(taking)]
 fn take_interface(
     state: &mut Merging,
@@ -450,7 +451,8 @@ fn take_used(
     take_interface(state, types, interface, None)
 }
 
-/// Takes in items under names. What the near interface exports under a name is near to the item under it.
+/// Takes in items under names. What the near interface exports under a name
+/// is near to the item under it.
 #[cycle(taking)]
 pub fn take_externs(
     state: &mut Merging,
@@ -474,7 +476,8 @@ pub fn take_externs(
     Ok(taken)
 }
 
-// Takes in the owners of the types that an interface exports like the near one, and remembers these as that one's.
+// Takes in the owners of the types that an interface exports like the near one, and
+// remembers these as that one's.
 #[cycle(taking)]
 fn take_alike(
     state: &mut Merging,

@@ -12,7 +12,8 @@ use Rattle.wac_targets.specs.declared.given.Given.{Given}
 abbrev pub own_items : Given → Items
 own_items g = named (λ k. k) g.own.now.entries
 
--- all of them: the implicit ones and then its own, where a later one replaces an earlier one of its name
+-- all of them: the implicit ones and then its own, where a later one
+-- replaces an earlier one of its name
 abbrev pub items_in : Given → Items
 items_in g = insert_all bytes_eq (insert_all bytes_eq [] (borrowed g.implicit.entries)) (own_items g)
 

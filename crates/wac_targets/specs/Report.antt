@@ -50,8 +50,9 @@ module _ (c : Collection) (target component : WorldContent) where
     pub mismatch : IsSome (fault_of e)
     pub path : Explains e (check_of k) (item_side (item_tree c (left_item k a))) (item_side (item_tree c (right_item k b)))
 
-  -- the three parts: what the component imports and the target world doesn't have, what the target world exports
-  -- and the component doesn't have, with the item as it stands there, and what both have and doesn't fit
+  -- the three parts: what the component imports and the target world doesn't have, what the
+  -- target world exports and the component doesn't have, with the item as it stands there, and
+  -- what both have and doesn't fit
   pub record IsReport (r : TargetValidationReport) : Type 0 where
     pub imports_not_in_target : (name : Text) → Contains (not_in_target r) name ↔ ((b : ItemKind) × Lacks (given c target component Import) (wanted c target component Import) name b)
     pub missing_exports : (name : Text) (b : ItemKind) → (value_at (missing r) name ≡ Some b) ↔ Lacks (given c target component Export) (wanted c target component Export) name b

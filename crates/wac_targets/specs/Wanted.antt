@@ -27,7 +27,8 @@ pub record Has (given wanted : Items) (name : Text) (a b : ItemKind) : Type 0 wh
   pub asked : value_at wanted name ≡ Some b
   pub found : IsFound given name (Some a)
 
--- all imports of a world: the implicit ones and then its own, where a later one replaces an earlier one of its name
+-- all imports of a world: the implicit ones and then its own, where a later one
+-- replaces an earlier one of its name
 abbrev pub all_imports : Collection → WorldContent → Items
 all_imports c w = insert_all bytes_eq [] (implicit_imports c w ++ w.imports)
 

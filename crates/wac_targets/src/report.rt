@@ -72,8 +72,8 @@ impl TargetValidationReport {
         }
     }
 
-    /// What both have under a name and doesn't fit, each with its kind and where it doesn't, in byte
-    /// order of the names.
+    /// What both have under a name and doesn't fit, each with its kind and where it
+    /// doesn't, in byte order of the names.
     pub fn mismatched_types(&self) -> MismatchedTypes<'_>
         ensures types { types_left result ≡ mismatched self.now }
         ensures order { IsStrictlySortedBy (slice_cmp nat_cmp) (keys_of (mismatched self.now)) }

@@ -24,12 +24,13 @@ use std::collections::HashSet;
 use wac_checker::SubtypeChecker;
 use wac_component::{ExternKind, TargetError, Types, World, WorldId};
 
-/// Whether a component, given by its world, fits a target world: it imports no more than that has,
-/// exports what that does, and each of these fits. `Err` in the answer is the report of what doesn't.
+/// Whether a component, given by its world, fits a target world: it imports no more
+/// than that has, exports what that does, and each of these fits. `Err` in the answer
+/// is the report of what doesn't.
 ///
 /// A name is looked for by its track. What the target world says of a name is meant as an item of
-/// the type that it says there. `NoIdentifier` comes exactly where an interface that the target world
-/// uses has no identifier, and `Memory` is want of memory.
+/// the type that it says there. `NoIdentifier` comes exactly where an interface that the target
+/// world uses has no identifier, and `Memory` is want of memory.
 pub fn validate_target(
     alloc: Global,
     types: &Types,

@@ -1,5 +1,5 @@
-//! What the program `wac-vectors` does, over any writers: it asks the library built-in questions and prints
-//! its answers.
+//! What the program `wac-vectors` does, over any writers: it asks the library built-in
+//! questions and prints its answers.
 #![tactic(auto)]
 
 mod command_line;

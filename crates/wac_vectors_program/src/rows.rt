@@ -45,7 +45,8 @@ pub fn print_rows<W: Write>(alloc: Global, out: &mut W) -> io::Result<()> {
     Ok(())
 }
 
-// Asks in a covariant check with an empty cache, of an item of collection 1 and one of collection 2.
+// Asks in a covariant check with an empty cache, of an item of
+// collection 1 and one of collection 2.
 fn print_row<W: Write>(
     alloc: Global,
     number: usize,

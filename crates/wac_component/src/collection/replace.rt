@@ -1,5 +1,5 @@
-//! Replacing entries, where that closes no cycle. Who replaces an entry empties each checker's cache
-//! that holds an item which leads to it.
+//! Replacing entries, where that closes no cycle. Who replaces an entry empties each checker's
+//! cache that holds an item which leads to it.
 
 ghost use Rattle.std.specs.Prelude.{◌≡◌, ◌↔◌, slice_set, IsTrue, IsOk, OnOk, OnErr, IfOk};
 ghost use Rattle.wac_core.specs.Content.{module_content};
@@ -29,8 +29,8 @@ pub enum ReplaceError<T> {
 }
 
 impl Types {
-    /// Puts a defined type in the place of another. `Cycle` exactly where an id in it leads back to that
-    /// entry. What is refused is handed back, and the collection is unchanged.
+    /// Puts a defined type in the place of another. `Cycle` exactly where an id in it leads back to
+    /// that entry. What is refused is handed back, and the collection is unchanged.
     pub fn replace_defined_type(
         &mut self,
         id: DefinedTypeId,
@@ -54,8 +54,8 @@ impl Types {
         }
     }
 
-    /// Puts a resource in the place of another. `Cycle` exactly where an id in it leads back to that
-    /// entry. What is refused is handed back, and the collection is unchanged.
+    /// Puts a resource in the place of another. `Cycle` exactly where an id in it leads back to
+    /// that entry. What is refused is handed back, and the collection is unchanged.
     pub fn replace_resource(
         &mut self,
         id: ResourceId,
@@ -79,8 +79,8 @@ impl Types {
         }
     }
 
-    /// Puts a function type in the place of another. `Cycle` exactly where an id in it leads back to that
-    /// entry. What is refused is handed back, and the collection is unchanged.
+    /// Puts a function type in the place of another. `Cycle` exactly where an id in it leads back
+    /// to that entry. What is refused is handed back, and the collection is unchanged.
     pub fn replace_func_type(
         &mut self,
         id: FuncTypeId,
@@ -104,8 +104,8 @@ impl Types {
         }
     }
 
-    /// Puts an interface in the place of another. `Cycle` exactly where an id in it leads back to that
-    /// entry. What is refused is handed back, and the collection is unchanged.
+    /// Puts an interface in the place of another. `Cycle` exactly where an id in it leads back to
+    /// that entry. What is refused is handed back, and the collection is unchanged.
     pub fn replace_interface(
         &mut self,
         id: InterfaceId,
@@ -150,7 +150,8 @@ impl Types {
         }
     }
 
-    /// Puts a core module type in the place of another. This never fails: a core module names no ids.
+    /// Puts a core module type in the place of another. This never
+    /// fails: a core module names no ids.
     pub fn replace_module_type(
         &mut self,
         id: ModuleTypeId,

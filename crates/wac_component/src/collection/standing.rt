@@ -10,7 +10,8 @@ use crate::parts::{AllParts, NONE, Parts};
 use crate::{DefinedType, FuncType, Interface, ItemKind, Resource, World};
 
 impl Types {
-    /// Whether the ids in an item stand in the collection, as each call asks that takes an item beside it.
+    /// Whether the ids in an item stand in the collection, as each call asks
+    /// that takes an item beside it.
     pub fn contains_item(&self, item: ItemKind) -> bool
         ensures { IsTrue result ↔ AllStand self.now (item_keys item) }
     {

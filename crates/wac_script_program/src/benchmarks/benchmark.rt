@@ -3,23 +3,26 @@
 /// A benchmark. `n` is the size of its input.
 #[derive(Clone, Copy)]
 pub enum Benchmark {
-    /// With an empty cache, whether an instance fits where one of the same type in another collection is
-    /// asked for. They export n functions, each an entry of its own, over one list.
+    /// With an empty cache, whether an instance fits where one of the same type in another
+    /// collection is asked for. They export n functions, each an entry of its own, over one list.
     Instances,
     /// The same, with a cache that has the pair.
     AskedAgain,
-    /// With an empty cache, whether a value of the nth tuple fits where the nth tuple of another
-    /// collection is asked for. The first is a pair of bytes, and each next one a pair of the one before.
+    /// With an empty cache, whether a value of the nth tuple fits where the nth tuple
+    /// of another collection is asked for. The first is a pair of bytes, and each next
+    /// one a pair of the one before.
     TupleChain,
-    /// With an empty cache, whether the nth instance fits where the nth instance of another collection is
-    /// asked for. The first exports a function, and each next one the one before twice.
+    /// With an empty cache, whether the nth instance fits where the nth instance
+    /// of another collection is asked for. The first exports a function, and each
+    /// next one the one before twice.
     InstanceChain,
-    /// Hands n instances to a new aggregator, and then n of a greater version on the same tracks, with one
-    /// checker, whose cache is empty at first. They are of two collections.
+    /// Hands n instances to a new aggregator, and then n of a greater version on the same tracks,
+    /// with one checker, whose cache is empty at first. They are of two collections.
     TwoVersions,
     /// Whether a component fits a target world of the same n imports and n exports, all functions.
     ValidatePlain,
-    /// The same with instances, whose names have a greater version on their track in the target world.
+    /// The same with instances, whose names have a greater version on
+    /// their track in the target world.
     ValidateVersions,
     /// Puts n names with versions into a new map.
     Insert,
@@ -27,8 +30,8 @@ pub enum Benchmark {
     GetExact,
     /// Gets the value of each of n names by a name with a greater version on its track.
     GetTrack,
-    /// With an empty cache, that a list of lists, n deep, doesn't fit where one is asked for that has other
-    /// elements.
+    /// With an empty cache, that a list of lists, n deep, doesn't fit where one is asked
+    /// for that has other elements.
     RefusalAtDepth,
 }
 

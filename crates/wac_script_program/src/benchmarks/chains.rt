@@ -79,7 +79,8 @@ fn list_side(alloc: Global, number: u64, element: &str, n: u32) -> Result<Side, 
     last_value(types)
 }
 
-/// Lists of lists with other elements, about which a checker is asked with an empty cache each time.
+/// Lists of lists with other elements, about which a checker is asked
+/// with an empty cache each time.
 #[derive(Drop)]
 pub(crate) struct Refusals {
     left: Side,

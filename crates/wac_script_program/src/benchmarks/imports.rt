@@ -25,8 +25,8 @@ fn build(alloc: Global, session: &mut Session, line: &str) -> Result<(), BenchEr
     Ok(())
 }
 
-// Adds n instances that export a function to a collection of this number, each identified by its name, which has this
-// version, and puts the calls that hand them in under their names last.
+// Adds n instances that export a function to a collection of this number, each identified by its
+// name, which has this version, and puts the calls that hand them in under their names last.
 fn push_instances(
     alloc: Global,
     session: &mut Session,

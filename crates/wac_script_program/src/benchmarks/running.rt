@@ -67,8 +67,9 @@ fn line(
     format!(in alloc; "bench {name} n={n} ops={operations} ns/op={whole}.{tenths} total_ns={total}")
 }
 
-/// The line of the figure of the benchmark of this name at this size: `bench NAME n=N ops=OPS ns/op=..
-/// total_ns=..`, of which the last is how long one run took. None where no benchmark has the name.
+/// The line of the figure of the benchmark of this name at this size: `bench NAME n=N
+/// ops=OPS ns/op=.. total_ns=..`, of which the last is how long one run took. None
+/// where no benchmark has the name.
 ///
 /// The figure is the median of some samples, each of as many runs as take some time. `Answer` comes
 /// where a run gave another answer than its work has.

@@ -14,8 +14,8 @@ pub(crate) struct Worlds {
     component: WorldId,
 }
 
-// Adds n functions of a byte, a string and a value of the last defined type, and puts the words of imports,
-// `m`, or exports, `e`, under `n0`, `n1` and so on last.
+// Adds n functions of a byte, a string and a value of the last defined type, and puts the words of
+// imports, `m`, or exports, `e`, under `n0`, `n1` and so on last.
 fn push_functions(
     alloc: Global,
     types: &mut Types,
@@ -43,8 +43,8 @@ fn add_instances(alloc: Global, types: &mut Types, n: u32) -> Result<(), BenchEr
     Ok(())
 }
 
-// Puts the words of imports, `m`, or exports, `e`, last, of n instances from this interface on, under names
-// of this version.
+// Puts the words of imports, `m`, or exports, `e`, last, of n instances from this interface
+// on, under names of this version.
 fn push_instances(
     alloc: Global,
     world: &mut String,
