@@ -1,5 +1,6 @@
 -- A call is a step, and keeps what stood and what was remembered.
 use Rattle.std.proofs.Common.{◌≡◌, Bool, true, false, List, Option, Some, None, refl, ap, sym, ◌∙◌, subst}
+use Rattle.std.specs.List.{IsDistinct}
 use Rattle.std.specs.Option.{option_map}
 use Rattle.wac_model.specs.Text.{Text}
 use Rattle.wac_model.specs.Order.{Fits}
@@ -19,7 +20,7 @@ use Rattle.wac_narrowing.proofs.Remembered.{RemembersTruly-step}
 use Rattle.wac_call_lists.specs.Aggregated.{IsStep, IsByTrack}
 use Rattle.wac_call_lists.specs.Call.{Call, call_track, call_tree}
 use Rattle.wac_imports.specs.Import.{ImportContent, ImportsContent, import_of, import_at, AreFiled}
-use Rattle.wac_imports.proofs.Listed.{of_listed}
+use Rattle.wac_imports.proofs.Listed.{classes_listed}
 use Rattle.wac_call_lists.specs.Attempt.{Attempt}
 use Rattle.wac_component.specs.Reach.{IsAmong}
 use Rattle.wac_component.proofs.Among.{among_each}
@@ -151,7 +152,5 @@ module _ (call : Call) (a b : Merging) (may : MayTake call.types a) (filed_a : A
 pub by_track : (a : Merging) → AreFiled a.imports → IsByTrack (shown (content_of a))
 by_track a filed = record {
   canonical = canonical-track a.imports filed;
-  one_each = λ m n i j at_m at_n on.
-      let same : (m, i) ≡ (n, j) = let both : Some (m, i) ≡ Some (n, j) = sym (of_listed a.imports filed m i at_m) ∙ ap (import_of a.imports) on ∙ of_listed a.imports filed n j at_n in cc in
-      ap (λ (e : ImportContent). e.0) same;
+  one_each = subst (IsDistinct class_eq) (sym (classes_listed a.imports filed)) filed.distinct;
 }

@@ -59,7 +59,10 @@ module _ (a : Merging) (number : ℕ) (sound : IsSound a.types) (empty : a.types
   }
 
   filed : AreFiledIn a.types a.shared.entries
-  filed q i at = absurd (let no : None ≡ Some i = sym (ap (λ (es : List (Class × Id)). shared_in es q) shared) ∙ at in cc)
+  filed = record {
+    on_class = λ q i at. absurd (let no : None ≡ Some i = sym (ap (λ (es : List (Class × Id)). shared_in es q) shared) ∙ at in cc);
+    found = λ i m. absurd (none_shared (interface_key i) m);
+  }
 
   pub starts : IsStart a number
   starts = record { in_order = record { kept = kept; filed = filed; imports = imports_filed; held = (new_held (state_of a) new).0; split = (new_held (state_of a) new).1 }; empty = empty; imports = imports; shared = shared; taken = taken; copies = copies }

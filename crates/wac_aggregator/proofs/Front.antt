@@ -33,6 +33,7 @@ use Rattle.wac_aggregator.specs.Served.{LeadsTo, IsOneOf, AreServed}
 use Rattle.wac_aggregator.specs.Content.{shown, content_of}
 use Rattle.wac_aggregator.proofs.Advancing.{placing, at_of, of_at, rest, run, taken_kept, fits_item, leads_below}
 use Rattle.wac_taking.proofs.Identifiers.{is_interface, has_identifier, identifier_of}
+use Rattle.wac_aggregator.proofs.Imported.{still_imported, owner_imported, owners_after}
 use Rattle.wac_aggregator.proofs.Leading.{PlacedAs, placed_here, placed_other, placed_still, puts_here, some_is, leads-new, found-of}
 use Rattle.wac_aggregator.proofs.Newer.{higher_track, not_higher-self, not_higher-old, not_higher-newer}
 
@@ -74,13 +75,6 @@ module _ (front : List Call) (call : Call) where
     | inl m ↦ old other (h.0, m, h.2)
     | inr is ↦ subst (λ o. ¬ (IsHigher o n)) (ap (λ (c : Call). c.name) is ∙ h.2) new
   ]
-
--- what was taken in for an id of the item
-taken_for : (f : Collection) (s : State) (js os : List Key) (j : Key) → AreTakenKeys class_of f s js os → IsAmong j js → (o : Key) × IsTakenKey class_of f s j o
-taken_for f s [] os j h m = elim m [ ]
-taken_for f s (i ∷ js) [] j h m = elim h [ ]
-taken_for f s (i ∷ js) (p ∷ os) j (one_key h others) here = (p, h)
-taken_for f s (i ∷ js) (p ∷ os) j (one_key h others) (there m) = taken_for f s js os j others m
 
 -- ---- one call more
 
@@ -238,38 +232,16 @@ module _ (calls front : List Call) (call : Call) (a b : Merging) (among : Contai
           let j = leads_below call a b may filed_a filed_b h d.name r.0 r.1 in
           (j.0, j.1, Fits-trans (item_tree b.types j.0.1) (item_tree a.types r.0.1) (call_tree d) j.2 r.2)
 
-  still_imported : (t : Class) (i : ImportContent) → import_of taken.imports t ≡ Some i → (j : ImportContent) × (import_of b.imports t ≡ Some j)
-  still_imported t i at = placed_still a.imports taken.imports b.imports call.name h.import placed h.takes.stays t i at
-
-  -- an owner in the item
-  own_owner : (t : Class) → OwnsOn call t → (j : ImportContent) × (import_of b.imports t ≡ Some j)
-  own_owner t o =
-      let key = taken_for f (state_of taken) (item_keys call.kind) (item_keys h.own) o.reached.0 h.takes.holds.keys o.reached.1 in
-      let number = (among_each (Stands f) o.reached.0 (item_keys call.kind) o.reached.1 item).0 in
-      let leads : LeadsToOwner f o.reached.0 o.is_on.name = record { resource = o.resource; owner = o.owner; walk = o.reached.2; owned = o.owned; identified = identifier_of f o.owner o.is_on.name o.is_on.identified } in
-      let there_is = h.takes.owners f (λ e. refl) (s.owners f is_one) o.reached.0 key.0 o.is_on.name key.1.noted number leads in
-      let x = some_is (import_at taken.imports o.is_on.name) there_is in
-      let i = of_at taken.imports o.is_on.name x.0 x.1 in
-      still_imported t i.0 (ap (import_of taken.imports) (sym o.is_on.on_track) ∙ i.1)
-
   owned_now : (d : Call) (t : Class) → Contains (more front call) d → OwnsOn d t → (j : ImportContent) × (import_of b.imports t ≡ Some j)
   owned_now d t m o = elim (either front call d m) [
-    | inl old ↦ (let r = s.owned d t old o in still_imported t r.0 (h.takes.stays t r.0 r.1))
-    | inr is ↦ own_owner t (subst (λ d. OwnsOn d t) (sym is) o)
+    | inl old ↦ (let r = s.owned d t old o in still_imported call a b may filed_a filed_b h t r.0 (h.takes.stays t r.0 r.1))
+    | inr is ↦ owner_imported call a b may filed_a filed_b h (s.owners f is_one) item t (subst (λ d. OwnsOn d t) (sym is) o)
   ]
-
-  owners_now : (g : Collection) → IsOneOf calls g → OwnersImported g (state_of b)
-  owners_now g is k o n at number to =
-      let was = h.takes.owners g (λ e. is call among e) (s.owners g is) k o n (subst (λ (m : Merging). (state_of m).taken k ≡ Some o) h.same at) number to in
-      let x = some_is (import_at taken.imports n) was in
-      let i = of_at taken.imports n x.0 x.1 in
-      let j = still_imported (class_of n) i.0 i.1 in
-      rw (at_of b.imports n j.0 j.1) refl
 
   pub advances_served : AreServed calls (more front call) b
   advances_served = record {
     truly = λ g is. runs.truly may.kept g (λ e. is call among e) (s.truly g is);
-    owners = owners_now;
+    owners = λ g is. owners_after call a b may filed_a filed_b h g (λ e. is call among e) (s.owners g is);
     names = names_now;
     shared = shared_now;
     served = served_now;

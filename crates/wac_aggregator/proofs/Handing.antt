@@ -1,5 +1,5 @@
 -- What a call does to an aggregator.
-use Rattle.std.proofs.Common.{◌≡◌, ◌≢◌, Some, None, ap, sym, ◌∙◌, subst}
+use Rattle.std.proofs.Common.{◌≡◌, ◌≢◌, Some, None, IsSome, refl, ap, sym, ◌∙◌, subst}
 use Rattle.wac_mismatch.specs.declared.check.SubtypeCheck.{SubtypeCheck}
 use Rattle.wac_component.specs.Collection.{Collection}
 use Rattle.wac_component.specs.Key.{AllStand, item_keys}
@@ -7,12 +7,14 @@ use Rattle.wac_component.specs.Sound.{IsSound}
 use Rattle.wac_component.specs.declared.items.ItemKind.{ItemKind}
 use Rattle.std.specs.List.{Contains}
 use Rattle.wac_model.specs.Text.{Text}
-use Rattle.wac_names.specs.Class.{class_of}
+use Rattle.wac_names.specs.Class.{Class, class_of}
 use Rattle.wac_narrowing.specs.Remembers.{RemembersTruly}
 use Rattle.wac_narrowing.specs.State.{IsOneWith}
 use Rattle.wac_call_lists.specs.Aggregated.{IsStep, track_imports}
 use Rattle.wac_call_lists.specs.Attempt.{single_attempt}
 use Rattle.wac_call_lists.specs.Call.{Call, call_track}
+use Rattle.wac_call_lists.specs.Due.{OwnsOn}
+use Rattle.wac_call_lists.specs.Imported.{track_names, ImportsAfter}
 use Rattle.wac_call_lists.specs.PlainList.{IsPlain}
 use Rattle.wac_call_lists.specs.PlainRun.{IsPlainStep, IsPlainRefusal}
 use Rattle.wac_call_lists.specs.Reason.{IsReason}
@@ -23,7 +25,7 @@ use Rattle.wac_imports.specs.Left.{listed}
 use Rattle.wac_imports.proofs.Listed.{of_Contains}
 use Rattle.wac_refusals.specs.Said.{said}
 use Rattle.wac_taking.specs.Refused.{HasReason}
-use Rattle.wac_taking.specs.Takes.{MayTake}
+use Rattle.wac_taking.specs.Takes.{state_of, MayTake, OwnersImported}
 use Rattle.wac_taking.specs.declared.state.Merging.{Merging}
 use Rattle.wac_aggregator.specs.Advances.{attempt_at, Advances, IsRefusedCall, MayTry}
 use Rattle.wac_aggregator.specs.Content.{AggregatorContent, shown, content_of, state_in}
@@ -31,7 +33,8 @@ use Rattle.wac_aggregator.specs.InOrder.{IsInOrder}
 use Rattle.wac_aggregator.proofs.Advancing.{at_of, run, advances_step}
 use Rattle.wac_aggregator.proofs.Listing.{advances_in_order, advances_number}
 use Rattle.wac_aggregator.proofs.Plain.{track_import, plain_step, plain_refusal}
-use Rattle.wac_aggregator.proofs.Remembering.{truly_in, truly_of}
+use Rattle.wac_aggregator.proofs.Imported.{track_name, imports_after, owner_imported, owners_after}
+use Rattle.wac_aggregator.proofs.Remembering.{truly_in, truly_of, owners_in, owners_of}
 
 -- each import stands
 pub imports_stand : (a : Merging) → IsInOrder a → (n : Text) (k : ItemKind) → Contains (listed a.imports) (n, k) → AllStand a.types (item_keys k)
@@ -66,6 +69,20 @@ module _ (call : Call) (inside : Merging) (told : SubtypeCheck) (before : Aggreg
 
     pub call_truly : (g : Collection) → IsOneWith call.types g → RemembersTruly class_of g (state_in before) → RemembersTruly class_of g (state_in (content_of b))
     call_truly g one t = truly_in g b ((run call a b call_may order.imports filed h).truly order.kept g one (truly_of g inside (subst (λ s. RemembersTruly class_of g (state_in s)) (sym is) t)))
+
+    pub call_imports : ImportsAfter (shown before) (shown (content_of b)) call
+    call_imports = subst (λ s. ImportsAfter (shown s) (shown (content_of b)) call) is (imports_after call a b call_may order.imports filed h)
+
+    owners_before : (g : Collection) → OwnersImported g (state_in before) → OwnersImported g (state_of a)
+    owners_before g o = owners_of g inside (subst (λ s. OwnersImported g (state_in s)) (sym is) o)
+
+    pub call_due : AllStand call.types (item_keys call.kind) → OwnersImported call.types (state_in before) → (t : Class) → OwnsOn call t → IsSome (track_names (shown (content_of b)) t)
+    call_due item o t owns =
+        let j = owner_imported call a b call_may order.imports filed h (owners_before call.types o) item t owns in
+        rw (track_name b t filed, j.1) refl
+
+    pub call_owners : (g : Collection) → IsOneWith call.types g → OwnersImported g (state_in before) → OwnersImported g (state_in (content_of b))
+    call_owners g one o = owners_in g b (owners_after call a b call_may order.imports filed h g one (owners_before g o))
 
     pub call_plain : IsPlain call.types call.kind → IsPlainStep (track_imports (shown before)) (track_imports (shown (content_of b))) call
     call_plain p = subst (λ s. IsPlainStep (track_imports (shown s)) (track_imports (shown (content_of b))) call) is (plain_step call a b call_may order.imports filed h p)

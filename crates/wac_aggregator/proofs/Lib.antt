@@ -10,6 +10,7 @@ pub mod Remembering
 pub mod Handing
 pub mod Plain
 pub mod Refusing
+pub mod Imported
 pub mod Instances
 pub mod Members
 pub mod Wit

@@ -127,7 +127,7 @@ module _ (call : Call) (a mid : Merging) (own : ItemKind) (may : MayTake call.ty
       let was = import_with (import_of a.imports (call_track call)) existing found in
       let s = hand.import was.0 was.1 in
       let among = lookup-shared (call_track call) a.shared.entries s.0 s.1 in
-      let before = may.filed (call_track call) s.0 s.1 in
+      let before = may.filed.on_class (call_track call) s.0 s.1 in
       let there = shared_there s.0 (call_track call) ((takes.run.stops may.kept).shared (interface_key s.0) among) (λ t at.
       let filed = now.filed t s.0 at in
       sym filed.2 ∙ ap class_of (same_text filed.0 before.0 (sym filed.1 ∙ (takes.run.stops may.kept).identifiers (interface_key s.0) (shared_stands (state_of a) may.kept (interface_key s.0) among) ∙ before.1)) ∙ before.2) in

@@ -32,6 +32,12 @@ not_higher-self a h =
     let both : Greater ≡ Less = sym greater ∙ turned h.second h.second greater in
     cc
 
+-- what is newer is higher
+pub higher-newer : (name was : Text) → IsNewerBy name was true → IsHigher name was
+higher-newer name was (newer (key, v, w, first, second, is)) =
+    let greater : version_cmp v w ≡ Greater = (let same : Greater ≡ version_cmp v w = is in sym same) in
+    record { key = key; first = v; second = w; first_on = first; second_on = second; higher = greater }
+
 -- what is not newer is not higher
 pub not_higher-old : (name was : Text) → IsNewerBy name was false → ¬ (IsHigher name was)
 not_higher-old name was (not_newer o order less) h = by o order less

@@ -33,24 +33,24 @@ use Rattle.wac_aggregator.proofs.Advancing.{placing, at_of}
 use Rattle.wac_aggregator.proofs.Leading.{placed_here, placed_other}
 
 -- what is imported on a track is the import of the class
-module _ (g : ItemKind → ItemTree) where
-  on_class : (es : List (Class × ImportContent)) (t : Class) → map class_of (keys_of (map (λ (e : Class × ImportContent). e.1) es)) ≡ keys_of es
-      → lookup class_eq (map (λ (i : ImportContent). (class_of i.0, g i.1)) (map (λ (e : Class × ImportContent). e.1) es)) t ≡ option_map (λ (i : ImportContent). g i.1) (lookup_by (class_eq t) es)
+module _ {V : Type 0} (g : ImportContent → V) where
+  pub on_class : (es : List (Class × ImportContent)) (t : Class) → map class_of (keys_of (map (λ (e : Class × ImportContent). e.1) es)) ≡ keys_of es
+      → lookup class_eq (map {B = Class × V} (λ (i : ImportContent). (class_of i.0, g i)) (map (λ (e : Class × ImportContent). e.1) es)) t ≡ option_map g (lookup_by (class_eq t) es)
   on_class [] t same = refl
   on_class (e ∷ es) t same =
       let first : class_of e.1.0 ≡ e.0 = cc in
       let rest : map class_of (keys_of (map (λ (x : Class × ImportContent). x.1) es)) ≡ keys_of es = cc in
       rw first (by (class_eq t e.0) (on_class es t rest))
     where
-      others : Option ItemTree
-      others = lookup class_eq (map (λ (i : ImportContent). (class_of i.0, g i.1)) (map (λ (x : Class × ImportContent). x.1) es)) t
+      others : Option V
+      others = lookup class_eq (map {B = Class × V} (λ (i : ImportContent). (class_of i.0, g i)) (map (λ (x : Class × ImportContent). x.1) es)) t
 
-      by : (b : Bool) → others ≡ option_map (λ (i : ImportContent). g i.1) (lookup_by (class_eq t) es) → (if b then Some (g e.1.1) else others) ≡ option_map (λ (i : ImportContent). g i.1) (cond b (Some e.1) (lookup_by (class_eq t) es))
+      by : (b : Bool) → others ≡ option_map g (lookup_by (class_eq t) es) → (if b then Some (g e.1) else others) ≡ option_map g (cond b (Some e.1) (lookup_by (class_eq t) es))
       by true k = refl
       by false k = k
 
 pub track_import : (a : Merging) (t : Class) → AreFiled a.imports → track_imports (shown (content_of a)) t ≡ option_map (λ (i : ImportContent). item_tree a.types i.1) (import_of a.imports t)
-track_import a t filed = on_class (item_tree a.types) a.imports.list t (classes_listed a.imports filed)
+track_import a t filed = on_class (λ (i : ImportContent). item_tree a.types i.1) a.imports.list t (classes_listed a.imports filed)
 
 -- an accepted call
 module _ (call : Call) (a b : Merging) (may : MayTake call.types a) (filed_a : AreFiled a.imports) (filed_b : AreFiled b.imports) (h : Advances call a b) (plain : IsPlain call.types call.kind) where

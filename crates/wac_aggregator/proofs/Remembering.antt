@@ -8,7 +8,7 @@ use Rattle.wac_copies.specs.declared.memo.Memo.{Memo}
 use Rattle.wac_names.specs.Class.{class_of}
 use Rattle.wac_narrowing.specs.Remembers.{RemembersTruly}
 use Rattle.wac_narrowing.specs.State.{State, Memo as Remembered}
-use Rattle.wac_taking.specs.Takes.{state_of}
+use Rattle.wac_taking.specs.Takes.{state_of, OwnersImported}
 use Rattle.wac_taking.specs.declared.state.Merging.{Merging}
 use Rattle.wac_aggregator.specs.Content.{own_in, remembered_in, pairs_of, content_of, state_in}
 
@@ -38,3 +38,10 @@ module _ (f : Collection) (a : Merging) where
 
   pub truly_of : RemembersTruly class_of f (state_in (content_of a)) → RemembersTruly class_of f (state_of a)
   truly_of h = RemembersTruly-same f (state_in (content_of a)) (memo_of a.taken) (memo_of a.copies) (λ k. sym (same_pairs a.taken k)) (λ k. sym (same_pairs a.copies k)) h
+
+  -- so are owners imported
+  pub owners_in : OwnersImported f (state_of a) → OwnersImported f (state_in (content_of a))
+  owners_in h theirs own n at number to = h theirs own n (sym (same_pairs a.taken theirs) ∙ at) number to
+
+  pub owners_of : OwnersImported f (state_in (content_of a)) → OwnersImported f (state_of a)
+  owners_of h theirs own n at number to = h theirs own n (same_pairs a.taken theirs ∙ at) number to

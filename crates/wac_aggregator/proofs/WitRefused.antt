@@ -18,7 +18,7 @@ use Rattle.wac_call_lists.specs.Call.{Call, AreSoundCalls}
 use Rattle.wac_call_lists.specs.Compatible.{TrackUses, Leads}
 use Rattle.wac_call_lists.specs.Entries.{ReachesByUses}
 use Rattle.wac_call_lists.specs.PlainList.{IsPlain}
-use Rattle.wac_call_lists.specs.Reason.{Refusal, kinds, mismatch, used_interface, used_name, no_identifier, owner_without_identifier, cycle, IsReason}
+use Rattle.wac_call_lists.specs.Reason.{Refusal, kinds, mismatch, unexplained, used_interface, used_name, no_identifier, owner_without_identifier, cycle, IsReason}
 use Rattle.wac_call_lists.specs.Reason as reason
 use Rattle.wac_call_lists.specs.Shared.{Taken}
 use Rattle.wac_call_lists.specs.WitList.{AreWit, IsNamedInstance, IsMember, IsWitList}
@@ -103,6 +103,7 @@ module _ (calls front : List Call) (call : Call) (a : Merging) (wit : IsWitList 
   by_reason (owner_without_identifier name) h merging = by_owner name h
   by_reason (reason.taken name) h merging = by_taking name h
   by_reason mismatch h merging = merging tt
+  by_reason unexplained h merging = absurd h
   by_reason (used_interface used expected found) h merging = merging tt
   by_reason (used_name used) h merging = merging tt
   by_reason (cycle interface) h merging = merging tt

@@ -1,6 +1,6 @@
 //! The aggregator.
 
-ghost use Rattle.std.specs.Prelude.{◌≡◌, ◌≢◌, [], Contains, IfErr, IfOk, MatchResult};
+ghost use Rattle.std.specs.Prelude.{◌≡◌, ◌≢◌, [], Contains, IfErr, IfOk, IsSome, MatchResult};
 ghost use Rattle.wac_model.specs.Text.{Text};
 ghost use Rattle.wac_component.specs.Collection.{Collection};
 ghost use Rattle.wac_component.specs.Key.{AllStand, item_keys};
@@ -9,14 +9,17 @@ ghost use Rattle.wac_checker.specs.Cache.{without_number};
 ghost use Rattle.wac_checker.specs.Checker.{direction, depth, remembered};
 ghost use Rattle.wac_call_lists.specs.Aggregated.{IsByTrack, IsStep, track_imports};
 ghost use Rattle.wac_call_lists.specs.Attempt.{single_attempt};
+ghost use Rattle.wac_call_lists.specs.Due.{OwnsOn};
+ghost use Rattle.wac_call_lists.specs.Imported.{track_names, ImportsAfter};
 ghost use Rattle.wac_call_lists.specs.PlainList.{IsPlain};
 ghost use Rattle.wac_call_lists.specs.PlainRun.{IsPlainStep, IsPlainRefusal};
 ghost use Rattle.wac_refusals.specs.declared.error.AggregateError.TheVariants.{Memory};
 ghost use Rattle.wac_imports.specs.Left.{imports_left};
-ghost use Rattle.wac_names.specs.Class.{class_of};
+ghost use Rattle.wac_names.specs.Class.{Class, class_of};
 ghost use Rattle.wac_narrowing.specs.Remembers.{RemembersTruly};
 ghost use Rattle.wac_narrowing.specs.State.{IsOneWith};
 ghost use Rattle.wac_taking.specs.Refused.{HasReason};
+ghost use Rattle.wac_taking.specs.Takes.{OwnersImported};
 ghost use Rattle.wac_aggregator.specs.Content.{shown, state_in};
 
 use super::importing::advance;
@@ -55,6 +58,7 @@ impl TypeAggregator {
         ensures empty { result.types ≡ record { number = number; defined = []; resources = []; funcs = []; interfaces = []; worlds = []; modules = [] } }
         ensures imports { (shown result).imports ≡ [] }
         ensures remembers_nothing { (f : Collection) → RemembersTruly class_of f (state_in result) }
+        ensures owners { (f : Collection) → OwnersImported f (state_in result) }
     {
         TypeAggregator {
             state: no_imports(alloc, number, SubtypeCheck::Covariant),
@@ -95,6 +99,10 @@ impl TypeAggregator {
     /// refusal consumes the aggregator. No pair with an id of the aggregator stays in the checker's
     /// cache; nothing else of the checker changes.
     ///
+    /// On another track than the name's each import keeps its name, and what is imported besides
+    /// are owners of resources in the item, which all are where those of what was handed in before
+    /// with ids of its number are.
+    ///
     /// A refusal but for want of memory comes only where there is that reason: with the
     /// import that stood on the track, in the item, or, of what can't be merged with it, in
     /// what this aggregator had taken in.
@@ -117,6 +125,9 @@ impl TypeAggregator {
         ensures plain { MatchResult result (λ a. IsPlain types.now kind → IsPlainStep (track_imports (shown self)) (track_imports (shown a)) (record { name = name.now; types = types.now; kind = kind })) (λ e. IsPlain types.now kind → e ≢ Memory → IsPlainRefusal (track_imports (shown self)) (record { name = name.now; types = types.now; kind = kind })) }
         ensures reason { IfErr result (HasReason (single_attempt self.types (track_imports (shown self) (class_of name.now)) (record { name = name.now; types = types.now; kind = kind }))) }
         ensures by_track { IfOk result (λ a. IsByTrack (shown a)) }
+        ensures imports { IfOk result (λ a. ImportsAfter (shown self) (shown a) (record { name = name.now; types = types.now; kind = kind })) }
+        ensures due { IfOk result (λ a. OwnersImported types.now (state_in self) → (t : Class) → OwnsOn (record { name = name.now; types = types.now; kind = kind }) t → IsSome (track_names (shown a) t)) }
+        ensures owners { IfOk result (λ a. (g : Collection) → IsOneWith types.now g → OwnersImported g (state_in self) → OwnersImported g (state_in a)) }
         ensures truly { IfOk result (λ a. (g : Collection) → IsOneWith types.now g → RemembersTruly class_of g (state_in self) → RemembersTruly class_of g (state_in a)) }
         ensures number { IfOk result (λ a. a.types.number ≡ self.types.number) }
         ensures forgotten { remembered checker.new ≡ without_number self.types.number (remembered checker.old) }

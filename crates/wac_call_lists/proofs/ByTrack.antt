@@ -1,6 +1,8 @@
 -- Imports found by their names, and by the tracks of these.
 use Rattle.std.proofs.Common.{◌≡◌, ◌⊎◌, inl, inr, refl, subst, sym, ap, ◌∙◌, Bool, true, false, cond, arith, List, [], ◌∷◌, map, Option, Some, None, IsSome, Contains}
+use Rattle.std.specs.List.{AllByRecursion, IsDistinct}
 use Rattle.std.specs.Map.{keys_of}
+use Rattle.std.proofs.lemmas.Map.Keys.{IsDistinct-head, IsDistinct-tail}
 use Rattle.std.specs.Str.{bytes_eq}
 use Rattle.std.proofs.lemmas.List.Elements.{All-contains}
 use Rattle.std.proofs.lemmas.Slice.Eq.{bytes_eq-Decides}
@@ -11,7 +13,7 @@ use Rattle.wac_component.specs.declared.items.ItemKind.{ItemKind}
 use Rattle.wac_component.proofs.Among.{Contains-first, Contains-later, Contains-cases}
 use Rattle.wac_names.specs.Class.{Class, class_of, class_eq}
 use Rattle.wac_names.proofs.Classes.{classes_decided}
-use Rattle.wac_call_lists.specs.Aggregated.{track_imports}
+use Rattle.wac_call_lists.specs.Aggregated.{Aggregated, IsByTrack, track_imports}
 use Rattle.wac_call_lists.specs.Due.{IsDue, IsImportName}
 use Rattle.wac_call_lists.specs.Laws.{NamesLeadToTracks, NamedImportsAreDue}
 use Rattle.wac_call_lists.proofs.Read.{lookup_contains}
@@ -74,6 +76,35 @@ module _ (f : ItemKind → ItemTree) where
       by_cases g (inl r) = subst (λ (y : Text). Contains (class_of x ∷ map class_of names) (class_of y)) r (Contains-first (class_of x) (map class_of names))
       by_cases g (inr k) = Contains-later (class_of n) (class_of x) (map class_of names) (g k)
 
+-- a name whose class differs from those of all these is on another track than each
+apart_from : (x : Text) (names : List Text) → AllByRecursion (λ t. class_eq (class_of x) t ≡ false) (map class_of names) → (n : Text) → Contains names n → class_of x ≡ class_of n → ⊥
+apart_from x [] differ n m same = absurd (omega (arith, m.1))
+apart_from x (y ∷ names) differ n m same = by (apart_from x names differ.1 n) (Contains-cases n y names m)
+  where
+    by : (Contains names n → class_of x ≡ class_of n → ⊥) → (y ≡ n) ⊎ Contains names n → ⊥
+    by rest (inl p) = let is = (classes_decided (class_of x) (class_of y)).1 (same ∙ ap class_of (sym p)) in let no = differ.0 in absurd (cc (is, no))
+    by rest (inr k) = rest k same
+
+-- names whose classes are distinct are one where they are on one track
+on_one_track : (names : List Text) → IsDistinct class_eq (map class_of names) → (m n : Text) → Contains names m → Contains names n → class_of m ≡ class_of n → m ≡ n
+on_one_track [] distinct m n hm hn same = absurd (omega (arith, hm.1))
+on_one_track (x ∷ names) distinct m n hm hn same =
+    by (on_one_track names (IsDistinct-tail class_eq (class_of x) (map class_of names) distinct) m n) (Contains-cases m x names hm) (Contains-cases n x names hn)
+  where
+    apart : (k : Text) → Contains names k → class_of x ≡ class_of k → ⊥
+    apart = apart_from x names (IsDistinct-head class_eq (class_of x) (map class_of names) distinct)
+
+    by : (Contains names m → Contains names n → class_of m ≡ class_of n → m ≡ n) → (x ≡ m) ⊎ Contains names m → (x ≡ n) ⊎ Contains names n → m ≡ n
+    by rest (inl p) (inl q) = sym p ∙ q
+    by rest (inl p) (inr k) = absurd (apart n k (ap class_of p ∙ same))
+    by rest (inr k) (inl q) = absurd (apart m k (ap class_of q ∙ sym same))
+    by rest (inr k) (inr l) = rest k l same
+
+-- imports on one track have one name
+pub one_on : (a : Aggregated) → IsByTrack a → (m n : Text) (i j : ItemKind) → lookup bytes_eq a.imports m ≡ Some i → lookup bytes_eq a.imports n ≡ Some j → class_of m ≡ class_of n → m ≡ n
+one_on a by m n i j at_m at_n same = on_one_track (keys_of a.imports) by.one_each m n
+    (key_contained (item_tree a.types) a.imports m i (lookup_contains a.imports m i at_m)) (key_contained (item_tree a.types) a.imports n j (lookup_contains a.imports n j at_n)) same
+
 to_some : {V : Type 0} (o : Option V) → IsSome o → (v : V) × (o ≡ Some v)
 to_some None h = absurd (cc h)
 to_some (Some v) h = (v, refl)
@@ -84,7 +115,7 @@ names_lead a name import by e =
     let n = subst (λ (t : Class). Contains (map class_of (keys_of a.imports)) t) (by.canonical name) (class_contained (item_tree a.types) (keys_of a.imports) (a.canonical name) m) in
     let s = to_some (track_imports a (class_of name)) (some_on (item_tree a.types) a.imports (class_of name) n) in
     let k = first_on (item_tree a.types) a.imports (class_of name) s.0 s.1 in
-    let names = by.one_each k.name (a.canonical name) k.import import k.found e (k.on_track ∙ sym (by.canonical name)) in
+    let names = one_on a by k.name (a.canonical name) k.import import k.found e (k.on_track ∙ sym (by.canonical name)) in
     let same : k.import ≡ import = same_value (sym k.found ∙ ap (lookup bytes_eq a.imports) names ∙ e) in
     s.1 ∙ ap (λ (t : ItemTree). Some t) (k.is_tree ∙ ap (item_tree a.types) same)
 

@@ -31,5 +31,5 @@ steps_serve_all a b calls steps by_track c d m n same =
     let x = each_served steps c m in
     let y = each_served steps d n in
     let tracks : class_of (b.canonical d.name) ≡ class_of (b.canonical c.name) = by_track.canonical d.name ∙ same ∙ sym (by_track.canonical c.name) in
-    let names = by_track.one_each (b.canonical d.name) (b.canonical c.name) y.import x.import y.is_import x.is_import tracks in
+    let names = one_on b by_track (b.canonical d.name) (b.canonical c.name) y.import x.import y.is_import x.is_import tracks in
     record { import = y.import; is_import = subst (λ (n : Text). lookup bytes_eq b.imports n ≡ Some y.import) names y.is_import; fits = y.fits }

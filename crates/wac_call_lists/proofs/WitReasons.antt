@@ -27,7 +27,7 @@ use Rattle.wac_call_lists.specs.Entries.{Uses}
 use Rattle.wac_call_lists.specs.Leaves.{export_at}
 use Rattle.wac_call_lists.specs.Laws.{CompatibleListsAreAccepted, ClashingExportsHaveNoBound, WitReasonsAreReasons}
 use Rattle.wac_call_lists.specs.OpenReach.{ItemReaches}
-use Rattle.wac_call_lists.specs.Reason.{Refusal, kinds, mismatch, used_interface, used_name, no_identifier, owner_without_identifier, taken, cycle, KindsDiffer, ImportClashes, UsesUnidentified, OwnerUnidentified, IsTaken, ClosesCycle}
+use Rattle.wac_call_lists.specs.Reason.{Refusal, kinds, mismatch, unexplained, used_interface, used_name, no_identifier, owner_without_identifier, taken, cycle, KindsDiffer, ImportClashes, UsesUnidentified, OwnerUnidentified, IsTaken, ClosesCycle}
 use Rattle.wac_call_lists.specs.TreeSets.{IsBelowEach, HaveLowerBound}
 use Rattle.wac_call_lists.specs.WitList.{IsNamedInstance, IsMember, used, IsMemberOn, IsMemberTree, IsTreeOn, IsWitList}
 use Rattle.wac_call_lists.specs.WitReason.{IsSourceOn, IsWitReason}
@@ -195,6 +195,7 @@ module _ (front : List Call) (call : Call) (imports : Imports) (wit : IsWitList 
   no_reason (kinds e f) r = no_kinds e f r
   no_reason mismatch (inl r) = no_import_clash r
   no_reason mismatch (inr r) = no_exports_clash r.0 r.1
+  no_reason unexplained r = r
   no_reason (used_interface n e f) r = no_interfaces_clash r.0 n e f r.1
   no_reason (used_name n) r = no_names_clash r.0 n r.1
   no_reason (no_identifier n) r = no_unidentified_use n r
@@ -258,6 +259,7 @@ pub wit_reasons_are_reasons : WitReasonsAreReasons
 wit_reasons_are_reasons a (kinds e f) h r = r
 wit_reasons_are_reasons a mismatch h (inl r) = inl r
 wit_reasons_are_reasons a mismatch h (inr r) = inr (h, exports_among a.sources r.0 r.1)
+wit_reasons_are_reasons a unexplained h r = r
 wit_reasons_are_reasons a (used_interface n e f) h r =
     (inr h, interfaces_among a.sources r.0 n e f r.1)
 wit_reasons_are_reasons a (used_name n) h r = (inr h, names_among a.sources r.0 n r.1)

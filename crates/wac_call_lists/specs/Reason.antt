@@ -18,10 +18,11 @@ use Rattle.wac_call_lists.specs.Compatible.{Leads}
 use Rattle.wac_call_lists.specs.Entries.{IsIdentifiedOn}
 use Rattle.wac_call_lists.specs.TreeSets.{HaveNoLowerBound}
 
--- the refusals of a call, with the texts that they carry
+-- the refusals of a call, with the texts that they carry; a mismatch is explained by a no
 pub data Refusal : Type 0 where
   kinds : (existing found : Text) → Refusal
   mismatch : Refusal
+  unexplained : Refusal
   used_interface : (used expected found : Text) → Refusal
   used_name : (used : Text) → Refusal
   no_identifier : (used : Text) → Refusal
@@ -102,10 +103,11 @@ pub record ClosesCycle (a : Attempt) (name : Text) : Type 0 where
   pub identified : identifier a.call.types interface ≡ Some name
   pub leads_back : Leads (TrackLeads a.sources) (class_of name) (class_of name)
 
--- the table
+-- the table; for a mismatch without a no there is never reason
 abbrev pub IsReason : Attempt → Refusal → Type 0
 IsReason a (kinds existing found) = KindsDiffer a existing found
 IsReason a mismatch = Mismatches a
+IsReason a unexplained = ⊥
 IsReason a (used_interface used expected found) = Meets a × InterfacesClash (IsSource a.sources) used expected found
 IsReason a (used_name used) = Meets a × NamesClash (IsSource a.sources) used
 IsReason a (no_identifier used) = UsesUnidentified a used

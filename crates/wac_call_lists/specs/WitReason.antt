@@ -8,7 +8,7 @@ use Rattle.wac_names.specs.Class.{Class}
 use Rattle.wac_call_lists.specs.Attempt.{Attempt, Sources, IsSource}
 use Rattle.wac_call_lists.specs.Clash.{ExportsClash, InterfacesClash, NamesClash}
 use Rattle.wac_call_lists.specs.Entries.{IsIdentifiedOn}
-use Rattle.wac_call_lists.specs.Reason.{Refusal, kinds, mismatch, used_interface, used_name, no_identifier, owner_without_identifier, taken, cycle, IsReason, ImportClashes}
+use Rattle.wac_call_lists.specs.Reason.{Refusal, kinds, mismatch, unexplained, used_interface, used_name, no_identifier, owner_without_identifier, taken, cycle, IsReason, ImportClashes}
 
 -- a source that is an interface with an identifier on the track
 pub record IsSourceOn (sources : Sources) (t : Class) (c : Collection) (k : Key) : Type 0 where
@@ -21,6 +21,7 @@ abbrev pub IsWitReason : Attempt → Refusal → Type 0
 IsWitReason a mismatch = ImportClashes a ⊎ ((t : Class) × ExportsClash (IsSourceOn a.sources t))
 IsWitReason a (used_interface used expected found) = (t : Class) × InterfacesClash (IsSourceOn a.sources t) used expected found
 IsWitReason a (used_name used) = (t : Class) × NamesClash (IsSourceOn a.sources t) used
+IsWitReason a unexplained = ⊥
 IsWitReason a (kinds existing found) = IsReason a (kinds existing found)
 IsWitReason a (no_identifier used) = IsReason a (no_identifier used)
 IsWitReason a (owner_without_identifier name) = IsReason a (owner_without_identifier name)

@@ -19,9 +19,9 @@ use Rattle.wac_merge.specs.Items.{entry_item}
 use Rattle.wac_names.specs.Class.{class_of}
 use Rattle.wac_narrowing.specs.Remembers.{RemembersTruly}
 use Rattle.wac_narrowing.specs.State.{State, IsKept, Runs}
-use Rattle.wac_narrowing.specs.Taking.{IsCopiedItem}
+use Rattle.wac_narrowing.specs.Taking.{IsCopiedItem, IsCopiedKey}
 use Rattle.wac_narrowing.specs.Values.{IsCopiedValue, AreDefined}
-use Rattle.wac_copies.specs.Copies.{Copies, IsCopiedUse, IsNotedAs}
+use Rattle.wac_copies.specs.Copies.{Copies, IsCopiedUse}
 use Rattle.wac_copies.specs.declared.memo.Memo.{Memo}
 use Rattle.wac_copies.proofs.CopyLemmas.{Copies-more, Copies-then}
 use Rattle.wac_copies.proofs.Parts.{item_of_copy, use_still}
@@ -30,19 +30,19 @@ use Rattle.wac_copies.proofs.Placed.{ArePlaced, AreSet, placed_more, placed_next
 module _ (f c d : Collection) (m n : Memo) where
   -- an entry's copy is that of the item
   pub copied_item : (k : Kind) (theirs own : Key) (kind x y : ItemKind) → kind ≡ x → item_keys x ≡ theirs ∷ [] → item_keys y ≡ own ∷ [] → x ≡ entry_item k theirs → y ≡ entry_item k own
-      → Copies f c m d n (height f theirs) (λ t. IsNotedAs f t theirs own) → Copies f c m d n (keys_height f (item_keys kind)) (λ t. IsCopiedItem f t kind y)
+      → Copies f c m d n (height f theirs) (λ t. IsCopiedKey f t theirs own) → Copies f c m d n (keys_height f (item_keys kind)) (λ t. IsCopiedItem f t kind y)
   copied_item k theirs own kind x y is keys own_keys at_x at_y h =
       subst (λ i. Copies f c m d n (keys_height f (item_keys i)) (λ t. IsCopiedItem f t i y)) (sym is)
       (subst (λ ks. Copies f c m d n (keys_height f ks) (λ t. IsCopiedItem f t x y)) (sym keys)
-      (Copies-more f c d m n (height f theirs) (keys_height f (theirs ∷ [])) (λ t. IsNotedAs f t theirs own) (λ t. IsCopiedItem f t x y) (omega arith) (λ t kept q. item_of_copy f t k theirs own x y own_keys at_x at_y q) h))
+      (Copies-more f c d m n (height f theirs) (keys_height f (theirs ∷ [])) (λ t. IsCopiedKey f t theirs own) (λ t. IsCopiedItem f t x y) (omega arith) (λ t kept q. item_of_copy f t k theirs own x y keys own_keys at_x at_y q) h))
 
   -- and that of the value
-  pub copied_value : (theirs own : Key) (ty x y : ValueType) → ty ≡ x → value_keys x ≡ theirs ∷ [] → ((t : State) → IsNotedAs f t theirs own → IsCopiedValue f t x y)
-      → Copies f c m d n (height f theirs) (λ t. IsNotedAs f t theirs own) → Copies f c m d n (keys_height f (value_keys ty)) (λ t. IsCopiedValue f t ty y)
+  pub copied_value : (theirs own : Key) (ty x y : ValueType) → ty ≡ x → value_keys x ≡ theirs ∷ [] → ((t : State) → IsCopiedKey f t theirs own → IsCopiedValue f t x y)
+      → Copies f c m d n (height f theirs) (λ t. IsCopiedKey f t theirs own) → Copies f c m d n (keys_height f (value_keys ty)) (λ t. IsCopiedValue f t ty y)
   copied_value theirs own ty x y is keys means h =
       subst (λ i. Copies f c m d n (keys_height f (value_keys i)) (λ t. IsCopiedValue f t i y)) (sym is)
       (subst (λ ks. Copies f c m d n (keys_height f ks) (λ t. IsCopiedValue f t x y)) (sym keys)
-      (Copies-more f c d m n (height f theirs) (keys_height f (theirs ∷ [])) (λ t. IsNotedAs f t theirs own) (λ t. IsCopiedValue f t x y) (omega arith) (λ t kept q. means t q) h))
+      (Copies-more f c d m n (height f theirs) (keys_height f (theirs ∷ [])) (λ t. IsCopiedKey f t theirs own) (λ t. IsCopiedValue f t x y) (omega arith) (λ t kept q. means t q) h))
 
   -- the members' copies are those of the content
   pub copied_content : (low : ℕ) (Q : State → Type 0) (ty x y : DefinedType) → ty ≡ x → low ≤ keys_height f (defined_keys (defined_content x)) → ((t : State) → Q t → AreDefined (IsCopiedValue f t) (defined_content x) (defined_content y))
@@ -110,14 +110,14 @@ used_there (e ∷ es) (x ∷ fs) (suc i) v at same = used_there es fs i v at (om
 -- one more use is made one of a copy
 module _ (f c d e : Collection) (m n o : Memo) (top : ℕ) (es fs gs : List (String Global × UsedType)) (i : ℕ) (p copy : Id) (u w : UsedType) where
   pub Copies-use : height f (interface_key p) ≤ top → slice_get (types_of es) i ≡ Some u → u.interface ≡ p → slice_get (types_of fs) i ≡ Some w → gs ≡ set_value_at fs i (record w { interface = copy })
-      → Copies f c m d n top (λ t. AreSet (IsCopiedUse f t) i (named use_content es) (named use_content fs)) → Copies f d n e o (height f (interface_key p)) (λ t. IsNotedAs f t (interface_key p) (interface_key copy))
+      → Copies f c m d n top (λ t. AreSet (IsCopiedUse f t) i (named use_content es) (named use_content fs)) → Copies f d n e o (height f (interface_key p)) (λ t. IsCopiedKey f t (interface_key p) (interface_key copy))
       → Copies f c m e o top (λ t. AreSet (IsCopiedUse f t) (i + 1) (named use_content es) (named use_content gs))
   Copies-use below at is there put a b =
-      Copies-more f c e m o top top (λ t. AreSet (IsCopiedUse f t) i (named use_content es) (named use_content fs) × IsNotedAs f t (interface_key p) (interface_key copy)) (λ t. AreSet (IsCopiedUse f t) (i + 1) (named use_content es) (named use_content gs)) (omega arith)
+      Copies-more f c e m o top top (λ t. AreSet (IsCopiedUse f t) i (named use_content es) (named use_content fs) × IsCopiedKey f t (interface_key p) (interface_key copy)) (λ t. AreSet (IsCopiedUse f t) (i + 1) (named use_content es) (named use_content gs)) (omega arith)
       (λ t kept q. subst (λ j. AreSet (IsCopiedUse f t) j (named use_content es) (named use_content gs)) (omega arith)
       (set_next (IsCopiedUse f t) use_content i (named use_content es) fs gs (use_content u) (record w { interface = copy }) q.0 (types-named use_content es i u at) put
-      (record { name = same_name t q.0; interface = subst (λ r. IsNotedAs f t (interface_key r) (interface_key copy)) (sym is) q.1 })))
-      (Copies-then f c d e m n o top (height f (interface_key p)) top (λ t. AreSet (IsCopiedUse f t) i (named use_content es) (named use_content fs)) (λ t. IsNotedAs f t (interface_key p) (interface_key copy)) (omega arith) below
+      (record { name = same_name t q.0; interface = subst (λ r. IsCopiedKey f t (interface_key r) (interface_key copy)) (sym is) q.1 })))
+      (Copies-then f c d e m n o top (height f (interface_key p)) top (λ t. AreSet (IsCopiedUse f t) i (named use_content es) (named use_content fs)) (λ t. IsCopiedKey f t (interface_key p) (interface_key copy)) (omega arith) below
       (λ s t kept run q. set_more (IsCopiedUse f s) (IsCopiedUse f t) (use_still f s t kept (RemembersTruly class_of) f run) i (named use_content es) (named use_content fs) q) a b)
     where
       same_some : (a b : UseContent) → Some a ≡ Some b → a.name ≡ b.name

@@ -13,12 +13,14 @@ use Rattle.wac_names.specs.Class.{class_of}
 use Rattle.wac_narrowing.specs.Entering.{AddsCopy, IsCopiedInto}
 use Rattle.wac_narrowing.specs.Last.{last_key}
 use Rattle.wac_narrowing.specs.Remembers.{RemembersTruly}
-use Rattle.wac_narrowing.specs.State.{State, AddsPair, IsNotedCopy, IsKept, Runs}
+use Rattle.wac_narrowing.specs.State.{State, AddsPair, IsKept, Runs}
 use Rattle.wac_narrowing.proofs.Running.{Runs-refl, Runs-trans}
 use Rattle.wac_narrowing.specs.Standing.{IsCopy}
+use Rattle.wac_narrowing.specs.Taking.{IsCopiedKey, AreCopiedKeys}
+use Rattle.wac_narrowing.proofs.Mapped.{paired_each}
 use Rattle.wac_reasons.specs.Split.{IsLow, of_copy, StaySplit}
 use Rattle.wac_reasons.proofs.Splitting.{copy_splits}
-use Rattle.wac_copies.specs.Copies.{IsState, MayCopy, moved, Copies, IsNotedAs}
+use Rattle.wac_copies.specs.Copies.{IsState, MayCopy, moved, Copies}
 use Rattle.wac_copies.specs.Memo.{memo_of}
 use Rattle.wac_copies.specs.declared.memo.Memo.{Memo}
 
@@ -26,16 +28,15 @@ use Rattle.wac_copies.specs.declared.memo.Memo.{Memo}
 pub moved-same : (f c : Collection) (m : Memo) (s : State) → IsState f c m s → moved s c m ≡ s
 moved-same f c m s h = let o = h.own in let k = h.copies in λ i. record s { own = sym o i; copies = sym k i }
 
--- what is noted as a copy is low
-pub noted_low : (s : State) (ks : List Key) → Each (IsNotedCopy s) ks → Each (IsLow s) ks
-noted_low s [] h = tt
-noted_low s (k ∷ ks) h = (of_copy h.0.0 k h.0.1 stay, noted_low s ks h.1)
+-- copies are low
+pub copies_low : (f : Collection) (s : State) (is js : List Key) → AreCopiedKeys f s is js → Each (IsLow s) js
+copies_low f s = paired_each (IsCopiedKey f s) (IsLow s) (λ i j h. of_copy i j h.noted stay)
 
--- the state runs on with a copy more, all parts of which stand, and were noted
+-- the state runs on with a copy more, all parts of which stand, and are low
 pub record HasCopied (f : Collection) (s t : State) (theirs : Key) (z : Entry) : Type 0 where
   pub into : IsCopiedInto class_of f s t theirs (last_key s.own z)
   pub named : AllStand s.own (entry_keys z)
-  pub noted : Each (IsNotedCopy s) (entry_keys z)
+  pub low : Each (IsLow s) (entry_keys z)
 
 module _ (f : Collection) where
   -- what runs on from a state is one
@@ -83,19 +84,19 @@ module _ (f : Collection) where
   }
 
   -- a copy that is noted
-  noted_of : (t : State) (theirs own : Key) → IsCopy f t.own t.shared theirs own → t.copies theirs ≡ Some own → IsNotedAs f t theirs own
-  noted_of t theirs own c is = record { sort = c.sort; theirs_stands = c.theirs_stands; own_stands = c.own_stands; apart = c.apart; same = c.same; noted = is }
+  noted_of : (t : State) (theirs own : Key) → IsCopy f t.own t.shared theirs own → t.copies theirs ≡ Some own → IsCopiedKey f t theirs own
+  noted_of t theirs own c is = record { copy = c; noted = is }
 
   -- it was copied before
-  pub Copies-hit : (c : Collection) (m : Memo) (theirs own : Key) (top : ℕ) → theirs.id.number ≡ f.number → memo_of m theirs ≡ Some own → Copies f c m c m top (λ t. IsNotedAs f t theirs own)
-  Copies-hit c m theirs own top number is = Copies-none c m top (λ t. IsNotedAs f t theirs own)
+  pub Copies-hit : (c : Collection) (m : Memo) (theirs own : Key) (top : ℕ) → theirs.id.number ≡ f.number → memo_of m theirs ≡ Some own → Copies f c m c m top (λ t. IsCopiedKey f t theirs own)
+  Copies-hit c m theirs own top number is = Copies-none c m top (λ t. IsCopiedKey f t theirs own)
       (λ s h. let at : s.copies theirs ≡ Some own = (λ j. h.copies j theirs) ∙ is in noted_of s theirs own (h.truly.copies theirs own at number) at)
 
   -- once its parts were copied, a copy is added and noted
   pub Copies-enter : (c d e : Collection) (m n o : Memo) (theirs own : Key) (z : Entry) (low : ℕ) (Q : State → Type 0) → theirs.id.number ≡ f.number → low ≤ height f theirs
       → Copies f c m d n low Q → e ≡ with_entry d z → own ≡ last_key d z → AddsPair (memo_of n) (memo_of o) theirs own
       → ((s t : State) → s.own ≡ d → IsKept s → Q s → AddsCopy f s t theirs z → HasCopied f s t theirs z)
-      → Copies f c m e o (height f theirs) (λ t. IsNotedAs f t theirs own)
+      → Copies f c m e o (height f theirs) (λ t. IsCopiedKey f t theirs own)
   Copies-enter c d e m n o theirs own z low Q number below g added last adds enters = record {
     low = λ k above absent. still_none k (λ same. omega (arith, above, ap (height f) same)) (g.low k (omega (arith, below, above)) absent) (memo_of o k) refl;
     grows = λ s is. Extends-trans c d e (g.grows s is) (subst (Extends d) (sym added) (Extends-with_entry d z ((g.runs s is).0.kept is.kept).good.sound));
@@ -112,7 +113,7 @@ module _ (f : Collection) where
         let kept = r.0.kept is.kept in
         let pair = subst (AddsPair (memo_of n) (memo_of o) theirs) last adds in
         let in_to = enters u t refl kept r.1 record { own = added; shared = refl; imports = refl; taken = refl; number = number; remembers = pair } in
-        let low : Each (IsLow u) (entry_keys z) = noted_low u (entry_keys z) in_to.noted in
+        let low : Each (IsLow u) (entry_keys z) = in_to.low in
         let first = g.splits s is in
         let then = copy_splits u t kept z added in_to.named (each_among (IsLow u) (import_keys z) (λ j q. among_each (IsLow u) j (entry_keys z) ((imports-apart z j).1 (inl q)) low)) theirs pair low in
         record { opens = λ k st o. then.opens k ((r.0.narrows is.kept).standing k st) (first.opens k st o); lows = λ k h. then.lows k (first.lows k h) };

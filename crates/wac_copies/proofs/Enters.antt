@@ -1,27 +1,32 @@
 -- Entries all of whose parts were copied: what they name stands, and they enter as copies.
-use Rattle.std.proofs.Common.{◌≡◌, ◌++◌, List, Option, Some, slice_get}
+use Rattle.std.proofs.Common.{◌≡◌, ◌++◌, List, [], ◌∷◌, Option, Some, slice_get, refl, ap, sym, subst, ◌∙◌}
+use Rattle.std.specs.Option.{option_map}
 use Rattle.wac_model.specs.Text.{Text}
 use Rattle.wac_model.specs.CoreTree.{ModuleTree}
 use Rattle.wac_component.specs.Id.{Id}
 use Rattle.wac_component.specs.Collection.{Collection, DefinedContent, ResourceContent, AliasContent, FuncContent, UseContent, InterfaceContent, WorldContent}
-use Rattle.wac_component.specs.Key.{Key, Each, Stands, AllStand, defined_entry, resource_entry, func_entry, interface_entry, world_entry, module_entry, defined_key, resource_key, func_key, interface_key, world_key, module_key, defined_keys, func_keys, interface_keys, world_keys, alias_keys, optional_keys, named_keys, use_keys, item_keys}
+use Rattle.wac_component.specs.Key.{Key, Each, Stands, AllStand, defined_entry, resource_entry, func_entry, interface_entry, world_entry, module_entry, defined_key, resource_key, func_key, interface_key, world_key, module_key, defined_keys, func_keys, interface_keys, world_keys, alias_keys, optional_keys, named_keys, use_keys, item_keys, entry_at, other_keys, value_keys}
 use Rattle.wac_component.specs.Sound.{IsSound}
 use Rattle.wac_component.specs.Tree.{root_name}
 use Rattle.wac_component.specs.declared.items.ItemKind.{ItemKind}
+use Rattle.wac_component.specs.Open.{open_next}
 use Rattle.wac_component.proofs.Keys.{Each-append}
+use Rattle.wac_component.proofs.Lists.{slice_get-map}
+use Rattle.wac_component.proofs.Reading.{defined_at, resource_at, func_at}
 use Rattle.wac_names.specs.Class.{class_of}
-use Rattle.wac_narrowing.specs.Apart.{IsApart}
 use Rattle.wac_narrowing.specs.Entering.{AddsCopy, InterfaceIsCopied, WorldIsCopied}
 use Rattle.wac_narrowing.specs.Leaves.{same_func, same_defined, same_resource, same_module}
-use Rattle.wac_narrowing.specs.State.{State, IsNotedCopy, IsKept}
-use Rattle.wac_narrowing.specs.Taking.{AreMapped, IsCopiedItem}
+use Rattle.wac_narrowing.specs.State.{State, IsKept}
+use Rattle.wac_narrowing.specs.Taking.{AreMapped, none, one, IsCopiedItem, IsCopiedKey, AreCopiedKeys, no_keys, one_key}
+use Rattle.wac_narrowing.specs.Identified.{used_names}
 use Rattle.wac_narrowing.specs.Values.{IsCopiedValue, SameValue, IfAny, neither, both, AreFuncs, AreDefined}
 use Rattle.wac_narrowing.proofs.Entering.{copied_named, interface_copied, world_copied_named, world_copied}
 use Rattle.wac_narrowing.proofs.EnteringLeaves.{leaf_copied}
-use Rattle.wac_narrowing.proofs.Mapped.{mapped_keys}
-use Rattle.wac_narrowing.proofs.Values.{funcs_more, defined_more, each_func, each_defined}
-use Rattle.wac_copies.specs.Copies.{IsCopiedAlias, IsCopiedUse, IsNotedAs}
-use Rattle.wac_copies.proofs.CopyLemmas.{HasCopied}
+use Rattle.wac_narrowing.proofs.Mapped.{mapped_keys, paired_named, paired_each}
+use Rattle.wac_narrowing.proofs.Values.{funcs_more, func_parts, defined_more, defined_parts, each_func, each_defined}
+use Rattle.wac_reasons.specs.Split.{IsLow}
+use Rattle.wac_copies.specs.Copies.{IsCopiedAlias, IsCopiedUse}
+use Rattle.wac_copies.proofs.CopyLemmas.{HasCopied, copies_low}
 
 module _ (f : Collection) (s : State) where
   -- what is named stands
@@ -32,32 +37,37 @@ module _ (f : Collection) (s : State) where
   pub func_stands : (x z : FuncContent) → AreFuncs (IsCopiedValue f s) x z → AllStand s.own (func_keys z)
   func_stands x z h = each_func (IsCopiedValue f s) (Stands s.own) (λ v w c. c.stands) x z h
 
-  alias_each : (P : Key → Type 0) → ((a b : AliasContent) → IsCopiedAlias f s a b → Each P (alias_keys b)) → (x y : Option AliasContent) → IfAny (IsCopiedAlias f s) x y → Each P (optional_keys alias_keys y)
-  alias_each P h x y neither = tt
-  alias_each P h x y (both {x = a} {y = b} c) = h a b c
+  alias_parts : (x y : Option AliasContent) → IfAny (IsCopiedAlias f s) x y → AreCopiedKeys f s (optional_keys alias_keys x) (optional_keys alias_keys y)
+  alias_parts x y neither = no_keys
+  alias_parts x y (both c) = c.keys
 
   pub alias_stands : (x y : Option AliasContent) → IfAny (IsCopiedAlias f s) x y → AllStand s.own (optional_keys alias_keys y)
-  alias_stands x y h = alias_each (Stands s.own) (λ a b c. c.stand) x y h
+  alias_stands x y h = paired_each (IsCopiedKey f s) (Stands s.own) (λ i j k. k.copy.own_stands) (optional_keys alias_keys x) (optional_keys alias_keys y) (alias_parts x y h)
 
   alias_roots : (x y : Option AliasContent) → IfAny (IsCopiedAlias f s) x y → IfAny (λ a b. root_name s.own b.source ≡ root_name f a.source) x y
   alias_roots x y neither = neither
   alias_roots x y (both {x = a} {y = b} c) = both c.source
 
-  uses_each : (P : Key → Type 0) → ((p q : Id) → IsNotedAs f s (interface_key p) (interface_key q) → P (interface_key q)) → (us vs : List (Text × UseContent)) → AreMapped (IsCopiedUse f s) us vs → Each P (named_keys use_keys vs)
-  uses_each P h us vs m = mapped_keys (IsCopiedUse f s) use_keys P (λ u v c. (h u.interface v.interface c.interface, tt)) us vs m
+  uses_copied : (us vs : List (Text × UseContent)) → AreMapped (IsCopiedUse f s) us vs → AreCopiedKeys f s (named_keys use_keys us) (named_keys use_keys vs)
+  uses_copied us vs m = paired_named (IsCopiedKey f s) (IsCopiedUse f s) use_keys use_keys (λ u v c. one_key c.interface no_keys) us vs m
 
-  -- what copied items name was noted
-  pub items_noted : (xs ys : List (Text × ItemKind)) → AreMapped (IsCopiedItem f s) xs ys → Each (IsNotedCopy s) (named_keys item_keys ys)
-  items_noted xs ys m = mapped_keys (IsCopiedItem f s) item_keys (IsNotedCopy s) (λ x y c. c.noted) xs ys m
+  uses_named : (us vs : List (Text × UseContent)) → AreMapped (IsCopiedUse f s) us vs → used_names vs ≡ used_names us
+  uses_named us vs none = refl
+  uses_named us vs (one {n = n} {xs = ps} {ys = qs} h m) = ap (λ ns. n ∷ ns) (uses_named ps qs m)
+
+  -- what copied items name is low
+  pub items_low : (xs ys : List (Text × ItemKind)) → AreMapped (IsCopiedItem f s) xs ys → Each (IsLow s) (named_keys item_keys ys)
+  items_low xs ys m = mapped_keys (IsCopiedItem f s) item_keys (IsLow s) (λ x y c. copies_low f s (item_keys x) (item_keys y) c.keys) xs ys m
 
   module _ (sound : IsSound f) where
-    pub interface_is_copied : (p : Id) (x z : InterfaceContent) → Stands f (interface_key p) → slice_get f.interfaces p.index ≡ Some x → AreMapped (IsCopiedUse f s) x.uses z.uses → AreMapped (IsCopiedItem f s) x.exports z.exports → InterfaceIsCopied f s p x z
-    interface_is_copied p x z st at us es = record {
+    pub interface_is_copied : (p : Id) (x z : InterfaceContent) → Stands f (interface_key p) → slice_get f.interfaces p.index ≡ Some x → z.id ≡ x.id → AreMapped (IsCopiedUse f s) x.uses z.uses → AreMapped (IsCopiedItem f s) x.exports z.exports → InterfaceIsCopied f s p x z
+    interface_is_copied p x z st at identifier us es = record {
       sound = sound;
       stands = st;
       entry = at;
-      uses_stand = uses_each (Stands s.own) (λ p q c. c.own_stands) x.uses z.uses us;
-      uses_apart = uses_each (IsApart s.own s.shared) (λ p q c. c.apart) x.uses z.uses us;
+      identifier = identifier;
+      names = uses_named x.uses z.uses us;
+      uses = uses_copied x.uses z.uses us;
       exports = es;
     }
 
@@ -66,8 +76,8 @@ module _ (f : Collection) (s : State) where
       sound = sound;
       stands = st;
       entry = at;
-      uses_stand = uses_each (Stands s.own) (λ p q c. c.own_stands) x.uses z.uses us;
-      uses_apart = uses_each (IsApart s.own s.shared) (λ p q c. c.apart) x.uses z.uses us;
+      names = uses_named x.uses z.uses us;
+      uses = uses_copied x.uses z.uses us;
       imports = is;
       exports = es;
     }
@@ -78,48 +88,69 @@ module _ (f : Collection) (s : State) where
     pub world_stands : IsKept s → (p : Id) (x z : WorldContent) → WorldIsCopied f s p x z → AllStand s.own (world_keys z)
     world_stands kept p x z h = world_copied_named class_of f s kept p x z h
 
+    -- what a leaf names was copied, one by one
+
+    defined_next : (p : Id) (x z : DefinedContent) → slice_get f.defined p.index ≡ Some x → AreDefined (IsCopiedValue f s) x z → AreCopiedKeys f s (open_next f (defined_key p)) (defined_keys z)
+    defined_next p x z at h =
+        subst (λ (is : List Key). AreCopiedKeys f s is (defined_keys z)) (sym (ap (optional_keys other_keys) (defined_at f p x at)))
+        (defined_parts (IsCopiedValue f s) (IsCopiedKey f s) (λ v w c. c.keys) x z h)
+
+    func_next : (p : Id) (x z : FuncContent) → slice_get f.funcs p.index ≡ Some x → AreFuncs (IsCopiedValue f s) x z → AreCopiedKeys f s (open_next f (func_key p)) (func_keys z)
+    func_next p x z at h =
+        subst (λ (is : List Key). AreCopiedKeys f s is (func_keys z)) (sym (ap (optional_keys other_keys) (func_at f p x at)))
+        (func_parts (IsCopiedValue f s) (IsCopiedKey f s) (λ v w c. c.keys) x z h)
+
+    resource_next : (p : Id) (x z : ResourceContent) → slice_get f.resources p.index ≡ Some x → IfAny (IsCopiedAlias f s) x.alias z.alias → AreCopiedKeys f s (open_next f (resource_key p)) (optional_keys alias_keys z.alias)
+    resource_next p x z at h =
+        subst (λ (is : List Key). AreCopiedKeys f s is (optional_keys alias_keys z.alias)) (sym (ap (optional_keys other_keys) (resource_at f p x at))) (alias_parts x.alias z.alias h)
+
+    module_next : (p : Id) (x : ModuleTree) → slice_get f.modules p.index ≡ Some x → AreCopiedKeys f s (open_next f (module_key p)) []
+    module_next p x at =
+        let is : entry_at f (module_key p) ≡ Some (module_entry x) = slice_get-map module_entry f.modules p.index ∙ ap (option_map module_entry) at in
+        subst (λ (is : List Key). AreCopiedKeys f s is []) (sym (ap (optional_keys other_keys) is)) no_keys
+
     -- entries enter
 
     module _ (kept : IsKept s) (t : State) where
       pub defined_enters : (p : Id) (x z : DefinedContent) → Stands f (defined_key p) → slice_get f.defined p.index ≡ Some x → AreDefined (IsCopiedValue f s) x z → AddsCopy f s t (defined_key p) (defined_entry z) → HasCopied f s t (defined_key p) (defined_entry z)
       defined_enters p x z st at h adds = record {
         into = leaf_copied class_of f s kept sound (defined_key p) (defined_entry z) st (same_defined at (defined_more (IsCopiedValue f s) (SameValue f s.own) (λ v w c. c.same) x z h)) t
-            (defined_stands x z h) (each_defined (IsCopiedValue f s) (IsApart s.own s.shared) (λ v w c. c.apart) x z h) adds;
+            (defined_next p x z at h) adds;
         named = defined_stands x z h;
-        noted = each_defined (IsCopiedValue f s) (IsNotedCopy s) (λ v w c. c.noted) x z h;
+        low = each_defined (IsCopiedValue f s) (IsLow s) (λ v w c. copies_low f s (value_keys v) (value_keys w) c.keys) x z h;
       }
 
       pub func_enters : (p : Id) (x z : FuncContent) → Stands f (func_key p) → slice_get f.funcs p.index ≡ Some x → AreFuncs (IsCopiedValue f s) x z → AddsCopy f s t (func_key p) (func_entry z) → HasCopied f s t (func_key p) (func_entry z)
       func_enters p x z st at h adds = record {
         into = leaf_copied class_of f s kept sound (func_key p) (func_entry z) st (same_func at (funcs_more (IsCopiedValue f s) (SameValue f s.own) (λ v w c. c.same) x z h)) t
-            (func_stands x z h) (each_func (IsCopiedValue f s) (IsApart s.own s.shared) (λ v w c. c.apart) x z h) adds;
+            (func_next p x z at h) adds;
         named = func_stands x z h;
-        noted = each_func (IsCopiedValue f s) (IsNotedCopy s) (λ v w c. c.noted) x z h;
+        low = each_func (IsCopiedValue f s) (IsLow s) (λ v w c. copies_low f s (value_keys v) (value_keys w) c.keys) x z h;
       }
 
       pub resource_enters : (p : Id) (x z : ResourceContent) → Stands f (resource_key p) → slice_get f.resources p.index ≡ Some x → z.name ≡ x.name → IfAny (IsCopiedAlias f s) x.alias z.alias → AddsCopy f s t (resource_key p) (resource_entry z)
           → HasCopied f s t (resource_key p) (resource_entry z)
       resource_enters p x z st at name h adds = record {
         into = leaf_copied class_of f s kept sound (resource_key p) (resource_entry z) st (same_resource at (record { name = name; alias = alias_roots x.alias z.alias h })) t
-            (alias_stands x.alias z.alias h) (alias_each (IsApart s.own s.shared) (λ a b c. c.apart) x.alias z.alias h) adds;
+            (resource_next p x z at h) adds;
         named = alias_stands x.alias z.alias h;
-        noted = alias_each (IsNotedCopy s) (λ a b c. c.noted) x.alias z.alias h;
+        low = copies_low f s (optional_keys alias_keys x.alias) (optional_keys alias_keys z.alias) (alias_parts x.alias z.alias h);
       }
 
       pub module_enters : (p : Id) (x : ModuleTree) → Stands f (module_key p) → slice_get f.modules p.index ≡ Some x → AddsCopy f s t (module_key p) (module_entry x) → HasCopied f s t (module_key p) (module_entry x)
-      module_enters p x st at adds = record { into = leaf_copied class_of f s kept sound (module_key p) (module_entry x) st (same_module at) t tt tt adds; named = tt; noted = tt }
+      module_enters p x st at adds = record { into = leaf_copied class_of f s kept sound (module_key p) (module_entry x) st (same_module at) t (module_next p x at) adds; named = tt; low = tt }
 
-      pub interface_enters : (p : Id) (x z : InterfaceContent) → InterfaceIsCopied f s p x z → AreMapped (IsCopiedUse f s) x.uses z.uses → AddsCopy f s t (interface_key p) (interface_entry z) → HasCopied f s t (interface_key p) (interface_entry z)
-      interface_enters p x z h us adds = record {
+      pub interface_enters : (p : Id) (x z : InterfaceContent) → InterfaceIsCopied f s p x z → AddsCopy f s t (interface_key p) (interface_entry z) → HasCopied f s t (interface_key p) (interface_entry z)
+      interface_enters p x z h adds = record {
         into = interface_copied class_of f s kept p x z h t adds;
         named = interface_stands kept p x z h;
-        noted = Each-append (IsNotedCopy s) (named_keys use_keys z.uses) (named_keys item_keys z.exports) (uses_each (IsNotedCopy s) (λ p q c. (interface_key p, c.noted)) x.uses z.uses us) (items_noted x.exports z.exports h.exports);
+        low = Each-append (IsLow s) (named_keys use_keys z.uses) (named_keys item_keys z.exports) (copies_low f s (named_keys use_keys x.uses) (named_keys use_keys z.uses) h.uses) (items_low x.exports z.exports h.exports);
       }
 
-      pub world_enters : (p : Id) (x z : WorldContent) → WorldIsCopied f s p x z → AreMapped (IsCopiedUse f s) x.uses z.uses → AddsCopy f s t (world_key p) (world_entry z) → HasCopied f s t (world_key p) (world_entry z)
-      world_enters p x z h us adds = record {
+      pub world_enters : (p : Id) (x z : WorldContent) → WorldIsCopied f s p x z → AddsCopy f s t (world_key p) (world_entry z) → HasCopied f s t (world_key p) (world_entry z)
+      world_enters p x z h adds = record {
         into = world_copied class_of f s kept p x z h t adds;
         named = world_stands kept p x z h;
-        noted = Each-append (IsNotedCopy s) (named_keys use_keys z.uses ++ named_keys item_keys z.imports) (named_keys item_keys z.exports)
-            (Each-append (IsNotedCopy s) (named_keys use_keys z.uses) (named_keys item_keys z.imports) (uses_each (IsNotedCopy s) (λ p q c. (interface_key p, c.noted)) x.uses z.uses us) (items_noted x.imports z.imports h.imports)) (items_noted x.exports z.exports h.exports);
+        low = Each-append (IsLow s) (named_keys use_keys z.uses ++ named_keys item_keys z.imports) (named_keys item_keys z.exports)
+            (Each-append (IsLow s) (named_keys use_keys z.uses) (named_keys item_keys z.imports) (copies_low f s (named_keys use_keys x.uses) (named_keys use_keys z.uses) h.uses) (items_low x.imports z.imports h.imports)) (items_low x.exports z.exports h.exports);
       }

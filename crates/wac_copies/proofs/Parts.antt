@@ -4,81 +4,74 @@ use Rattle.wac_model.specs.Text.{Text}
 use Rattle.wac_model.specs.ItemTree.{Kind, item, type_item}
 use Rattle.wac_component.specs.Id.{Id}
 use Rattle.wac_component.specs.Collection.{Collection, AliasContent, UseContent}
-use Rattle.wac_component.specs.Key.{Key, Each, Stands, optional_keys, item_keys, defined_key, resource_key, interface_key}
+use Rattle.wac_component.specs.Key.{Key, optional_keys, item_keys, defined_key, resource_key, interface_key}
 use Rattle.wac_component.specs.Tree.{item_tree, value_tree, root_name}
 use Rattle.wac_component.specs.declared.items.ItemKind.{ItemKind}
 use Rattle.wac_component.specs.declared.items.ItemKind.TheVariants.{«Type» as OfType, Value}
 use Rattle.wac_component.specs.declared.items.Type.TheVariants.{Value as TypeValue}
 use Rattle.wac_component.specs.declared.items.ValueType.{ValueType}
 use Rattle.wac_component.specs.declared.items.ValueType.TheVariants.{Borrow, Own, Defined}
-use Rattle.wac_component.proofs.Keys.{Each-append}
 use Rattle.wac_merge.specs.Items.{entry_item}
-use Rattle.wac_narrowing.specs.Apart.{IsApart}
-use Rattle.wac_narrowing.specs.State.{State, IsNotedCopy, IsKept, Runs}
+use Rattle.wac_narrowing.specs.State.{State, IsKept, Runs}
 use Rattle.wac_names.specs.Class.{class_of}
-use Rattle.wac_narrowing.specs.Taking.{AreMapped, IsCopiedItem}
+use Rattle.wac_narrowing.specs.Taking.{AreMapped, IsCopiedItem, IsCopiedKey, AreCopiedKeys, no_keys, one_key}
 use Rattle.wac_narrowing.specs.Values.{IsCopiedValue, IfAny, neither, both}
-use Rattle.wac_narrowing.proofs.Mapped.{mapped_more, copied_item_still}
-use Rattle.wac_narrowing.proofs.Running.{IsCopy-Narrows}
+use Rattle.wac_narrowing.proofs.Mapped.{mapped_more, paired_append, copied_key_still, copied_item_still}
 use Rattle.wac_narrowing.proofs.Values.{any_more, copied_value_still}
-use Rattle.wac_copies.specs.Copies.{IsCopiedAlias, IsCopiedUse, IsNotedAs}
+use Rattle.wac_copies.specs.Copies.{IsCopiedAlias, IsCopiedUse}
 
 module _ (f : Collection) (t : State) where
   -- a copy as an item
-  pub item_of_copy : (k : Kind) (theirs own : Key) (x y : ItemKind) → item_keys y ≡ own ∷ [] → x ≡ entry_item k theirs → y ≡ entry_item k own → IsNotedAs f t theirs own → IsCopiedItem f t x y
-  item_of_copy k theirs own x y keys at_x at_y h = record {
-    stands = rw keys (h.own_stands, tt);
-    apart = rw keys (h.apart, tt);
-    noted = rw keys ((theirs, h.noted), tt);
-    same = ap (item_tree t.own) at_y ∙ h.same k ∙ sym (ap (item_tree f) at_x);
+  pub item_of_copy : (k : Kind) (theirs own : Key) (x y : ItemKind) → item_keys x ≡ theirs ∷ [] → item_keys y ≡ own ∷ [] → x ≡ entry_item k theirs → y ≡ entry_item k own → IsCopiedKey f t theirs own → IsCopiedItem f t x y
+  item_of_copy k theirs own x y from keys at_x at_y h = record {
+    stands = rw keys (h.copy.own_stands, tt);
+    apart = rw keys (h.copy.apart, tt);
+    keys = rw (from, keys) (one_key h no_keys);
+    same = ap (item_tree t.own) at_y ∙ h.copy.same k ∙ sym (ap (item_tree f) at_x);
   }
 
   -- a copied value as an item
   pub item_of_value : (v w : ValueType) → IsCopiedValue f t v w → IsCopiedItem f t (Value v) (Value w)
-  item_of_value v w h = record { stands = h.stands; apart = h.apart; noted = h.noted; same = rw h.same refl }
+  item_of_value v w h = record { stands = h.stands; apart = h.apart; keys = h.keys; same = rw h.same refl }
 
   pub type_of_value : (v w : ValueType) → IsCopiedValue f t v w → IsCopiedItem f t (OfType (TypeValue v)) (OfType (TypeValue w))
-  type_of_value v w h = record { stands = h.stands; apart = h.apart; noted = h.noted; same = rw h.same refl }
+  type_of_value v w h = record { stands = h.stands; apart = h.apart; keys = h.keys; same = rw h.same refl }
 
   -- the name at the root of a copied resource, and the tree of a copied defined type
-  pub same_root : (p q : Id) → IsNotedAs f t (resource_key p) (resource_key q) → root_name t.own q ≡ root_name f p
-  same_root p q h = let same = h.same type_item in cc
+  pub same_root : (p q : Id) → IsCopiedKey f t (resource_key p) (resource_key q) → root_name t.own q ≡ root_name f p
+  same_root p q h = let same = h.copy.same type_item in cc
 
-  same_defined : (p q : Id) → IsNotedAs f t (defined_key p) (defined_key q) → value_tree t.own (Defined q) ≡ value_tree f (Defined p)
-  same_defined p q h = let same = h.same item in cc
+  same_defined : (p q : Id) → IsCopiedKey f t (defined_key p) (defined_key q) → value_tree t.own (Defined q) ≡ value_tree f (Defined p)
+  same_defined p q h = let same = h.copy.same item in cc
 
   -- copies as values
-  pub borrow_of_copy : (p q : Id) → IsNotedAs f t (resource_key p) (resource_key q) → IsCopiedValue f t (Borrow p) (Borrow q)
-  borrow_of_copy p q h = record { stands = (h.own_stands, tt); apart = (h.apart, tt); noted = ((resource_key p, h.noted), tt); same = rw (same_root p q h) refl }
+  pub borrow_of_copy : (p q : Id) → IsCopiedKey f t (resource_key p) (resource_key q) → IsCopiedValue f t (Borrow p) (Borrow q)
+  borrow_of_copy p q h = record { stands = (h.copy.own_stands, tt); apart = (h.copy.apart, tt); keys = one_key h no_keys; same = rw (same_root p q h) refl }
 
-  pub own_of_copy : (p q : Id) → IsNotedAs f t (resource_key p) (resource_key q) → IsCopiedValue f t (Own p) (Own q)
-  own_of_copy p q h = record { stands = (h.own_stands, tt); apart = (h.apart, tt); noted = ((resource_key p, h.noted), tt); same = rw (same_root p q h) refl }
+  pub own_of_copy : (p q : Id) → IsCopiedKey f t (resource_key p) (resource_key q) → IsCopiedValue f t (Own p) (Own q)
+  own_of_copy p q h = record { stands = (h.copy.own_stands, tt); apart = (h.copy.apart, tt); keys = one_key h no_keys; same = rw (same_root p q h) refl }
 
-  pub defined_of_copy : (p q : Id) → IsNotedAs f t (defined_key p) (defined_key q) → IsCopiedValue f t (Defined p) (Defined q)
-  defined_of_copy p q h = record { stands = (h.own_stands, tt); apart = (h.apart, tt); noted = ((defined_key p, h.noted), tt); same = same_defined p q h }
+  pub defined_of_copy : (p q : Id) → IsCopiedKey f t (defined_key p) (defined_key q) → IsCopiedValue f t (Defined p) (Defined q)
+  defined_of_copy p q h = record { stands = (h.copy.own_stands, tt); apart = (h.copy.apart, tt); keys = one_key h no_keys; same = same_defined p q h }
 
   -- an alias of a copied owner, if there is one, and of a copied source
-  pub alias_of_copies : (a b : AliasContent) → IfAny (λ p q. IsNotedAs f t (interface_key p) (interface_key q)) a.owner b.owner → IsNotedAs f t (resource_key a.source) (resource_key b.source) → IsCopiedAlias f t a b
+  pub alias_of_copies : (a b : AliasContent) → IfAny (λ p q. IsCopiedKey f t (interface_key p) (interface_key q)) a.owner b.owner → IsCopiedKey f t (resource_key a.source) (resource_key b.source) → IsCopiedAlias f t a b
   alias_of_copies a b o h = record {
-    stand = Each-append (Stands t.own) (optional_keys (λ p. interface_key p ∷ []) b.owner) (resource_key b.source ∷ []) (owner_each (Stands t.own) (λ p q c. c.own_stands) a.owner b.owner o) (h.own_stands, tt);
-    apart = Each-append (IsApart t.own t.shared) (optional_keys (λ p. interface_key p ∷ []) b.owner) (resource_key b.source ∷ []) (owner_each (IsApart t.own t.shared) (λ p q c. c.apart) a.owner b.owner o) (h.apart, tt);
-    noted = Each-append (IsNotedCopy t) (optional_keys (λ p. interface_key p ∷ []) b.owner) (resource_key b.source ∷ []) (owner_each (IsNotedCopy t) (λ p q c. (interface_key p, c.noted)) a.owner b.owner o) ((resource_key a.source, h.noted), tt);
+    keys = paired_append (IsCopiedKey f t) (optional_keys (λ p. interface_key p ∷ []) a.owner) (optional_keys (λ p. interface_key p ∷ []) b.owner) (resource_key a.source ∷ []) (resource_key b.source ∷ []) (owner_keys a.owner b.owner o) (one_key h no_keys);
     source = same_root a.source b.source h;
   }
     where
-      owner_each : (P : Key → Type 0) → ((p q : Id) → IsNotedAs f t (interface_key p) (interface_key q) → P (interface_key q)) → (x y : Option Id)
-          → IfAny (λ p q. IsNotedAs f t (interface_key p) (interface_key q)) x y → Each P (optional_keys (λ p. interface_key p ∷ []) y)
-      owner_each P h x y neither = tt
-      owner_each P h x y (both {x = p} {y = q} c) = (h p q c, tt)
+      owner_keys : (x y : Option Id) → IfAny (λ p q. IsCopiedKey f t (interface_key p) (interface_key q)) x y
+          → AreCopiedKeys f t (optional_keys (λ p. interface_key p ∷ []) x) (optional_keys (λ p. interface_key p ∷ []) y)
+      owner_keys x y neither = no_keys
+      owner_keys x y (both c) = one_key c no_keys
 
 -- what was copied is so after every run
 module _ (f : Collection) (s t : State) (kept : IsKept s) (IsTrue : Collection → State → Type 0) (e : Collection) (run : Runs IsTrue e s t) where
-  pub copy_still : (theirs own : Key) → IsNotedAs f s theirs own → IsNotedAs f t theirs own
-  copy_still theirs own h =
-      let c = IsCopy-Narrows f s.own t.own s.shared t.shared theirs own (run.narrows kept) (record { sort = h.sort; theirs_stands = h.theirs_stands; own_stands = h.own_stands; apart = h.apart; same = h.same }) in
-      record { sort = c.sort; theirs_stands = c.theirs_stands; own_stands = c.own_stands; apart = c.apart; same = c.same; noted = run.copies theirs own h.noted }
+  pub copy_still : (theirs own : Key) → IsCopiedKey f s theirs own → IsCopiedKey f t theirs own
+  copy_still = copied_key_still class_of f s t kept IsTrue e run
 
-  pub owner_still : (x y : Option Id) → IfAny (λ p q. IsNotedAs f s (interface_key p) (interface_key q)) x y → IfAny (λ p q. IsNotedAs f t (interface_key p) (interface_key q)) x y
+  pub owner_still : (x y : Option Id) → IfAny (λ p q. IsCopiedKey f s (interface_key p) (interface_key q)) x y → IfAny (λ p q. IsCopiedKey f t (interface_key p) (interface_key q)) x y
   owner_still x y neither = neither
   owner_still x y (both {x = p} {y = q} h) = both (copy_still (interface_key p) (interface_key q) h)
 

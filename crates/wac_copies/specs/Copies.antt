@@ -1,15 +1,14 @@
 -- What copying does to the state of merging.
-use Rattle.std.specs.Prelude.{◌≡◌, ◌<◌, ℕ, Some, None}
+use Rattle.std.specs.Prelude.{◌≡◌, ◌<◌, ℕ, None}
 use Rattle.wac_component.specs.Collection.{Collection, AliasContent, UseContent}
 use Rattle.wac_component.specs.Growth.{Extends}
 use Rattle.wac_component.specs.Height.{height}
-use Rattle.wac_component.specs.Key.{Key, Each, Stands, AllStand, alias_keys, interface_key}
+use Rattle.wac_component.specs.Key.{Key, alias_keys, interface_key}
 use Rattle.wac_component.specs.Tree.{root_name}
 use Rattle.wac_names.specs.Class.{class_of}
-use Rattle.wac_narrowing.specs.Apart.{IsApart, AreApart}
 use Rattle.wac_narrowing.specs.Remembers.{RemembersTruly}
-use Rattle.wac_narrowing.specs.State.{State, IsNotedCopy, IsKept, Runs}
-use Rattle.wac_narrowing.specs.Taking.{SameTree}
+use Rattle.wac_narrowing.specs.State.{State, IsKept, Runs}
+use Rattle.wac_narrowing.specs.Taking.{IsCopiedKey, AreCopiedKeys}
 use Rattle.wac_reasons.specs.Split.{StaySplit}
 use Rattle.wac_copies.specs.Memo.{memo_of}
 use Rattle.wac_copies.specs.declared.memo.Memo.{Memo}
@@ -39,23 +38,12 @@ pub record Copies (f c : Collection) (m : Memo) (d : Collection) (n : Memo) (top
   pub runs : (s : State) → IsState f c m s → Runs (RemembersTruly class_of) f s (moved s d n) × Holds (moved s d n)
   pub splits : (s : State) → IsState f c m s → StaySplit s (moved s d n)
 
--- the own entry is a copy of the foreign one, and noted
-pub record IsNotedAs (f : Collection) (s : State) (theirs own : Key) : Type 0 where
-  pub sort : own.sort ≡ theirs.sort
-  pub theirs_stands : Stands f theirs
-  pub own_stands : Stands s.own own
-  pub apart : IsApart s.own s.shared own
-  pub same : SameTree f s.own theirs own
-  pub noted : s.copies theirs ≡ Some own
-
 -- the own alias names copies of what the foreign one names
 pub record IsCopiedAlias (f : Collection) (s : State) (a b : AliasContent) : Type 0 where
-  pub stand : AllStand s.own (alias_keys b)
-  pub apart : AreApart s.own s.shared (alias_keys b)
-  pub noted : Each (IsNotedCopy s) (alias_keys b)
+  pub keys : AreCopiedKeys f s (alias_keys a) (alias_keys b)
   pub source : root_name s.own b.source ≡ root_name f a.source
 
 -- the own use is of a copy, under the same name
 pub record IsCopiedUse (f : Collection) (s : State) (u v : UseContent) : Type 0 where
   pub name : v.name ≡ u.name
-  pub interface : IsNotedAs f s (interface_key u.interface) (interface_key v.interface)
+  pub interface : IsCopiedKey f s (interface_key u.interface) (interface_key v.interface)

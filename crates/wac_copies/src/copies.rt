@@ -7,9 +7,9 @@ ghost use Rattle.wac_component.specs.Content.{alias_content, defined_content, na
 ghost use Rattle.wac_component.specs.Height.{height, keys_height};
 ghost use Rattle.wac_component.specs.Key.{Stands, AllStand, item_keys, type_keys, value_keys, alias_keys, optional_keys, named_keys, use_keys, defined_keys, defined_key, resource_key, func_key, interface_key, world_key, module_key};
 ghost use Rattle.wac_component.specs.declared.items.ItemKind.TheVariants.{«Type» as OfType};
-ghost use Rattle.wac_narrowing.specs.Taking.{AreMapped, IsCopiedItem};
+ghost use Rattle.wac_narrowing.specs.Taking.{AreMapped, IsCopiedItem, IsCopiedKey};
 ghost use Rattle.wac_narrowing.specs.Values.{IsCopiedValue, AreListed, IfAny, AreDefined};
-ghost use Rattle.wac_copies.specs.Copies.{MayCopy, Copies, IsCopiedAlias, IsCopiedUse, IsNotedAs};
+ghost use Rattle.wac_copies.specs.Copies.{MayCopy, Copies, IsCopiedAlias, IsCopiedUse};
 
 use super::memo::Memo;
 use super::places::{
@@ -176,7 +176,7 @@ fn copy_defined(
 ) -> Result<DefinedTypeId, AllocError>
     requires source { Stands types.now (defined_key id) }
     requires state { MayCopy types.now own.old copies.old }
-    ensures { IfOk result (λ r. Copies types.now own.old copies.old own.new copies.new (height types.now (defined_key id)) (λ t. IsNotedAs types.now t (defined_key id) (defined_key r))) }
+    ensures { IfOk result (λ r. Copies types.now own.old copies.old own.new copies.new (height types.now (defined_key id)) (λ t. IsCopiedKey types.now t (defined_key id) (defined_key r))) }
 {
     if let Some(copy) = copies.defined(id) {
         return Ok(copy);
@@ -257,7 +257,7 @@ fn copy_func(
 ) -> Result<FuncTypeId, AllocError>
     requires source { Stands types.now (func_key id) }
     requires state { MayCopy types.now own.old copies.old }
-    ensures { IfOk result (λ r. Copies types.now own.old copies.old own.new copies.new (height types.now (func_key id)) (λ t. IsNotedAs types.now t (func_key id) (func_key r))) }
+    ensures { IfOk result (λ r. Copies types.now own.old copies.old own.new copies.new (height types.now (func_key id)) (λ t. IsCopiedKey types.now t (func_key id) (func_key r))) }
 {
     if let Some(copy) = copies.func(id) {
         return Ok(copy);
@@ -285,7 +285,7 @@ fn copy_resource(
 ) -> Result<ResourceId, AllocError>
     requires source { Stands types.now (resource_key id) }
     requires state { MayCopy types.now own.old copies.old }
-    ensures { IfOk result (λ r. Copies types.now own.old copies.old own.new copies.new (height types.now (resource_key id)) (λ t. IsNotedAs types.now t (resource_key id) (resource_key r))) }
+    ensures { IfOk result (λ r. Copies types.now own.old copies.old own.new copies.new (height types.now (resource_key id)) (λ t. IsCopiedKey types.now t (resource_key id) (resource_key r))) }
 {
     if let Some(copy) = copies.resource(id) {
         return Ok(copy);
@@ -344,7 +344,7 @@ fn copy_owner(
 ) -> Result<Option<InterfaceId>, AllocError>
     requires source { AllStand types.now (optional_keys (λ o. interface_key o ∷ []) owner) }
     requires state { MayCopy types.now own.old copies.old }
-    ensures { IfOk result (λ r. Copies types.now own.old copies.old own.new copies.new (keys_height types.now (optional_keys (λ o. interface_key o ∷ []) owner)) (λ t. IfAny (λ a b. IsNotedAs types.now t (interface_key a) (interface_key b)) owner r)) }
+    ensures { IfOk result (λ r. Copies types.now own.old copies.old own.new copies.new (keys_height types.now (optional_keys (λ o. interface_key o ∷ []) owner)) (λ t. IfAny (λ a b. IsCopiedKey types.now t (interface_key a) (interface_key b)) owner r)) }
 {
     match owner {
         Some(owner) => Ok(Some(copy_interface(own, copies, types, owner)?)),
@@ -362,7 +362,7 @@ fn copy_interface(
 ) -> Result<InterfaceId, AllocError>
     requires source { Stands types.now (interface_key id) }
     requires state { MayCopy types.now own.old copies.old }
-    ensures { IfOk result (λ r. Copies types.now own.old copies.old own.new copies.new (height types.now (interface_key id)) (λ t. IsNotedAs types.now t (interface_key id) (interface_key r))) }
+    ensures { IfOk result (λ r. Copies types.now own.old copies.old own.new copies.new (height types.now (interface_key id)) (λ t. IsCopiedKey types.now t (interface_key id) (interface_key r))) }
 {
     if let Some(copy) = copies.interface(id) {
         return Ok(copy);
@@ -433,7 +433,7 @@ fn copy_world(
 ) -> Result<WorldId, AllocError>
     requires source { Stands types.now (world_key id) }
     requires state { MayCopy types.now own.old copies.old }
-    ensures { IfOk result (λ r. Copies types.now own.old copies.old own.new copies.new (height types.now (world_key id)) (λ t. IsNotedAs types.now t (world_key id) (world_key r))) }
+    ensures { IfOk result (λ r. Copies types.now own.old copies.old own.new copies.new (height types.now (world_key id)) (λ t. IsCopiedKey types.now t (world_key id) (world_key r))) }
 {
     if let Some(copy) = copies.world(id) {
         return Ok(copy);
@@ -463,7 +463,7 @@ fn copy_module(
 ) -> Result<ModuleTypeId, AllocError>
     requires source { Stands types.now (module_key id) }
     requires state { MayCopy types.now own.old copies.old }
-    ensures { IfOk result (λ r. Copies types.now own.old copies.old own.new copies.new (height types.now (module_key id)) (λ t. IsNotedAs types.now t (module_key id) (module_key r))) }
+    ensures { IfOk result (λ r. Copies types.now own.old copies.old own.new copies.new (height types.now (module_key id)) (λ t. IsCopiedKey types.now t (module_key id) (module_key r))) }
 {
     if let Some(copy) = copies.module(id) {
         return Ok(copy);

@@ -36,7 +36,7 @@ pub parts_covered : (c : Collection) (ss : List Key) (k : Key) → IsCovered c s
 parts_covered c ss k h = each_among (IsCovered c ss) (open_next c k) (λ j m t n w is. h t n (walk.step m w) is)
 
 pub Narrows-refl : (c : Collection) (ss : List Key) → Narrows c ss c ss
-Narrows-refl c ss = record { number = refl; standing = λ k st. st; fits = λ x st. Fits-refl (item_tree c x); apart = λ k st h. h; same = λ x st h. refl }
+Narrows-refl c ss = record { number = refl; standing = λ k st. st; entries = λ k st other. refl; shares = λ t m. inl m; fits = λ x st. Fits-refl (item_tree c x); apart = λ k st h. h; same = λ x st h. refl }
 
 pub Narrows-all_stand : (c d : Collection) (ss ts : List Key) → Narrows c ss d ts → (ks : List Key) → AllStand c ks → AllStand d ks
 Narrows-all_stand c d ss ts n = Each-map (Stands c) (Stands d) n.standing
@@ -48,6 +48,8 @@ pub Narrows-trans : (c d e : Collection) (ss ts us : List Key) → Narrows c ss 
 Narrows-trans c d e ss ts us g h = record {
   number = h.number ∙ g.number;
   standing = λ k st. h.standing k (g.standing k st);
+  entries = λ k st other. h.entries k (g.standing k st) (λ m. elim (g.shares k m) [ inl n ↦ other n | inr none ↦ none st ]) ∙ g.entries k st other;
+  shares = λ t m. elim (h.shares t m) [ inl n ↦ g.shares t n | inr none ↦ inr (λ st. none (g.standing t st)) ];
   fits = λ x st. Fits-trans (item_tree e x) (item_tree d x) (item_tree c x) (h.fits x (Narrows-all_stand c d ss ts g (item_keys x) st)) (g.fits x st);
   apart = λ k st a. h.apart k (g.standing k st) (g.apart k st a);
   same = λ x st a. h.same x (Narrows-all_stand c d ss ts g (item_keys x) st) (Narrows-all_apart c d ss ts g (item_keys x) st a) ∙ g.same x st a;
@@ -103,6 +105,8 @@ module _ (c d : Collection) (s : IsSound c) (x : Extends c d) where
     Narrows-Extends = record {
       number = x.number;
       standing = x.standing;
+      entries = λ k st other. x.same_entry k st;
+      shares = new;
       fits = λ y st. fits_if_same (item_tree d y) (item_tree c y) (x.trees y st);
       apart = apart_kept;
       same = λ y st h. x.trees y st;

@@ -5,7 +5,7 @@ use Rattle.std.specs.Option.{option_map_or}
 use Rattle.wac_model.specs.Text.{Text}
 use Rattle.wac_model.specs.Order.{Fits}
 use Rattle.wac_component.specs.Id.{Id}
-use Rattle.wac_component.specs.Collection.{Collection, InterfaceContent, WorldContent}
+use Rattle.wac_component.specs.Collection.{Collection, UseContent, InterfaceContent, WorldContent}
 use Rattle.wac_component.specs.Growth.{with_entry}
 use Rattle.wac_component.specs.Key.{Key, Entry, interface_entry, world_entry, entry_keys, other_keys, optional_keys, import_keys, interface_key, interface_keys, world_key, use_keys, item_keys, named_keys, Each, Stands, AllStand}
 use Rattle.wac_component.specs.Replacing.{NamesReach}
@@ -26,15 +26,15 @@ use Rattle.wac_narrowing.specs.Narrows.{IsStep, AddsShared, CanGrow, grown}
 use Rattle.wac_narrowing.specs.Standing.{StandsFor, IsCopy}
 use Rattle.wac_narrowing.specs.State.{State, Memo, AddsPair, IsKept, Runs}
 use Rattle.wac_narrowing.specs.Remembers.{IsRememberedAs, RemembersTruly}
-use Rattle.wac_narrowing.specs.Taking.{SameTree, IsClosedIn, AreTakenKeys, IsTakenItem, IsCopiedItem, AreMapped}
+use Rattle.wac_narrowing.specs.Taking.{SameTree, IsClosedIn, AreTakenKeys, IsCopiedKey, AreCopiedKeys, IsTakenItem, IsCopiedItem, AreMapped}
 use Rattle.wac_narrowing.specs.Last.{last_key}
-use Rattle.wac_narrowing.specs.Entering.{IsEntered, IsCopiedInto, AddsEntry, AddsCopy, MayEnter, InterfaceIsTaken, WorldIsTaken, InterfaceIsCopied, WorldIsCopied}
+use Rattle.wac_narrowing.specs.Entering.{IsEntered, IsCopiedInto, AddsEntry, AddsCopy, MayEnter, MayBeCopy, InterfaceIsTaken, WorldIsTaken, InterfaceIsCopied, WorldIsCopied}
 use Rattle.wac_narrowing.proofs.Adding.{last_at, added_apart, added_covered, shared_covered, fits_if_same}
-use Rattle.wac_narrowing.proofs.Mapped.{AreServed-trans, served_names_still, mapped_more, mapped_keys, mapped_served, mapped_asked, mapped_same, mapped_quiet, taken_item_still, copied_item_still, taken_named, taken_append, taken_each, taken_of, plain_taken, closed_by_taken, closed_by_parts}
-use Rattle.wac_narrowing.proofs.Remembered.{shared_remembered, RemembersTruly-step, RemembersTruly-take, RemembersTruly-copy}
+use Rattle.wac_narrowing.proofs.Mapped.{AreServed-trans, served_names_still, mapped_more, mapped_keys, mapped_served, mapped_asked, mapped_same, mapped_quiet, paired_append, paired_named, paired_each, paired_at, taken_item_still, copied_item_still, taken_named, taken_append, taken_each, taken_of, plain_taken, closed_by_taken, closed_by_parts}
+use Rattle.wac_narrowing.proofs.Remembered.{shared_remembered, names_kept, RemembersTruly-step, RemembersTruly-take, RemembersTruly-copy}
 use Rattle.wac_narrowing.proofs.Running.{Runs-step, Runs-take, Runs-copy, Runs-trans, changed_taken, changed_copies}
 use Rattle.wac_narrowing.proofs.Steps.{adding_steps, sharing_steps, growing_steps}
-use Rattle.wac_narrowing.proofs.Taking.{interface_stands_for, world_stands_for, same_interface, same_world, copy_of}
+use Rattle.wac_narrowing.proofs.Taking.{interface_stands_for, world_stands_for, same_interface, same_world}
 
 module _ {T : Type 0} (track : Text → T) (f : Collection) (s : State) (kept : IsKept s) where
   -- the own collection changes, and then a pair is remembered
@@ -84,9 +84,8 @@ module _ {T : Type 0} (track : Text → T) (f : Collection) (s : State) (kept : 
       steps = growing_steps s.own s.shared e old new kept.good can none
 
   -- a copy
-  pub copy_enters : (t : State) (theirs : Key) (z : Entry) → AddsCopy f s t theirs z → (last_key s.own z).sort ≡ theirs.sort → Stands f theirs → AllStand s.own (entry_keys z) → AreApart s.own s.shared (entry_keys z) → SameTree f (with_entry s.own z) theirs (last_key s.own z)
-      → IsCopiedInto track f s t theirs (last_key s.own z)
-  copy_enters t theirs z adds sort st named apart same =
+  pub copy_enters : (t : State) (theirs : Key) (z : Entry) → MayBeCopy f s theirs z → AddsCopy f s t theirs z → IsCopiedInto track f s t theirs (last_key s.own z)
+  copy_enters t theirs z may adds =
       changed_copies (λ x. IsCopiedInto track f s x theirs (last_key s.own z)) u t adds.own adds.shared adds.imports adds.taken record {
         run = Runs-trans (RemembersTruly track) f s u (record u { copies = t.copies }) first then;
         copy = copied;
@@ -96,13 +95,21 @@ module _ {T : Type 0} (track : Text → T) (f : Collection) (s : State) (kept : 
       u = record s { own = with_entry s.own z }
 
       imports_apart : AreApart s.own s.shared (import_keys z)
-      imports_apart = each_among (IsApart s.own s.shared) (import_keys z) (λ j m. among_each (IsApart s.own s.shared) j (entry_keys z) ((imports-apart z j).1 (inl m)) apart)
+      imports_apart = each_among (IsApart s.own s.shared) (import_keys z) (λ j m. among_each (IsApart s.own s.shared) j (entry_keys z) ((imports-apart z j).1 (inl m)) may.apart)
 
       steps : IsStep s.own s.shared (with_entry s.own z) s.shared
-      steps = adding_steps s.own s.shared z kept.good named imports_apart
+      steps = adding_steps s.own s.shared z kept.good may.named imports_apart
 
       copied : IsCopy f (with_entry s.own z) s.shared theirs (last_key s.own z)
-      copied = copy_of f (with_entry s.own z) s.shared theirs (last_key s.own z) sort st (last_at s.own z).stands (added_apart s.own s.shared z (last_key s.own z) (last_at s.own z) kept.good named apart) same
+      copied = record {
+        sort = may.sort;
+        theirs_stands = may.stands;
+        own_stands = (last_at s.own z).stands;
+        apart = added_apart s.own s.shared z (last_key s.own z) (last_at s.own z) kept.good may.named may.apart;
+        same = may.same;
+        names = names_kept f s.own (with_entry s.own z) s.shared theirs (last_key s.own z) z kept.good.sound (Extends-with_entry s.own z kept.good.sound) (last_at s.own z).at may.identifier may.names
+            (λ j m. let r = paired_at (IsCopiedKey f s) (open_next f theirs) (other_keys z) j may.parts m in (r.0, r.1, r.2.copy));
+      }
 
       first : Runs (RemembersTruly track) f s u
       first = Runs-step (RemembersTruly track) f s (with_entry s.own z) s.shared (λ h. steps) (λ h g k. RemembersTruly-step track g s (with_entry s.own z) s.shared steps.narrows steps.stops k)
@@ -278,12 +285,28 @@ module _ {T : Type 0} (track : Text → T) (f : Collection) (s : State) (kept : 
           quiet = world_quiet;
         }
 
+  -- copies stand, apart
+  pub copied_each : (P : Key → Type 0) → ((i j : Key) → IsCopiedKey f s i j → P j) → (is js : List Key) → AreCopiedKeys f s is js → Each P js
+  copied_each = paired_each (IsCopiedKey f s)
+
+  -- those of what is used, and those of named items
+  copied_parts : (us vs : List (Text × UseContent)) (xs ys : List (Text × ItemKind)) → AreCopiedKeys f s (named_keys use_keys us) (named_keys use_keys vs) → AreMapped (IsCopiedItem f s) xs ys
+      → AreCopiedKeys f s (named_keys use_keys us ++ named_keys item_keys xs) (named_keys use_keys vs ++ named_keys item_keys ys)
+  copied_parts us vs xs ys h m =
+      paired_append (IsCopiedKey f s) (named_keys use_keys us) (named_keys use_keys vs) (named_keys item_keys xs) (named_keys item_keys ys) h
+      (paired_named (IsCopiedKey f s) (IsCopiedItem f s) item_keys item_keys (λ a b k. k.keys) xs ys m)
+
   module _ (p : Id) (x z : InterfaceContent) (h : InterfaceIsCopied f s p x z) where
+    copied_next : AreCopiedKeys f s (open_next f (interface_key p)) (interface_keys z)
+    copied_next =
+        subst (λ (is : List Key). AreCopiedKeys f s is (interface_keys z)) (sym (ap (optional_keys other_keys) (interface_at f p x h.entry)))
+        (copied_parts x.uses z.uses x.exports z.exports h.uses h.exports)
+
     pub copied_named : AllStand s.own (interface_keys z)
-    copied_named = Each-append (Stands s.own) (named_keys use_keys z.uses) (named_keys item_keys z.exports) h.uses_stand (mapped_keys (IsCopiedItem f s) item_keys (Stands s.own) (λ a b k. k.stands) x.exports z.exports h.exports)
+    copied_named = copied_each (Stands s.own) (λ i j k. k.copy.own_stands) (open_next f (interface_key p)) (interface_keys z) copied_next
 
     copied_apart : AreApart s.own s.shared (interface_keys z)
-    copied_apart = Each-append (IsApart s.own s.shared) (named_keys use_keys z.uses) (named_keys item_keys z.exports) h.uses_apart (mapped_keys (IsCopiedItem f s) item_keys (IsApart s.own s.shared) (λ a b k. k.apart) x.exports z.exports h.exports)
+    copied_apart = copied_each (IsApart s.own s.shared) (λ i j k. k.copy.apart) (open_next f (interface_key p)) (interface_keys z) copied_next
 
     w : State
     w = record s { own = with_entry s.own (interface_entry z) }
@@ -299,7 +322,19 @@ module _ {T : Type 0} (track : Text → T) (f : Collection) (s : State) (kept : 
         (mapped_same f w.own x.exports z.exports (mapped_more (IsCopiedItem f w) (λ a b. item_tree w.own b ≡ item_tree f a) (λ a b k. k.same) x.exports z.exports copied_exports))
 
     pub interface_copied : (t : State) → AddsCopy f s t (interface_key p) (interface_entry z) → IsCopiedInto track f s t (interface_key p) (last_key s.own (interface_entry z))
-    interface_copied t adds = copy_enters t (interface_key p) (interface_entry z) adds refl h.stands copied_named copied_apart copied_same
+    interface_copied t adds = copy_enters t (interface_key p) (interface_entry z) may adds
+      where
+        may : MayBeCopy f s (interface_key p) (interface_entry z)
+        may = record {
+          sort = refl;
+          stands = h.stands;
+          identifier = h.identifier ∙ sym (ap (λ o. option_map_or entry_identifier o None) (interface_at f p x h.entry));
+          names = h.names ∙ sym (ap (λ o. option_map_or use_names o []) (interface_at f p x h.entry));
+          named = copied_named;
+          apart = copied_apart;
+          parts = copied_next;
+          same = copied_same;
+        }
 
   module _ (p : Id) (x z : WorldContent) (h : WorldIsCopied f s p x z) where
     world_each : (P : Key → Type 0) → Each P (named_keys use_keys z.uses) → Each P (named_keys item_keys z.imports) → Each P (named_keys item_keys z.exports) → Each P (entry_keys (world_entry z))
@@ -309,14 +344,14 @@ module _ {T : Type 0} (track : Text → T) (f : Collection) (s : State) (kept : 
 
     pub world_copied_named : AllStand s.own (entry_keys (world_entry z))
     world_copied_named =
-        world_each (Stands s.own) h.uses_stand (mapped_keys (IsCopiedItem f s) item_keys (Stands s.own) (λ a b k. k.stands) x.imports z.imports h.imports)
+        world_each (Stands s.own) (copied_each (Stands s.own) (λ i j k. k.copy.own_stands) (named_keys use_keys x.uses) (named_keys use_keys z.uses) h.uses) (mapped_keys (IsCopiedItem f s) item_keys (Stands s.own) (λ a b k. k.stands) x.imports z.imports h.imports)
         (mapped_keys (IsCopiedItem f s) item_keys (Stands s.own) (λ a b k. k.stands) x.exports z.exports h.exports)
 
     imports_copied_apart : AreApart s.own s.shared (named_keys item_keys z.imports)
     imports_copied_apart = mapped_keys (IsCopiedItem f s) item_keys (IsApart s.own s.shared) (λ a b k. k.apart) x.imports z.imports h.imports
 
     world_copied_apart : AreApart s.own s.shared (entry_keys (world_entry z))
-    world_copied_apart = world_each (IsApart s.own s.shared) h.uses_apart imports_copied_apart (mapped_keys (IsCopiedItem f s) item_keys (IsApart s.own s.shared) (λ a b k. k.apart) x.exports z.exports h.exports)
+    world_copied_apart = world_each (IsApart s.own s.shared) (copied_each (IsApart s.own s.shared) (λ i j k. k.copy.apart) (named_keys use_keys x.uses) (named_keys use_keys z.uses) h.uses) imports_copied_apart (mapped_keys (IsCopiedItem f s) item_keys (IsApart s.own s.shared) (λ a b k. k.apart) x.exports z.exports h.exports)
 
     y : State
     y = record s { own = with_entry s.own (world_entry z) }
@@ -336,4 +371,16 @@ module _ {T : Type 0} (track : Text → T) (f : Collection) (s : State) (kept : 
         (world_copied_items x.imports z.imports h.imports) (world_copied_items x.exports z.exports h.exports)
 
     pub world_copied : (t : State) → AddsCopy f s t (world_key p) (world_entry z) → IsCopiedInto track f s t (world_key p) (last_key s.own (world_entry z))
-    world_copied t adds = copy_enters t (world_key p) (world_entry z) adds refl h.stands world_copied_named world_copied_apart world_copied_same
+    world_copied t adds = copy_enters t (world_key p) (world_entry z) may adds
+      where
+        may : MayBeCopy f s (world_key p) (world_entry z)
+        may = record {
+          sort = refl;
+          stands = h.stands;
+          identifier = sym (ap (λ o. option_map_or entry_identifier o None) (world_at f p x h.entry));
+          names = h.names ∙ sym (ap (λ o. option_map_or use_names o []) (world_at f p x h.entry));
+          named = world_copied_named;
+          apart = world_copied_apart;
+          parts = subst (λ (is : List Key). AreCopiedKeys f s is (other_keys (world_entry z))) (sym (ap (optional_keys other_keys) (world_at f p x h.entry))) (copied_parts x.uses z.uses x.exports z.exports h.uses h.exports);
+          same = world_copied_same;
+        }

@@ -16,15 +16,15 @@ use Rattle.wac_component.proofs.Reading.{defined_at, resource_at, func_at}
 use Rattle.wac_component.proofs.Trees.{value_tree-entry, root_name-entry, func_tree-entry, module_tree-entry}
 use Rattle.wac_component.proofs.Among.{among_each, each_among}
 use Rattle.wac_narrowing.specs.Identified.{use_names, use_names_at}
-use Rattle.wac_narrowing.specs.Apart.{AreApart}
-use Rattle.wac_narrowing.specs.Entering.{IsEntered, IsCopiedInto, AddsEntry, AddsCopy, MayEnter}
+use Rattle.wac_narrowing.specs.Apart.{IsApart, AreApart}
+use Rattle.wac_narrowing.specs.Entering.{IsEntered, IsCopiedInto, AddsEntry, AddsCopy, MayEnter, MayBeCopy}
 use Rattle.wac_narrowing.specs.Last.{last_key}
 use Rattle.wac_narrowing.specs.Leaves.{SaysSame}
 use Rattle.wac_narrowing.specs.Leaves as says
 use Rattle.wac_narrowing.specs.State.{State, IsKept}
-use Rattle.wac_narrowing.specs.Taking.{SameTree, AreTakenKeys}
+use Rattle.wac_narrowing.specs.Taking.{SameTree, AreTakenKeys, AreCopiedKeys}
 use Rattle.wac_narrowing.proofs.Adding.{last_at}
-use Rattle.wac_narrowing.proofs.Entering.{plain_enters, copy_enters}
+use Rattle.wac_narrowing.proofs.Entering.{plain_enters, copy_enters, copied_each}
 use Rattle.wac_narrowing.proofs.Mapped.{taken_each}
 use Rattle.wac_narrowing.proofs.Taking.{stands_for_same, same_value, same_resource, same_func, same_module}
 use Rattle.wac_narrowing.proofs.Values.{funcs_same, defined_same, resources_same}
@@ -96,5 +96,20 @@ module _ {T : Type 0} (track : Text → T) (f : Collection) (s : State) (kept : 
         quiet = λ q. tree;
       }
 
-  pub leaf_copied : (t : State) → AllStand s.own (entry_keys z) → AreApart s.own s.shared (entry_keys z) → AddsCopy f s t theirs z → IsCopiedInto track f s t theirs (last_key s.own z)
-  leaf_copied t named apart adds = copy_enters track f s kept t theirs z adds leaf.sort st named apart (says_same f s.own sound kept.good.sound theirs z st named same_as)
+  pub leaf_copied : (t : State) → AreCopiedKeys f s (open_next f theirs) (other_keys z) → AddsCopy f s t theirs z → IsCopiedInto track f s t theirs (last_key s.own z)
+  leaf_copied t parts adds = copy_enters track f s kept t theirs z may adds
+    where
+      named : AllStand s.own (entry_keys z)
+      named = all_open (Stands s.own) (copied_each track f s kept (Stands s.own) (λ i j k. k.copy.own_stands) (open_next f theirs) (other_keys z) parts)
+
+      may : MayBeCopy f s theirs z
+      may = record {
+        sort = leaf.sort;
+        stands = st;
+        identifier = leaf.plain ∙ sym leaf.theirs_plain;
+        names = leaf.names;
+        named = named;
+        apart = all_open (IsApart s.own s.shared) (copied_each track f s kept (IsApart s.own s.shared) (λ i j k. k.copy.apart) (open_next f theirs) (other_keys z) parts);
+        parts = parts;
+        same = says_same f s.own sound kept.good.sound theirs z st named same_as;
+      }

@@ -250,4 +250,12 @@ module _ (c : Collection) (ss : List Key) (e : Id) (old new : InterfaceContent) 
   grown_fits x st = fit_below (suc (keys_height c (item_keys x))) x st (omega arith)
 
   pub grown_narrows : Narrows c ss (grown c e new) ss
-  grown_narrows = record { number = refl; standing = replaces.standing; fits = grown_fits; apart = apart_on; same = apart_unchanged }
+  grown_narrows = record {
+    number = refl;
+    standing = replaces.standing;
+    entries = λ k st other. entry_other k st (λ same. other (subst (λ (x : Key). IsAmong x ss) (sym same) can.is_shared));
+    shares = λ t m. inl m;
+    fits = grown_fits;
+    apart = apart_on;
+    same = apart_unchanged;
+  }

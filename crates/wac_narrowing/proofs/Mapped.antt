@@ -23,10 +23,11 @@ use Rattle.wac_narrowing.specs.Identified.{use_names, use_names_at, IsUnstopped,
 use Rattle.wac_narrowing.specs.Narrows.{Narrows}
 use Rattle.wac_narrowing.specs.Remembers.{IsRememberedAs, RemembersTruly}
 use Rattle.wac_narrowing.specs.Standing.{StandsFor}
-use Rattle.wac_narrowing.specs.State.{State, Memo, IsNotedCopy, IsKept, Runs}
-use Rattle.wac_narrowing.specs.Taking.{IsClosedIn, IsTakenKey, AreTakenKeys, no_keys, one_key, IsTakenItem, IsCopiedItem, AreMapped, none, one}
+use Rattle.wac_narrowing.specs.State.{State, Memo, IsKept, Runs}
+use Rattle.wac_narrowing.specs.Taking.{IsClosedIn, IsTakenKey, IsCopiedKey, ArePaired, AreTakenKeys, AreCopiedKeys, no_keys, one_key, IsTakenItem, IsCopiedItem, AreMapped, none, one}
 use Rattle.wac_narrowing.proofs.Adding.{Narrows-all_stand, Narrows-all_apart}
 use Rattle.wac_narrowing.proofs.Remembered.{IsRememberedAs-step, quiet_unstopped, plain_remembered}
+use Rattle.wac_narrowing.proofs.Running.{IsCopy-step}
 
 module _ {V W : Type 0} where
   pub mapped_more : (R Q : V → W → Type 0) → ((x : V) (y : W) → R x y → Q x y) → (xs : List (Text × V)) (ys : List (Text × W)) → AreMapped R xs ys → AreMapped Q xs ys
@@ -47,10 +48,41 @@ quiet_keys : {T : Type 0} (track : Text → T) (f : Collection) (s : State) (is 
 quiet_keys track f s is js no_keys q = tt
 quiet_keys track f s is js (one_key {i = i} {j = j} {is = ps} {js = bs} h m) q = (quiet_unstopped track f s.own s.shared i j h.remembered q.0, quiet_keys track f s ps bs m q.1)
 
--- what was noted as a copy is so still
-pub noted_still : (s t : State) → ((theirs own : Key) → s.copies theirs ≡ Some own → t.copies theirs ≡ Some own) → (ks : List Key) → Each (IsNotedCopy s) ks → Each (IsNotedCopy t) ks
-noted_still s t kept [] h = tt
-noted_still s t kept (k ∷ ks) h = ((h.0.0, kept h.0.0 k h.0.1), noted_still s t kept ks h.1)
+-- ids that are paired one by one
+module _ (R : Key → Key → Type 0) where
+  pub paired_more : (Q : Key → Key → Type 0) → ((i j : Key) → R i j → Q i j) → (is js : List Key) → ArePaired R is js → ArePaired Q is js
+  paired_more Q f is js no_keys = no_keys
+  paired_more Q f is js (one_key {i = i} {j = j} {is = ps} {js = bs} h m) = one_key (f i j h) (paired_more Q f ps bs m)
+
+  pub paired_append : (is js ks ls : List Key) → ArePaired R is js → ArePaired R ks ls → ArePaired R (is ++ ks) (js ++ ls)
+  paired_append is js ks ls no_keys g = g
+  paired_append is js ks ls (one_key {is = ps} {js = bs} h m) g = one_key h (paired_append ps bs ks ls m g)
+
+  -- the ids in named values
+  pub paired_named : {V W : Type 0} (Q : V → W → Type 0) (a : V → List Key) (b : W → List Key) → ((x : V) (y : W) → Q x y → ArePaired R (a x) (b y)) → (xs : List (Text × V)) (ys : List (Text × W)) → AreMapped Q xs ys → ArePaired R (named_keys a xs) (named_keys b ys)
+  paired_named Q a b h xs ys none = no_keys
+  paired_named Q a b h xs ys (one {x = x} {y = y} {xs = us} {ys = vs} g m) = paired_append (a x) (b y) (named_keys a us) (named_keys b vs) (h x y g) (paired_named Q a b h us vs m)
+
+  pub paired_each : (P : Key → Type 0) → ((i j : Key) → R i j → P j) → (is js : List Key) → ArePaired R is js → Each P js
+  paired_each P h is js no_keys = tt
+  paired_each P h is js (one_key {i = i} {j = j} {is = ps} {js = bs} g m) = (h i j g, paired_each P h ps bs m)
+
+  -- what an id of the second list is paired with, and one of the first
+  pub paired_at : (is js : List Key) (j : Key) → ArePaired R is js → IsAmong j js → (i : Key) × IsAmong i is × R i j
+  paired_at is js j no_keys m = elim m [ ]
+  paired_at is js j (one_key {i = i} {j = k} {is = ps} {js = bs} h others) m = first j m h (paired_at ps bs j others)
+    where
+      first : (j : Key) → IsAmong j (k ∷ bs) → R i k → (IsAmong j bs → (a : Key) × IsAmong a ps × R a j) → (a : Key) × IsAmong a (i ∷ ps) × R a j
+      first _ here h later = (i, here, h)
+      first j (there n) h later = let r = later n in (r.0, there r.1, r.2)
+
+  pub paired_of : (is js : List Key) (i : Key) → ArePaired R is js → IsAmong i is → (j : Key) × IsAmong j js × R i j
+  paired_of is js i no_keys m = elim m [ ]
+  paired_of is js i (one_key {i = k} {j = j} {is = ps} {js = bs} h others) m = first i m h (paired_of ps bs i others)
+    where
+      first : (i : Key) → IsAmong i (k ∷ ps) → R k j → (IsAmong i ps → (b : Key) × IsAmong b bs × R i b) → (b : Key) × IsAmong b (j ∷ bs) × R i b
+      first _ here h later = (j, here, h)
+      first i (there n) h later = let r = later n in (r.0, there r.1, r.2)
 
 -- in every run
 module _ {T : Type 0} (track : Text → T) (f : Collection) (s t : State) (kept : IsKept s) (IsTrue : Collection → State → Type 0) (e : Collection) (run : Runs IsTrue e s t) where
@@ -66,8 +98,16 @@ module _ {T : Type 0} (track : Text → T) (f : Collection) (s t : State) (kept 
   }
 
   pub taken_keys_still : (is js : List Key) → AreTakenKeys track f s is js → AreTakenKeys track f t is js
-  taken_keys_still is js no_keys = no_keys
-  taken_keys_still is js (one_key {i = i} {j = j} {is = ps} {js = bs} h m) = one_key (taken_key_still i j h) (taken_keys_still ps bs m)
+  taken_keys_still = paired_more (IsTakenKey track f s) (IsTakenKey track f t) taken_key_still
+
+  pub copied_key_still : (theirs own : Key) → IsCopiedKey f s theirs own → IsCopiedKey f t theirs own
+  copied_key_still theirs own h = record {
+    copy = IsCopy-step f s.own t.own s.shared t.shared theirs own (run.narrows kept) (run.stops kept) h.copy;
+    noted = run.copies theirs own h.noted;
+  }
+
+  pub copied_keys_still : (is js : List Key) → AreCopiedKeys f s is js → AreCopiedKeys f t is js
+  copied_keys_still = paired_more (IsCopiedKey f s) (IsCopiedKey f t) copied_key_still
 
   pub taken_item_still : (x y : ItemKind) → IsTakenItem track f s x y → IsTakenItem track f t x y
   taken_item_still x y h = record {
@@ -81,7 +121,7 @@ module _ {T : Type 0} (track : Text → T) (f : Collection) (s t : State) (kept 
   copied_item_still x y h = record {
     stands = Narrows-all_stand s.own t.own s.shared t.shared (run.narrows kept) (item_keys y) h.stands;
     apart = Narrows-all_apart s.own t.own s.shared t.shared (run.narrows kept) (item_keys y) h.stands h.apart;
-    noted = noted_still s t run.copies (item_keys y) h.noted;
+    keys = copied_keys_still (item_keys x) (item_keys y) h.keys;
     same = (run.narrows kept).same y h.stands h.apart ∙ h.same;
   }
 
@@ -121,33 +161,20 @@ module _ {T : Type 0} (track : Text → T) (f : Collection) (s : State) where
 
   -- the ids of the one list, one by one with those of the other
   pub taken_at : (is js : List Key) (j : Key) → AreTakenKeys track f s is js → IsAmong j js → (i : Key) × IsAmong i is × IsTakenKey track f s i j
-  taken_at is js j no_keys m = elim m [ ]
-  taken_at is js j (one_key {i = i} {j = k} {is = ps} {js = bs} h others) m = first j m h (taken_at ps bs j others)
-    where
-      first : (j : Key) → IsAmong j (k ∷ bs) → IsTakenKey track f s i k → (IsAmong j bs → (a : Key) × IsAmong a ps × IsTakenKey track f s a j) → (a : Key) × IsAmong a (i ∷ ps) × IsTakenKey track f s a j
-      first _ here h later = (i, here, h)
-      first j (there n) h later = let r = later n in (r.0, there r.1, r.2)
+  taken_at = paired_at (IsTakenKey track f s)
 
   pub taken_of : (is js : List Key) (i : Key) → AreTakenKeys track f s is js → IsAmong i is → (j : Key) × IsAmong j js × IsTakenKey track f s i j
-  taken_of is js i no_keys m = elim m [ ]
-  taken_of is js i (one_key {i = k} {j = j} {is = ps} {js = bs} h others) m = first i m h (taken_of ps bs i others)
-    where
-      first : (i : Key) → IsAmong i (k ∷ ps) → IsTakenKey track f s k j → (IsAmong i ps → (b : Key) × IsAmong b bs × IsTakenKey track f s i b) → (b : Key) × IsAmong b (j ∷ bs) × IsTakenKey track f s i b
-      first _ here h later = (j, here, h)
-      first i (there n) h later = let r = later n in (r.0, there r.1, r.2)
+  taken_of = paired_of (IsTakenKey track f s)
 
   pub taken_append : (is js ks ls : List Key) → AreTakenKeys track f s is js → AreTakenKeys track f s ks ls → AreTakenKeys track f s (is ++ ks) (js ++ ls)
-  taken_append is js ks ls no_keys g = g
-  taken_append is js ks ls (one_key {is = ps} {js = bs} h m) g = one_key h (taken_append ps bs ks ls m g)
+  taken_append = paired_append (IsTakenKey track f s)
 
   -- the ids in named values that were taken in
   pub taken_named : {V W : Type 0} (R : V → W → Type 0) (a : V → List Key) (b : W → List Key) → ((x : V) (y : W) → R x y → AreTakenKeys track f s (a x) (b y)) → (xs : List (Text × V)) (ys : List (Text × W)) → AreMapped R xs ys → AreTakenKeys track f s (named_keys a xs) (named_keys b ys)
-  taken_named R a b h xs ys none = no_keys
-  taken_named R a b h xs ys (one {x = x} {y = y} {xs = us} {ys = vs} g m) = taken_append (a x) (b y) (named_keys a us) (named_keys b vs) (h x y g) (taken_named R a b h us vs m)
+  taken_named R a b h xs ys m = paired_named (IsTakenKey track f s) R a b h xs ys m
 
   pub taken_each : (P : Key → Type 0) → ((i j : Key) → IsTakenKey track f s i j → P j) → (is js : List Key) → AreTakenKeys track f s is js → Each P js
-  taken_each P h is js no_keys = tt
-  taken_each P h is js (one_key {i = i} {j = j} {is = ps} {js = bs} g m) = (h i j g, taken_each P h ps bs m)
+  taken_each = paired_each (IsTakenKey track f s)
 
   pub closed_by_taken : (theirs : Key) (js : List Key) → identifier_at f theirs ≡ None → AreTakenKeys track f s (open_next f theirs) js → IsClosedIn f s.taken theirs
   closed_by_taken theirs js plain parts =

@@ -18,9 +18,9 @@ use Rattle.wac_merge.proofs.ItemKeys.{each_entry_item}
 use Rattle.wac_narrowing.specs.Identified.{use_names, use_names_at, StopsAt, IsUnstopped, IsQuiet, OpenlyOn}
 use Rattle.wac_narrowing.specs.Narrows.{Narrows, KeepsStops}
 use Rattle.wac_narrowing.specs.Remembers.{IsSharedFor, IsRememberedAs, RemembersTruly}
-use Rattle.wac_narrowing.specs.Standing.{StandsFor, IsCopy}
+use Rattle.wac_narrowing.specs.Standing.{StandsFor, KeepsNames, IsCopy}
 use Rattle.wac_narrowing.specs.State.{State, Memo, AddsPair, IsOneWith}
-use Rattle.wac_narrowing.proofs.Running.{StandsFor-Narrows, IsCopy-Narrows, pair_or_before}
+use Rattle.wac_narrowing.proofs.Running.{StandsFor-Narrows, IsCopy-step, pair_or_before}
 use Rattle.wac_narrowing.proofs.Stopping.{stops_was, stops_first}
 use Rattle.wac_narrowing.proofs.Adding.{identifier_kept, open_next_kept, opens_was}
 
@@ -67,7 +67,7 @@ module _ {T : Type 0} (track : Text → T) where
   pub RemembersTruly-step : (g : Collection) (s : State) (d : Collection) (ts : List Key) → Narrows s.own s.shared d ts → KeepsStops s.own s.shared d ts → RemembersTruly track g s → RemembersTruly track g (record s { own = d; shared = ts })
   RemembersTruly-step g s d ts n k t = record {
     taken = λ theirs own p q. IsRememberedAs-step g s.own d s.shared ts theirs own n k (t.taken theirs own p q);
-    copies = λ theirs own p q. IsCopy-Narrows g s.own d s.shared ts theirs own n (t.copies theirs own p q);
+    copies = λ theirs own p q. IsCopy-step g s.own d s.shared ts theirs own n k (t.copies theirs own p q);
     closed = t.closed;
   }
 
@@ -120,18 +120,26 @@ module _ (f e : Collection) (s : IsSound f) (x : Extends f e) where
     fits = λ k. subst (λ (t : ItemTree). Fits (item_tree c (entry_item k own)) t) (sym (x.trees (entry_item k theirs) (each_entry_item (Stands f) k theirs h.theirs_stands))) (h.fits k);
   }
 
+  openly_on : {T : Type 0} (track : Text → T) (k : Key) (on : T) → Stands f k → OpenlyOn track f k on → OpenlyOn track e k on
+  openly_on track k on st h = record { at = h.at; name = h.name; walk = opens_on k h.at st h.walk; identified = identified_on k h.at h.name st h.walk h.identified; on_track = h.on_track }
+
   pub IsCopy-foreign : (c : Collection) (ss : List Key) (theirs own : Key) → IsCopy f c ss theirs own → IsCopy e c ss theirs own
-  IsCopy-foreign c ss theirs own h = record {
-    sort = h.sort;
-    theirs_stands = x.standing theirs h.theirs_stands;
-    own_stands = h.own_stands;
-    apart = h.apart;
-    same = λ k. h.same k ∙ sym (x.trees (entry_item k theirs) (each_entry_item (Stands f) k theirs h.theirs_stands));
-  }
+  IsCopy-foreign c ss theirs own h =
+      let st : Stands f theirs = h.theirs_stands in
+      record {
+        sort = h.sort;
+        theirs_stands = x.standing theirs st;
+        own_stands = h.own_stands;
+        apart = h.apart;
+        same = λ k. h.same k ∙ sym (x.trees (entry_item k theirs) (each_entry_item (Stands f) k theirs st));
+        names = record {
+          identifier = h.names.identifier ∙ sym (identifier_kept f e s x theirs st);
+          uses = h.names.uses ∙ sym (ap (λ o. option_map_or use_names o []) (x.same_entry theirs st));
+          stops = λ t n w. openly_on (λ (m : Text). m) theirs n st (h.names.stops t n w);
+        };
+      }
 
   module _ {T : Type 0} (track : Text → T) where
-    openly_on : (k : Key) (on : T) → Stands f k → OpenlyOn track f k on → OpenlyOn track e k on
-    openly_on k on st h = record { at = h.at; name = h.name; walk = opens_on k h.at st h.walk; identified = identified_on k h.at h.name st h.walk h.identified; on_track = h.on_track }
 
     pub IsRememberedAs-foreign : (c : Collection) (ss : List Key) (theirs own : Key) → IsRememberedAs track f c ss theirs own → IsRememberedAs track e c ss theirs own
     IsRememberedAs-foreign c ss theirs own h =
@@ -143,7 +151,7 @@ module _ (f e : Collection) (s : IsSound f) (x : Extends f e) where
           plain = λ is. let r = h.plain (sym (identifier_kept f e s x theirs st) ∙ is) in record {
             plain = r.plain;
             uses = r.uses ∙ sym (ap (λ o. option_map_or use_names o []) (x.same_entry theirs st));
-            stops = λ t n w. openly_on theirs (track n) st (r.stops t n w);
+            stops = λ t n w. openly_on track theirs (track n) st (r.stops t n w);
           };
         }
 
@@ -196,3 +204,24 @@ module _ {T : Type 0} (track : Text → T) where
         record { is_shared = shared; name = m; identified = own_is; on_track = same ∙ ap track (sym name) };
     plain = λ is. let both : None ≡ Some n = sym is ∙ theirs_is in absurd (cc);
   }
+
+-- an entry with the identifier of an id, which uses the same names, and whose parts are copies of
+-- parts of the id
+pub names_kept : (f c d : Collection) (ss : List Key) (theirs own : Key) (z : Entry) → IsSound c → Extends c d → entry_at d own ≡ Some z
+    → entry_identifier z ≡ identifier_at f theirs → use_names z ≡ use_names_at f theirs
+    → ((j : Key) → IsAmong j (other_keys z) → (i : Key) × IsAmong i (open_next f theirs) × IsCopy f c ss i j)
+    → KeepsNames f d theirs own
+names_kept f c d ss theirs own z sound x at identifier names parts = record {
+  identifier = same;
+  uses = ap (λ o. option_map_or use_names o []) at ∙ names;
+  stops = λ t n w. onward t n (stops_first d own t n w);
+}
+  where
+    same : identifier_at d own ≡ identifier_at f theirs
+    same = ap (λ o. option_map_or entry_identifier o None) at ∙ identifier
+
+    onward : (t : Key) (n : Text) → (identifier_at d own ≡ Some n) ⊎ ((identifier_at d own ≡ None) × (j : Key) × IsAmong j (open_next d own) × StopsAt d j t n) → OpenlyOn (λ (m : Text). m) f theirs n
+    onward t n (inl is) = record { at = theirs; name = n; walk = stay; identified = sym same ∙ is; on_track = refl }
+    onward t n (inr v) =
+        let p = parts v.1 (subst (λ (ks : List Key). IsAmong v.1 ks) (ap (optional_keys other_keys) at) v.2) in
+        openly_step (λ (m : Text). m) f theirs p.0 n p.1 (p.2.names.stops t n (stops_was c d sound x v.1 t n p.2.own_stands v.3))

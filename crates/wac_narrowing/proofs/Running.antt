@@ -1,16 +1,18 @@
 -- Whatever steps are taken, what is remembered stays true, and imports serve what they served.
-use Rattle.std.proofs.Common.{◌≡◌, List, Some, sym, subst, ◌∙◌, inl, inr}
+use Rattle.std.proofs.Common.{◌≡◌, List, [], Some, ap, sym, subst, ◌∙◌, inl, inr}
+use Rattle.std.specs.Option.{option_map_or}
 use Rattle.wac_model.specs.Text.{Text}
 use Rattle.wac_model.proofs.ItemOrder.{Fits-refl, Fits-trans}
 use Rattle.wac_component.specs.Collection.{Collection}
 use Rattle.wac_component.specs.Key.{Key, item_keys, Each, Stands, AllStand}
+use Rattle.wac_component.specs.Reach.{stay}
 use Rattle.wac_component.specs.Tree.{item_tree}
 use Rattle.wac_component.specs.declared.items.ItemKind.{ItemKind}
 use Rattle.wac_component.proofs.Among.{among_each, each_among}
 use Rattle.wac_merge.specs.Items.{entry_item}
 use Rattle.wac_merge.proofs.ItemKeys.{each_entry_item}
 use Rattle.wac_narrowing.specs.Apart.{IsApart}
-use Rattle.wac_narrowing.specs.Identified.{IsCovered}
+use Rattle.wac_narrowing.specs.Identified.{use_names, IsCovered}
 use Rattle.wac_narrowing.specs.Imports.{Imports, ImportsStand, ImportsCovered, IsImportFor, ImportsFit, IsServed}
 use Rattle.wac_narrowing.specs.Narrows.{Narrows, KeepsStops, IsStep}
 use Rattle.wac_narrowing.specs.Standing.{StandsFor, IsCopy}
@@ -28,13 +30,18 @@ StandsFor-Narrows f c d ss ts theirs own n h = record {
 }
 
 -- a copy stays one
-pub IsCopy-Narrows : (f c d : Collection) (ss ts : List Key) (theirs own : Key) → Narrows c ss d ts → IsCopy f c ss theirs own → IsCopy f d ts theirs own
-IsCopy-Narrows f c d ss ts theirs own n h = record {
+pub IsCopy-step : (f c d : Collection) (ss ts : List Key) (theirs own : Key) → Narrows c ss d ts → KeepsStops c ss d ts → IsCopy f c ss theirs own → IsCopy f d ts theirs own
+IsCopy-step f c d ss ts theirs own n k h = record {
   sort = h.sort;
   theirs_stands = h.theirs_stands;
   own_stands = n.standing own h.own_stands;
   apart = n.apart own h.own_stands h.apart;
-  same = λ k. n.same (entry_item k own) (each_entry_item (Stands c) k own h.own_stands) (each_entry_item (IsApart c ss) k own h.apart) ∙ h.same k;
+  same = λ x. n.same (entry_item x own) (each_entry_item (Stands c) x own h.own_stands) (each_entry_item (IsApart c ss) x own h.apart) ∙ h.same x;
+  names = record {
+    identifier = k.identifiers own h.own_stands ∙ h.names.identifier;
+    uses = ap (λ o. option_map_or use_names o []) (n.entries own h.own_stands (λ m. h.apart own m stay)) ∙ h.names.uses;
+    stops = λ t m w. h.names.stops t m (k.stops own t m h.own_stands w);
+  };
 }
 
 -- a copy stands for what it is one of
@@ -187,10 +194,10 @@ module _ (IsTrue : Collection → State → Type 0) (f : Collection) where
   served_still g s t n x h r served = IsImportFor-trans g s.own t.own s.imports t.imports n x (r.imports h) served
 
 -- that each pair stands for its id is kept
-pub IsTrueOf-step : (g : Collection) (s : State) (d : Collection) (ts : List Key) → Narrows s.own s.shared d ts → IsTrueOf g s → IsTrueOf g (record s { own = d; shared = ts })
-IsTrueOf-step g s d ts n t = record {
-  taken = λ theirs own p q. StandsFor-Narrows g s.own d s.shared ts theirs own n (t.taken theirs own p q);
-  copies = λ theirs own p q. IsCopy-Narrows g s.own d s.shared ts theirs own n (t.copies theirs own p q);
+pub IsTrueOf-step : (g : Collection) (s : State) (d : Collection) (ts : List Key) → IsStep s.own s.shared d ts → IsTrueOf g s → IsTrueOf g (record s { own = d; shared = ts })
+IsTrueOf-step g s d ts step t = record {
+  taken = λ theirs own p q. StandsFor-Narrows g s.own d s.shared ts theirs own step.narrows (t.taken theirs own p q);
+  copies = λ theirs own p q. IsCopy-step g s.own d s.shared ts theirs own step.narrows step.stops (t.copies theirs own p q);
 }
 
 pub IsTrueOf-take : (f g : Collection) (s : State) (now : Memo) (a b : Key) → IsOneWith f g → a.id.number ≡ f.number → AddsPair s.taken now a b → StandsFor f s.own a b → IsTrueOf g s → IsTrueOf g (record s { taken = now })

@@ -14,7 +14,7 @@ use Rattle.wac_narrowing.specs.Last.{last_key}
 use Rattle.wac_narrowing.specs.Remembers.{RemembersTruly}
 use Rattle.wac_narrowing.specs.Standing.{StandsFor, IsCopy}
 use Rattle.wac_narrowing.specs.State.{State, AddsPair, Runs}
-use Rattle.wac_narrowing.specs.Taking.{SameTree, AreTakenKeys, IsTakenKey, IsTakenItem, IsCopiedItem, AreMapped}
+use Rattle.wac_narrowing.specs.Taking.{SameTree, AreTakenKeys, AreCopiedKeys, IsTakenKey, IsTakenItem, IsCopiedItem, AreMapped}
 
 -- the state runs on, and the own entry was taken in for the foreign one
 pub record IsEntered {T : Type 0} (track : Text → T) (f : Collection) (s t : State) (theirs own : Key) : Type 0 where
@@ -55,6 +55,18 @@ pub record MayEnter {T : Type 0} (track : Text → T) (f : Collection) (s : Stat
   pub stands_for : StandsFor f (with_entry s.own z) theirs (last_key s.own z)
   pub quiet : IsQuiet f theirs → SameTree f (with_entry s.own z) theirs (last_key s.own z)
 
+-- an entry may be added as a copy of a foreign one: it has the same identifier and the same tree,
+-- uses the same names, and names copies of what that names
+pub record MayBeCopy (f : Collection) (s : State) (theirs : Key) (z : Entry) : Type 0 where
+  pub sort : (last_key s.own z).sort ≡ theirs.sort
+  pub stands : Stands f theirs
+  pub identifier : entry_identifier z ≡ identifier_at f theirs
+  pub names : use_names z ≡ use_names_at f theirs
+  pub named : AllStand s.own (entry_keys z)
+  pub apart : AreApart s.own s.shared (entry_keys z)
+  pub parts : AreCopiedKeys f s (open_next f theirs) (other_keys z)
+  pub same : SameTree f (with_entry s.own z) theirs (last_key s.own z)
+
 -- all that a foreign interface names was taken in, into another
 pub record InterfaceIsTaken {T : Type 0} (track : Text → T) (f : Collection) (s : State) (p : Id) (x z : InterfaceContent) : Type 0 where
   pub sound : IsSound f
@@ -74,20 +86,22 @@ pub record WorldIsTaken {T : Type 0} (track : Text → T) (f : Collection) (s : 
   pub imports : AreMapped (IsCopiedItem f s) x.imports z.imports
   pub exports : AreMapped (IsTakenItem track f s) x.exports z.exports
 
--- all that a foreign interface, or a foreign world, names was copied
+-- all that a foreign interface, or a foreign world, names was copied, into another with its
+-- identifier
 pub record InterfaceIsCopied (f : Collection) (s : State) (p : Id) (x z : InterfaceContent) : Type 0 where
   pub sound : IsSound f
   pub stands : Stands f (interface_key p)
   pub entry : slice_get f.interfaces p.index ≡ Some x
-  pub uses_stand : AllStand s.own (named_keys use_keys z.uses)
-  pub uses_apart : AreApart s.own s.shared (named_keys use_keys z.uses)
+  pub identifier : z.id ≡ x.id
+  pub names : used_names z.uses ≡ used_names x.uses
+  pub uses : AreCopiedKeys f s (named_keys use_keys x.uses) (named_keys use_keys z.uses)
   pub exports : AreMapped (IsCopiedItem f s) x.exports z.exports
 
 pub record WorldIsCopied (f : Collection) (s : State) (p : Id) (x z : WorldContent) : Type 0 where
   pub sound : IsSound f
   pub stands : Stands f (world_key p)
   pub entry : slice_get f.worlds p.index ≡ Some x
-  pub uses_stand : AllStand s.own (named_keys use_keys z.uses)
-  pub uses_apart : AreApart s.own s.shared (named_keys use_keys z.uses)
+  pub names : used_names z.uses ≡ used_names x.uses
+  pub uses : AreCopiedKeys f s (named_keys use_keys x.uses) (named_keys use_keys z.uses)
   pub imports : AreMapped (IsCopiedItem f s) x.imports z.imports
   pub exports : AreMapped (IsCopiedItem f s) x.exports z.exports

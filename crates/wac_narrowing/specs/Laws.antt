@@ -23,10 +23,10 @@ use Rattle.wac_narrowing.specs.Identified.{use_names, use_names_at, IsQuiet, IsC
 use Rattle.wac_narrowing.specs.Apart.{IsApart, AreApart, IsGood}
 use Rattle.wac_narrowing.specs.Narrows.{Narrows, KeepsStops, IsStep, AddsShared, CanGrow, grown}
 use Rattle.wac_narrowing.specs.Standing.{StandsFor, IsCopy}
-use Rattle.wac_narrowing.specs.Taking.{SameTree, IsClosedIn, IsTakenKey, AreTakenKeys, IsTakenItem, IsCopiedItem, AreMapped}
+use Rattle.wac_narrowing.specs.Taking.{SameTree, IsClosedIn, IsTakenKey, AreTakenKeys, AreCopiedKeys, IsTakenItem, IsCopiedItem, AreMapped}
 use Rattle.wac_narrowing.specs.Imports.{Imports, ImportsStand, ImportsCovered, ImportsFit, IsServed}
 use Rattle.wac_narrowing.specs.Last.{last_key}
-use Rattle.wac_narrowing.specs.Entering.{IsEntered, IsCopiedInto, AddsEntry, AddsCopy, MayEnter, InterfaceIsTaken, WorldIsTaken, InterfaceIsCopied, WorldIsCopied}
+use Rattle.wac_narrowing.specs.Entering.{IsEntered, IsCopiedInto, AddsEntry, AddsCopy, MayEnter, MayBeCopy, InterfaceIsTaken, WorldIsTaken, InterfaceIsCopied, WorldIsCopied}
 use Rattle.wac_narrowing.specs.Leaves.{SaysSame}
 use Rattle.wac_narrowing.specs.Values.{IsTakenValue, IsCopiedValue, SameValue, AreFuncs, AreDefined}
 use Rattle.wac_narrowing.specs.State.{State, Memo, AddsPair, IsKept, IsTrueOf, Runs}
@@ -93,7 +93,7 @@ abbrev pub PairsStayTrue : Type 0
 PairsStayTrue = (f c d : Collection) (ss ts : List Key) (theirs own : Key) → Narrows c ss d ts → StandsFor f c theirs own → StandsFor f d theirs own
 
 abbrev pub CopiesStay : Type 0
-CopiesStay = (f c d : Collection) (ss ts : List Key) (theirs own : Key) → Narrows c ss d ts → IsCopy f c ss theirs own → IsCopy f d ts theirs own
+CopiesStay = (f c d : Collection) (ss ts : List Key) (theirs own : Key) → Narrows c ss d ts → KeepsStops c ss d ts → IsCopy f c ss theirs own → IsCopy f d ts theirs own
 
 -- resources, values and functions keep what they stand for, whatever owns a
 -- resource, and so do core modules
@@ -260,12 +260,12 @@ TakenFuncsSaySame = (f : Collection) (s : State) (x z : FuncContent) → AreFunc
 abbrev pub TakenDefinedSaySame : Type 0
 TakenDefinedSaySame = (f : Collection) (s : State) (x z : DefinedContent) → AreDefined (IsTakenValue class_of f s) x z → AreTakenKeys class_of f s (defined_keys x) (defined_keys z) × AreDefined (SameValue f s.own) x z
 
--- those of copied values: their ids stand, apart, and they say the same
+-- those of copied values: their ids are copies, one by one, and they say the same
 abbrev pub CopiedFuncsSaySame : Type 0
-CopiedFuncsSaySame = (f : Collection) (s : State) (x z : FuncContent) → AreFuncs (IsCopiedValue f s) x z → AllStand s.own (func_keys z) × AreApart s.own s.shared (func_keys z) × AreFuncs (SameValue f s.own) x z
+CopiedFuncsSaySame = (f : Collection) (s : State) (x z : FuncContent) → AreFuncs (IsCopiedValue f s) x z → AreCopiedKeys f s (func_keys x) (func_keys z) × AreFuncs (SameValue f s.own) x z
 
 abbrev pub CopiedDefinedSaySame : Type 0
-CopiedDefinedSaySame = (f : Collection) (s : State) (x z : DefinedContent) → AreDefined (IsCopiedValue f s) x z → AllStand s.own (defined_keys z) × AreApart s.own s.shared (defined_keys z) × AreDefined (SameValue f s.own) x z
+CopiedDefinedSaySame = (f : Collection) (s : State) (x z : DefinedContent) → AreDefined (IsCopiedValue f s) x z → AreCopiedKeys f s (defined_keys x) (defined_keys z) × AreDefined (SameValue f s.own) x z
 
 -- the ids in named items that were taken in, one by one; they stand, and openly
 -- lead to shared interfaces alone
@@ -329,12 +329,11 @@ LeavesEnter = (f : Collection) (s t : State) (theirs : Key) (z : Entry) → IsKe
 
 -- copies
 abbrev pub CopiedLeavesEnter : Type 0
-CopiedLeavesEnter = (f : Collection) (s t : State) (theirs : Key) (z : Entry) → IsKept s → IsSound f → Stands f theirs → SaysSame f s.own theirs z → AllStand s.own (entry_keys z) → AreApart s.own s.shared (entry_keys z) → AddsCopy f s t theirs z
+CopiedLeavesEnter = (f : Collection) (s t : State) (theirs : Key) (z : Entry) → IsKept s → IsSound f → Stands f theirs → SaysSame f s.own theirs z → AreCopiedKeys f s (open_next f theirs) (other_keys z) → AddsCopy f s t theirs z
     → IsCopiedInto class_of f s t theirs (last_key s.own z)
 
 abbrev pub CopiesEnter : Type 0
-CopiesEnter = (f : Collection) (s t : State) (theirs : Key) (z : Entry) → IsKept s → AddsCopy f s t theirs z → (last_key s.own z).sort ≡ theirs.sort → Stands f theirs → AllStand s.own (entry_keys z) → AreApart s.own s.shared (entry_keys z) → SameTree f (with_entry s.own z) theirs (last_key s.own z)
-    → IsCopiedInto class_of f s t theirs (last_key s.own z)
+CopiesEnter = (f : Collection) (s t : State) (theirs : Key) (z : Entry) → IsKept s → MayBeCopy f s theirs z → AddsCopy f s t theirs z → IsCopiedInto class_of f s t theirs (last_key s.own z)
 
 abbrev pub CopiedInterfacesEnter : Type 0
 CopiedInterfacesEnter = (f : Collection) (s t : State) (p : Id) (x z : InterfaceContent) → IsKept s → InterfaceIsCopied f s p x z → AddsCopy f s t (interface_key p) (interface_entry z) → IsCopiedInto class_of f s t (interface_key p) (last_interface s.own)

@@ -4,7 +4,7 @@ use Rattle.wac_model.specs.Text.{Text}
 use Rattle.wac_model.specs.Order.{Fits}
 use Rattle.wac_component.specs.Id.{Id}
 use Rattle.wac_component.specs.Collection.{Collection, InterfaceContent}
-use Rattle.wac_component.specs.Key.{Key, Each, Stands, AllStand, item_keys, interface_key, interface_keys}
+use Rattle.wac_component.specs.Key.{Key, Each, Stands, AllStand, entry_at, item_keys, interface_key, interface_keys}
 use Rattle.wac_component.specs.Reach.{IsAmong}
 use Rattle.wac_component.specs.Tree.{item_tree}
 use Rattle.wac_component.specs.declared.items.ItemKind.{ItemKind}
@@ -13,11 +13,18 @@ use Rattle.wac_checker.specs.Externs.{AreServed}
 use Rattle.wac_narrowing.specs.Identified.{use_names_at, StopsAt, IsUnstopped, IsCovered}
 use Rattle.wac_narrowing.specs.Apart.{IsApart, AreApart, IsGood}
 
--- what stood in c stands in d, where it fits as it was asked for in c; what was apart from the
--- shared entries is so still, with its tree
+-- each of ts was shared, or didn't stand
+abbrev pub SharesNew : Collection → List Key → List Key → Type 0
+SharesNew c ss ts = (t : Key) → IsAmong t ts → IsAmong t ss ⊎ (¬ (Stands c t))
+
+-- what stood in c stands in d, where it fits as it was asked for in c; no entry changed but shared
+-- ones, and none is shared that stood and wasn't; what was apart from the shared entries is so
+-- still, with its tree
 pub record Narrows (c : Collection) (ss : List Key) (d : Collection) (ts : List Key) : Type 0 where
   pub number : d.number ≡ c.number
   pub standing : (k : Key) → Stands c k → Stands d k
+  pub entries : (k : Key) → Stands c k → ¬ (IsAmong k ss) → entry_at d k ≡ entry_at c k
+  pub shares : SharesNew c ss ts
   pub fits : (x : ItemKind) → AllStand c (item_keys x) → Fits (item_tree d x) (item_tree c x)
   pub apart : (k : Key) → Stands c k → IsApart c ss k → IsApart d ts k
   pub same : (x : ItemKind) → AllStand c (item_keys x) → AreApart c ss (item_keys x) → item_tree d x ≡ item_tree c x
@@ -38,10 +45,6 @@ pub record IsStep (c : Collection) (ss : List Key) (d : Collection) (ts : List K
   pub good : IsGood d ts
   pub narrows : Narrows c ss d ts
   pub stops : KeepsStops c ss d ts
-
--- each of ts was shared, or didn't stand
-abbrev pub SharesNew : Collection → List Key → List Key → Type 0
-SharesNew c ss ts = (t : Key) → IsAmong t ts → IsAmong t ss ⊎ (¬ (Stands c t))
 
 -- one more is shared
 pub record AddsShared (before now : List Key) (k : Key) : Type 0 where

@@ -13,7 +13,8 @@ use Rattle.wac_merge.specs.Items.{entry_item}
 use Rattle.wac_narrowing.specs.Apart.{AreApart}
 use Rattle.wac_narrowing.specs.Identified.{IsQuiet, IsCovered}
 use Rattle.wac_narrowing.specs.Remembers.{IsRememberedAs}
-use Rattle.wac_narrowing.specs.State.{State, Memo, IsNotedCopy}
+use Rattle.wac_narrowing.specs.Standing.{IsCopy}
+use Rattle.wac_narrowing.specs.State.{State, Memo}
 
 -- the two entries have the same tree
 abbrev pub SameTree : Collection → Collection → Key → Key → Type 0
@@ -30,10 +31,22 @@ pub record IsTakenKey {T : Type 0} (track : Text → T) (f : Collection) (s : St
   pub covered : IsCovered s.own s.shared own
   pub closed : IsClosedIn f s.taken theirs
 
--- the same of two lists of ids, one by one
-pub data AreTakenKeys {T : Type 0} (track : Text → T) (f : Collection) (s : State) : List Key → List Key → Type 0 where
-  no_keys : AreTakenKeys track f s [] []
-  one_key : {i j : Key} {is js : List Key} → IsTakenKey track f s i j → AreTakenKeys track f s is js → AreTakenKeys track f s (i ∷ is) (j ∷ js)
+-- the own entry is a copy of the foreign one, and noted
+pub record IsCopiedKey (f : Collection) (s : State) (theirs own : Key) : Type 0 where
+  pub copy : IsCopy f s.own s.shared theirs own
+  pub noted : s.copies theirs ≡ Some own
+
+-- two lists of ids of this relation, one by one
+pub data ArePaired (R : Key → Key → Type 0) : List Key → List Key → Type 0 where
+  no_keys : ArePaired R [] []
+  one_key : {i j : Key} {is js : List Key} → R i j → ArePaired R is js → ArePaired R (i ∷ is) (j ∷ js)
+
+-- the second ids were taken in for the first; or are copies of these
+abbrev pub AreTakenKeys : {T : Type 0} → (Text → T) → Collection → State → List Key → List Key → Type 0
+AreTakenKeys track f s = ArePaired (IsTakenKey track f s)
+
+abbrev pub AreCopiedKeys : Collection → State → List Key → List Key → Type 0
+AreCopiedKeys f s = ArePaired (IsCopiedKey f s)
 
 -- an own item that stands, fits where the foreign one is asked for, and names what may
 -- be remembered for what that names; it has the same tree where the foreign one openly
@@ -44,11 +57,11 @@ pub record IsTakenItem {T : Type 0} (track : Text → T) (f : Collection) (s : S
   pub quiet : Each (IsQuiet f) (item_keys x) → item_tree s.own y ≡ item_tree f x
   pub keys : AreTakenKeys track f s (item_keys x) (item_keys y)
 
--- an own item that is a copy of the foreign one; what it names was noted
+-- an own item that is a copy of the foreign one, and names copies of what that names
 pub record IsCopiedItem (f : Collection) (s : State) (x y : ItemKind) : Type 0 where
   pub stands : AllStand s.own (item_keys y)
   pub apart : AreApart s.own s.shared (item_keys y)
-  pub noted : Each (IsNotedCopy s) (item_keys y)
+  pub keys : AreCopiedKeys f s (item_keys x) (item_keys y)
   pub same : item_tree s.own y ≡ item_tree f x
 
 -- the same names in the same order, each with two values of this relation

@@ -2,12 +2,12 @@
 use Rattle.std.specs.Prelude.{◌≡◌, List, [], ◌∷◌, Option, Some, None}
 use Rattle.wac_model.specs.Text.{Text}
 use Rattle.wac_component.specs.Collection.{Collection, DefinedContent, alias_of, composed, FuncContent, ResourceContent}
-use Rattle.wac_component.specs.Key.{Each, AllStand, value_keys}
+use Rattle.wac_component.specs.Key.{AllStand, value_keys}
 use Rattle.wac_component.specs.Tree.{value_tree, root_name}
 use Rattle.wac_component.specs.declared.items.ValueType.{ValueType}
 use Rattle.wac_narrowing.specs.Apart.{AreApart}
-use Rattle.wac_narrowing.specs.State.{State, IsNotedCopy}
-use Rattle.wac_narrowing.specs.Taking.{AreTakenKeys, AreMapped}
+use Rattle.wac_narrowing.specs.State.{State}
+use Rattle.wac_narrowing.specs.Taking.{AreTakenKeys, AreCopiedKeys, AreMapped}
 
 -- an own value type that stands, has the tree of the foreign one, and names what may be
 -- remembered for what that names
@@ -20,7 +20,7 @@ pub record IsTakenValue {T : Type 0} (track : Text → T) (f : Collection) (s : 
 pub record IsCopiedValue (f : Collection) (s : State) (v w : ValueType) : Type 0 where
   pub stands : AllStand s.own (value_keys w)
   pub apart : AreApart s.own s.shared (value_keys w)
-  pub noted : Each (IsNotedCopy s) (value_keys w)
+  pub keys : AreCopiedKeys f s (value_keys v) (value_keys w)
   pub same : value_tree s.own w ≡ value_tree f v
 
 -- the two value types have the same tree

@@ -1,13 +1,15 @@
 -- What an error of merging says.
 use Rattle.std.specs.Prelude.{Option, Some, None, string_bytes}
-use Rattle.wac_call_lists.specs.Reason.{Refusal, kinds, mismatch, used_interface, used_name, no_identifier, owner_without_identifier, taken, cycle}
+use Rattle.wac_call_lists.specs.Reason.{Refusal, kinds, mismatch, unexplained, used_interface, used_name, no_identifier, owner_without_identifier, taken, cycle}
+use Rattle.wac_mismatch.specs.declared.error.SubtypeError.TheVariants.{Mismatch as Disagree, Memory as NoMemory}
 use Rattle.wac_refusals.specs.declared.error.AggregateError.{AggregateError}
 use Rattle.wac_refusals.specs.declared.error.AggregateError.TheVariants.{Kinds, Mismatch, UsedInterface, UsedName, NoIdentifier, OwnerWithoutIdentifier, Taken, Cycle, Memory}
 
--- what is refused, unless there is no memory
+-- what is refused, unless there is no memory; a mismatch says where types disagree
 abbrev pub said : AggregateError → Option Refusal
 said (Kinds existing found) = Some (kinds existing.now found.now)
-said (Mismatch frames error) = Some mismatch
+said (Mismatch frames (Disagree path fault)) = Some mismatch
+said (Mismatch frames NoMemory) = Some unexplained
 said (UsedInterface used expected found) = Some (used_interface (string_bytes used) (string_bytes expected) (string_bytes found))
 said (UsedName used) = Some (used_name (string_bytes used))
 said (NoIdentifier used) = Some (no_identifier (string_bytes used))

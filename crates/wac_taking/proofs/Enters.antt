@@ -33,8 +33,7 @@ use Rattle.wac_narrowing.proofs.Mapped.{mapped_more, mapped_same, taken_of, take
 use Rattle.wac_narrowing.proofs.Values.{funcs_more, defined_more, each_func, each_defined, func_parts, defined_parts}
 use Rattle.wac_taking.specs.Takes.{IsTakenAlias, IsTakenUse, IsOwnerImported}
 use Rattle.wac_taking.proofs.TakeLemmas.{HasOwners, Enters}
-use Rattle.wac_copies.proofs.CopyLemmas.{noted_low}
-use Rattle.wac_copies.proofs.Enters.{items_noted}
+use Rattle.wac_copies.proofs.Enters.{items_low}
 use Rattle.wac_reasons.specs.Entering.{IsTakenIdentifiedUse}
 use Rattle.wac_reasons.specs.Split.{IsLow}
 use Rattle.wac_reasons.proofs.EntryAccounts.{IsMadeFrom}
@@ -137,7 +136,7 @@ module _ (f : Collection) (s : State) where
           exports = subst (λ es. AreMapped (IsTakenItem class_of f s) es z.exports) (sym exports) h.exports;
           opens = λ k m. subst (IsAmong k) (sym (ap (optional_keys other_keys) at)) (among_right (named_keys use_keys x.uses) (named_keys item_keys x.exports) (subst (λ es. IsAmong k (named_keys item_keys es)) exports m));
           uses = subst (λ us. AreMapped (IsTakenIdentifiedUse f s) us z.uses) (sym uses) (identified_uses x.uses z.uses used);
-          lows = noted_low s (named_keys item_keys z.imports) (items_noted f s x.imports z.imports h.imports);
+          lows = items_low f s x.imports z.imports h.imports;
           same = λ m.
               let d = with_entry s.own (world_entry z) in
               same_world f d p (record { number = s.own.number; index = length s.own.worlds }) h.sound (IsSound-with_entry s.own (world_entry z) kept.good.sound named) x z h.stands (last_at s.own (world_entry z)).stands h.entry (slice_get-last s.own.worlds z)

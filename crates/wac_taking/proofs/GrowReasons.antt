@@ -34,7 +34,7 @@ module _ (f : Collection) (a : Merging) (may : MayTake f a) (p e : Id) (name : T
   among = lookup-shared (class_of name) a.shared.entries e shared
 
   filed : (n : Text) × (identifier_at a.types (interface_key e) ≡ Some n) × (class_of n ≡ class_of name)
-  filed = may.filed (class_of name) e shared
+  filed = may.filed.on_class (class_of name) e shared
 
   -- its uses differ from those of the entry
   pub grown_uses_refused : (r : AggregateError) → AreRefusedLists a.types old.uses us r → IsRefused f a (interface_key p ∷ []) r

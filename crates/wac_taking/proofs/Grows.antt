@@ -125,7 +125,7 @@ module _ (f : Collection) (a : Merging) (may : MayTake f a) (p e : Id) (name : T
   pub Takes-grown : new.uses ≡ uses_of_both old.uses us → AreFound es → AreFound new.exports → (w : Collection) (n : Memo) → ¬ (NamesReach d (interface_keys new) (interface_key e)) → w ≡ grown d e new → AddsPair (memo_of a.taken) (memo_of n) (interface_key p) (interface_key e)
       → Takes f a (record a { types = w; taken = n }) (height f (interface_key p)) (interface_key p ∷ []) (λ t. IsTakenKey class_of f t (interface_key p) (interface_key e))
   Takes-grown uses_are found new_found w n acyclic is adds =
-      let filed = may.filed (class_of name) e shared in
+      let filed = may.filed.on_class (class_of name) e shared in
       let own_is : old.id ≡ Some filed.0 = sym (content_identifier a.types e old was) ∙ filed.1 in
       let theirs_is : put.content.id ≡ Some name = sym (content_identifier f p put.content put.taken.entry) ∙ identified in
       let t : State = state_of (record a { types = w; taken = n }) in

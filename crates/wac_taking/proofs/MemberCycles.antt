@@ -52,7 +52,7 @@ module _ (f : Collection) (a : Merging) (may : MayTake f a) (p e : Id) (name : T
   arrowed_met = traced_added class_of (Arrows class_of rs) a.types d ss may.kept.good met.on.grows arrowed
 
   own_name : (m : Text) × (identifier_at a.types (interface_key e) ≡ Some m) × (class_of m ≡ class_of name)
-  own_name = may.filed (class_of name) e shared
+  own_name = may.filed.on_class (class_of name) e shared
 
   old_is : old.id ≡ Some own_name.0
   old_is = sym (content_identifier a.types e old was) ∙ own_name.1

@@ -105,7 +105,7 @@ module _ (f : Collection) (a : Merging) (may : MayTake f a) (taken : Taken) (has
       by n =
           let is = h.interface.remembered.shared n.0 (identifier_of f u.interface n.0 n.1) in
           let found = has.found v.interface is.is_shared in
-          let filed = may.filed found.0 v.interface found.1 in
+          let filed = may.filed.on_class found.0 v.interface found.1 in
           let on : found.0 ≡ class_of n.0 = sym filed.2 ∙ ap class_of (same filed.0 is.name (sym filed.1 ∙ is.identified)) ∙ is.on_track in
           record { track = class_of n.0; is_on = record { name = n.0; identified = n.1; on_track = refl }; is_shared = subst (λ q. shared_in a.shared.entries q ≡ Some v.interface) on found.1; same_name = h.name }
 

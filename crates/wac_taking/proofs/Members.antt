@@ -18,7 +18,7 @@ use Rattle.wac_component.proofs.OpenWalks.{opens_reach}
 use Rattle.wac_component.proofs.Walks.{no_walk_returns}
 use Rattle.wac_names.specs.Class.{Class, class_of}
 use Rattle.wac_call_lists.specs.Entries.{Uses, ReachesByUses}
-use Rattle.wac_call_lists.specs.Reason.{Refusal, kinds, mismatch, used_interface, used_name, no_identifier, owner_without_identifier, taken as is_taken, cycle}
+use Rattle.wac_call_lists.specs.Reason.{Refusal, kinds, mismatch, unexplained, used_interface, used_name, no_identifier, owner_without_identifier, taken as is_taken, cycle}
 use Rattle.wac_call_lists.specs.Shared.{Taken, AreShared}
 use Rattle.wac_call_lists.specs.WitList.{AreWit}
 use Rattle.wac_call_lists.proofs.ByUses.{ByUses-trans, by_uses}
@@ -141,6 +141,7 @@ member_refused_unidentified f P taken e h r says merging = absurd (apart r (h r 
     apart : (r : Refusal) → IsOfUnidentified r → IsOfMerging r → ⊥
     apart (kinds x y) u m = u
     apart mismatch u m = u
+    apart unexplained u m = u
     apart (used_interface x y z) u m = u
     apart (used_name x) u m = u
     apart (no_identifier x) u m = m

@@ -77,18 +77,6 @@ module _ (c d : Collection) (a b m : ItemKind) (met : IsMetWith c d a b m) where
   pub met_along : (ss : List Key) (rs : List Root) (from : Class) → IsGood c ss → AllStand c (item_keys a) → AllStand c (item_keys b) → Each (LeadsAlongArrows c ss rs from) (item_keys a) → Each (LeadsAlongArrows c ss rs from) (item_keys b) → Each (LeadsAlongArrows d ss rs from) (item_keys m)
   met_along ss rs from good sa sb ha hb = built_along class_of (Arrows class_of rs) c d met.builds.origins ss from a b m good met.builds.only met.built sa sb ha hb
 
--- what says that two items can't be met
-pub says_mismatch : (before : List MergeFrame) (P : List MergeFrame → SubtypeError → Type 0) (e : AggregateError) → IsMismatch before P e → said e ≡ Some mismatch
-says_mismatch before P (Kinds x y) h = absurd h
-says_mismatch before P (Mismatch frames error) h = refl
-says_mismatch before P (UsedInterface n x y) h = absurd h
-says_mismatch before P (UsedName n) h = absurd h
-says_mismatch before P (NoIdentifier n) h = absurd h
-says_mismatch before P (OwnerWithoutIdentifier n) h = absurd h
-says_mismatch before P (Taken n) h = absurd h
-says_mismatch before P (Cycle n) h = absurd h
-says_mismatch before P Memory h = absurd h
-
 -- two that have no meet once entries were added had none before
 pub apart_before : (c d : Collection) (a b : ItemKind) → Extends c d → AllStand c (item_keys a) → AllStand c (item_keys b) → AreApartIn d a b → HaveNoLowerBound (item_tree c a) (item_tree c b)
 apart_before c d a b grows sa sb apart t x y = apart t (below_both t (item_tree d a) (item_tree d b) (subst (Fits t) (sym (grows.trees a sa)) x) (subst (Fits t) (sym (grows.trees b sb)) y))

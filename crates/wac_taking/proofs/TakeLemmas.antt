@@ -269,10 +269,13 @@ module _ (f : Collection) where
 
   -- shared entries stay filed where none is added
   pub AreFiledIn-run : (s t : State) (ss : List (Class × Id)) → IsKept s → s.shared ≡ shared_keys ss → Runs (RemembersTruly class_of) f s t → AreFiledIn s.own ss → AreFiledIn t.own ss
-  AreFiledIn-run s t ss kept shared run filed q i at =
-      let was = filed q i at in
-      let stands = shared_stands s kept (interface_key i) (subst (IsAmong (interface_key i)) (sym shared) (lookup-shared q ss i at)) in
-      (was.0, (run.stops kept).identifiers (interface_key i) stands ∙ was.1, was.2)
+  AreFiledIn-run s t ss kept shared run filed = record {
+    on_class = λ q i at.
+        let was = filed.on_class q i at in
+        let stands = shared_stands s kept (interface_key i) (subst (IsAmong (interface_key i)) (sym shared) (lookup-shared q ss i at)) in
+        (was.0, (run.stops kept).identifiers (interface_key i) stands ∙ was.1, was.2);
+    found = filed.found;
+  }
 
   -- copies are made of what stands below imports
   pub MayTake-copies : (a : Merging) → MayTake f a → MayCopy f a.types a.copies
@@ -391,12 +394,22 @@ module _ (f : Collection) where
 
   -- shared entries stay filed where one is added, under the class of its identifier
   pub AreFiledIn-put : (s t : State) (ss ts : List (Class × Id)) (q : Class) (i : Id) (n : Text) → IsKept s → s.shared ≡ shared_keys ss → Runs (RemembersTruly class_of) f s t → identifier_at t.own (interface_key i) ≡ Some n → class_of n ≡ q
-      → ((r : Class) → shared_in ts r ≡ update class_eq (shared_in ss) q (Some i) r) → AreFiledIn s.own ss → AreFiledIn t.own ts
-  AreFiledIn-put s t ss ts q i n kept shared run identified of puts filed r j at = by (class_eq q r) refl (sym (puts r) ∙ at)
+      → ((r : Class) → shared_in ts r ≡ update class_eq (shared_in ss) q (Some i) r) → shared_in ss q ≡ None → AddsShared (shared_keys ss) (shared_keys ts) (interface_key i) → AreFiledIn s.own ss → AreFiledIn t.own ts
+  AreFiledIn-put s t ss ts q i n kept shared run identified of puts new adds filed = record {
+    on_class = λ r j at. on_class r j (class_eq q r) refl (sym (puts r) ∙ at);
+    found = λ j m. elim (adds.only (interface_key j) m) [
+      | inl is ↦ let same : i ≡ j = ap (λ (k : Key). k.id) (sym is) in (q, puts q ∙ ap (λ b. cond b (Some i) (shared_in ss q)) ((classes_decided q q).1 refl) ∙ ap (λ (x : Id). Some x) same)
+      | inr stood ↦ let was = filed.found j stood in (was.0, puts was.0 ∙ kept_at was.0 j (class_eq q was.0) refl was.1)
+    ];
+  }
     where
-      by : (b : Bool) → class_eq q r ≡ b → cond b (Some i) (shared_in ss r) ≡ Some j → (m : Text) × (identifier_at t.own (interface_key j) ≡ Some m) × (class_of m ≡ r)
-      by true e h = let same : i ≡ j = cc in (n, ap (λ k. identifier_at t.own (interface_key k)) (sym same) ∙ identified, of ∙ (classes_decided q r).0 e)
-      by false e h = AreFiledIn-run s t ss kept shared run filed r j h
+      on_class : (r : Class) (j : Id) (b : Bool) → class_eq q r ≡ b → cond b (Some i) (shared_in ss r) ≡ Some j → (m : Text) × (identifier_at t.own (interface_key j) ≡ Some m) × (class_of m ≡ r)
+      on_class r j true e h = let same : i ≡ j = cc in (n, ap (λ k. identifier_at t.own (interface_key k)) (sym same) ∙ identified, of ∙ (classes_decided q r).0 e)
+      on_class r j false e h = (AreFiledIn-run s t ss kept shared run filed).on_class r j h
+
+      kept_at : (r : Class) (j : Id) (b : Bool) → class_eq q r ≡ b → shared_in ss r ≡ Some j → cond b (Some i) (shared_in ss r) ≡ Some j
+      kept_at r j true e at = let none : None ≡ Some j = sym new ∙ ap (shared_in ss) ((classes_decided q r).0 e) ∙ at in absurd (cc)
+      kept_at r j false e at = at
 
   -- an owner is imported, under the identifier of a shared entry, where there was
   -- no import on the class of that

@@ -42,9 +42,10 @@ state_of a = record { own = a.types; shared = shared_keys a.shared.entries; impo
 abbrev pub shared_in : List (Class × Id) → Class → Option Id
 shared_in ss q = lookup (class_eq q) ss
 
--- each shared entry is found under the class of its identifier
-abbrev pub AreFiledIn : Collection → List (Class × Id) → Type 0
-AreFiledIn c ss = (q : Class) (i : Id) → shared_in ss q ≡ Some i → (n : Text) × (identifier_at c (interface_key i) ≡ Some n) × (class_of n ≡ q)
+-- what is found under a class has an identifier on it, and each shared entry is found
+pub record AreFiledIn (c : Collection) (ss : List (Class × Id)) : Type 0 where
+  pub on_class : (q : Class) (i : Id) → shared_in ss q ≡ Some i → (n : Text) × (identifier_at c (interface_key i) ≡ Some n) × (class_of n ≡ q)
+  pub found : (i : Id) → IsAmong (interface_key i) (shared_keys ss) → (q : Class) × (shared_in ss q ≡ Some i)
 
 -- entries of f, which is not the own collection, may be taken in
 pub record MayTake (f : Collection) (a : Merging) : Type 0 where

@@ -2,7 +2,8 @@ use Rattle.std.proofs.Common.{inl, inr, subst}
 use Rattle.wac_component.specs.Key.{item_keys}
 use Rattle.wac_component.proofs.Extended.{AllStand-Extends}
 use Rattle.wac_taking.specs.Growing.{IsMetIfAny}
-use Rattle.wac_taking.proofs.MergeReasons.{says_mismatch, apart_before}
+use Rattle.wac_taking.proofs.MergeReasons.{apart_before}
+use Rattle.wac_refusals.proofs.Saying.{says_mismatch}
 use Rattle.wac_refusals.proofs.Passing.{passed_on}
 use Rattle.wac_aggregator.proofs.Members.{met_itself}
 use Rattle.wac_aggregator.proofs.noting.merge_items.Goals as goal
@@ -28,7 +29,7 @@ returns-in_ok-mismatch-in-None-clause-met c = λ ne.
     let none = subst (IsMetIfAny was now c.args.existing c.args.own) c.in-None.is c.in_ok-met.ensures in
     inr (record {
       no_bound = apart_before was now c.args.existing c.args.own none.0 c.requires.existing c.requires.own none.1;
-      says = says_mismatch _ _ _ c.in_ok-mismatch-in-None.ensures.mismatch;
+      says = says_mismatch _ _ _ _ _ c.in_ok-mismatch-in-None.ensures.mismatch;
     })
 
 pub returns-in_err-check_uses_of-clause-met : goal.returns-in_err-check_uses_of-clause-met

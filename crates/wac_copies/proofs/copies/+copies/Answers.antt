@@ -1,10 +1,10 @@
-use Rattle.std.proofs.Common.{◌+◌, ◌++◌, zero, [], ◌∷◌, Some, None, length, length-set, refl, ap, sym, subst, ◌∙◌, arith}
+use Rattle.std.proofs.Common.{◌+◌, ◌++◌, zero, [], ◌∷◌, Some, None, length, length-set, string_bytes, refl, ap, sym, subst, ◌∙◌, arith}
 use Rattle.std.proofs.lemmas.List.Elements.{same_from_all_zip}
 use Rattle.std.specs.List.{flat_map}
 use Rattle.std.specs.Option.{option_map, option_to_list}
 use Rattle.wac_model.specs.ItemTree.{item, type_item}
 use Rattle.wac_model.specs.ValueTree.{list, fixed_size_list, option, flags, enum, stream, future}
-use Rattle.wac_component.proofs.CloneLemmas.{named-clones, option-clone}
+use Rattle.wac_component.proofs.CloneLemmas.{named-clones, option-clone, option_map-clone}
 use Rattle.wac_component.proofs.Keys.{Each-flat_map_at, largest-append, largest-flat_map_at}
 use Rattle.wac_component.proofs.Members.{uses_stand, exports_stand, exports_lower, world_uses_stand, world_imports_stand, world_exports_stand, world_imports_lower, world_exports_lower}
 use Rattle.wac_component.specs.Content.{alias_content, defined_content, resource_content, func_content, interface_content, world_content, named, use_content, types_of, case_types}
@@ -18,10 +18,10 @@ use Rattle.wac_names.specs.Class.{class_of}
 use Rattle.wac_narrowing.proofs.Mapped.{copied_item_still}
 use Rattle.wac_narrowing.proofs.Values.{copied_value_still}
 use Rattle.wac_narrowing.specs.Remembers.{RemembersTruly}
-use Rattle.wac_narrowing.specs.Taking.{AreMapped, IsCopiedItem}
+use Rattle.wac_narrowing.specs.Taking.{AreMapped, IsCopiedItem, IsCopiedKey}
 use Rattle.wac_narrowing.specs.Values.{IsCopiedValue, IfAny, neither, both, AreDefined}
 use Rattle.wac_narrowing.specs.Values as listed
-use Rattle.wac_copies.specs.Copies.{Copies, IsCopiedAlias, IsCopiedUse, moved, IsNotedAs}
+use Rattle.wac_copies.specs.Copies.{Copies, IsCopiedAlias, IsCopiedUse, moved}
 use Rattle.wac_copies.proofs.Arms.{copied_item, copied_value, copied_content, named_stands, named_lower, used_use, used_there, used_stands, used_lower, Copies-set, Copies-place, Copies-use, types-named, one_lower, last_lower, first_lower, others_lower, cases_flat, params_stand, result_stands, params_lower, result_lower, uses_lower, world_uses_lower}
 use Rattle.wac_copies.proofs.Contents.{content_one, content_option, content_result, content_record, content_variant}
 use Rattle.wac_copies.proofs.CopyLemmas.{MayCopy-Copies, Copies-none, Copies-more, Copies-then, Copies-hit, Copies-enter, still_absent}
@@ -112,11 +112,11 @@ copy_optional-returns-in-None t c =
 
 pub copy_owner-returns-in_ok-copy_interface-in-Some : goal.copy_owner-returns-in_ok-copy_interface-in-Some
 copy_owner-returns-in_ok-copy_interface-in-Some t c =
-    subst (λ o. Copies c.args.types.now c.args.own.now c.args.copies.now c.copy_interface.new.own c.copy_interface.new.copies (keys_height c.args.types.now (optional_keys (λ p. interface_key p ∷ []) o)) (λ s. IfAny (λ p q. IsNotedAs c.args.types.now s (interface_key p) (interface_key q)) o (Some c.in_ok-copy_interface-in-Some.field-0))) (sym c.in-Some.is) (Copies-more c.args.types.now c.args.own.now c.copy_interface.new.own c.args.copies.now c.copy_interface.new.copies _ _ _ _ (omega arith) (λ s kept h. both h) c.in_ok-copy_interface-in-Some.ensures)
+    subst (λ o. Copies c.args.types.now c.args.own.now c.args.copies.now c.copy_interface.new.own c.copy_interface.new.copies (keys_height c.args.types.now (optional_keys (λ p. interface_key p ∷ []) o)) (λ s. IfAny (λ p q. IsCopiedKey c.args.types.now s (interface_key p) (interface_key q)) o (Some c.in_ok-copy_interface-in-Some.field-0))) (sym c.in-Some.is) (Copies-more c.args.types.now c.args.own.now c.copy_interface.new.own c.args.copies.now c.copy_interface.new.copies _ _ _ _ (omega arith) (λ s kept h. both h) c.in_ok-copy_interface-in-Some.ensures)
 
 pub copy_owner-returns-in-None : goal.copy_owner-returns-in-None
 copy_owner-returns-in-None t c =
-    subst (λ o. Copies c.args.types.now c.args.own.now c.args.copies.now c.args.own.now c.args.copies.now (keys_height c.args.types.now (optional_keys (λ p. interface_key p ∷ []) o)) (λ s. IfAny (λ p q. IsNotedAs c.args.types.now s (interface_key p) (interface_key q)) o None)) (sym c.in-None.is) (Copies-none c.args.types.now c.args.own.now c.args.copies.now _ _ (λ s h. neither))
+    subst (λ o. Copies c.args.types.now c.args.own.now c.args.copies.now c.args.own.now c.args.copies.now (keys_height c.args.types.now (optional_keys (λ p. interface_key p ∷ []) o)) (λ s. IfAny (λ p q. IsCopiedKey c.args.types.now s (interface_key p) (interface_key q)) o None)) (sym c.in-None.is) (Copies-none c.args.types.now c.args.own.now c.args.copies.now _ _ (λ s h. neither))
 
 pub copy_source-returns-in_ok-copy_alias-in-Some : goal.copy_source-returns-in_ok-copy_alias-in-Some
 copy_source-returns-in_ok-copy_alias-in-Some t c =
@@ -323,7 +323,7 @@ copy_interface-returns t c =
     let parts = Copies-then c.args.types.now c.args.own.now c.copy_uses.new.own c.copy_externs.new.own c.args.copies.now c.copy_uses.new.copies c.copy_externs.new.copies (keys_height c.args.types.now (named_keys use_keys (named use_content c.index-interface.result.now.uses.entries))) (keys_height c.args.types.now (named_keys item_keys (named (λ k. k) c.index-interface.result.now.exports.entries))) (keys_height c.args.types.now (interface_keys (interface_content c.index-interface.result.now))) (λ s. AreMapped (IsCopiedUse c.args.types.now s) (named use_content c.index-interface.result.now.uses.entries) (named use_content c.in_ok-uses.uses.entries)) (λ s. AreMapped (IsCopiedItem c.args.types.now s) (named (λ k. k) c.index-interface.result.now.exports.entries) (named (λ k. k) c.in_ok-exports.exports.entries)) (uses_lower c.args.types.now (interface_content c.index-interface.result.now)) (exports_lower c.args.types.now (interface_content c.index-interface.result.now)) (λ s u kept run h. uses_still c.args.types.now s u kept (RemembersTruly class_of) c.args.types.now run (named use_content c.index-interface.result.now.uses.entries) (named use_content c.in_ok-uses.uses.entries) h) c.in_ok-uses.ensures c.in_ok-exports.ensures in
     Copies-enter c.args.types.now c.args.own.now c.copy_externs.new.own c.add_interface.new.self c.args.copies.now c.copy_externs.new.copies c.put_interface.new.self (interface_key c.args.id) (interface_key c.in_ok-copy.copy) (interface_entry (interface_content (record { id = c.in_ok-identifier.identifier; uses = c.in_ok-uses.uses; exports = c.in_ok-exports.exports }))) (keys_height c.args.types.now (interface_keys (interface_content c.index-interface.result.now))) (λ s. AreMapped (IsCopiedUse c.args.types.now s) (named use_content c.index-interface.result.now.uses.entries) (named use_content c.in_ok-uses.uses.entries) × AreMapped (IsCopiedItem c.args.types.now s) (named (λ k. k) c.index-interface.result.now.exports.entries) (named (λ k. k) c.in_ok-exports.exports.entries)) c.requires.source.0 (omega (arith, c.index-interface.ensures.lower))
     parts c.in_ok-copy.ensures.added (ap interface_key c.in_ok-copy.ensures.id) (c.in_ok-put_interface.ensures (still_absent c.args.types.now c.args.own.now c.copy_externs.new.own c.args.copies.now c.copy_externs.new.copies (interface_key c.args.id) (keys_height c.args.types.now (interface_keys (interface_content c.index-interface.result.now))) (λ s. AreMapped (IsCopiedUse c.args.types.now s) (named use_content c.index-interface.result.now.uses.entries) (named use_content c.in_ok-uses.uses.entries) × AreMapped (IsCopiedItem c.args.types.now s) (named (λ k. k) c.index-interface.result.now.exports.entries) (named (λ k. k) c.in_ok-exports.exports.entries)) c.index-interface.ensures.lower (sym c.in_default.ensures) parts))
-    (λ s t own kept q adds. interface_enters c.args.types.now s c.sound.ensures kept t c.args.id (interface_content c.index-interface.result.now) (interface_content (record { id = c.in_ok-identifier.identifier; uses = c.in_ok-uses.uses; exports = c.in_ok-exports.exports })) (interface_is_copied c.args.types.now s c.sound.ensures c.args.id (interface_content c.index-interface.result.now) (interface_content (record { id = c.in_ok-identifier.identifier; uses = c.in_ok-uses.uses; exports = c.in_ok-exports.exports })) c.requires.source c.index-interface.ensures.entry q.0 q.1) q.0 adds)
+    (λ s t own kept q adds. interface_enters c.args.types.now s c.sound.ensures kept t c.args.id (interface_content c.index-interface.result.now) (interface_content (record { id = c.in_ok-identifier.identifier; uses = c.in_ok-uses.uses; exports = c.in_ok-exports.exports })) (interface_is_copied c.args.types.now s c.sound.ensures c.args.id (interface_content c.index-interface.result.now) (interface_content (record { id = c.in_ok-identifier.identifier; uses = c.in_ok-uses.uses; exports = c.in_ok-exports.exports })) c.requires.source c.index-interface.ensures.entry (option_map-clone string_bytes (λ s t same. same) c.index-interface.result.now.id c.in_ok-identifier.identifier c.in_ok-identifier.ensures.cases) q.0 q.1) adds)
 
 pub copy_interface-copy_uses-requires : goal.copy_interface-copy_uses-requires
 copy_interface-copy_uses-requires t c =
@@ -337,14 +337,14 @@ pub copy_interface-add_interface-requires : goal.copy_interface-add_interface-re
 copy_interface-add_interface-requires t c =
     let parts = Copies-then c.args.types.now c.args.own.now c.copy_uses.new.own c.copy_externs.new.own c.args.copies.now c.copy_uses.new.copies c.copy_externs.new.copies (keys_height c.args.types.now (named_keys use_keys (named use_content c.index-interface.result.now.uses.entries))) (keys_height c.args.types.now (named_keys item_keys (named (λ k. k) c.index-interface.result.now.exports.entries))) (keys_height c.args.types.now (interface_keys (interface_content c.index-interface.result.now))) (λ s. AreMapped (IsCopiedUse c.args.types.now s) (named use_content c.index-interface.result.now.uses.entries) (named use_content c.in_ok-uses.uses.entries)) (λ s. AreMapped (IsCopiedItem c.args.types.now s) (named (λ k. k) c.index-interface.result.now.exports.entries) (named (λ k. k) c.in_ok-exports.exports.entries)) (uses_lower c.args.types.now (interface_content c.index-interface.result.now)) (exports_lower c.args.types.now (interface_content c.index-interface.result.now)) (λ s u kept run h. uses_still c.args.types.now s u kept (RemembersTruly class_of) c.args.types.now run (named use_content c.index-interface.result.now.uses.entries) (named use_content c.in_ok-uses.uses.entries) h) c.in_ok-uses.ensures c.in_ok-exports.ensures in
     let r = parts.runs c.requires.state.state c.requires.state.is in
-    interface_stands c.args.types.now (moved c.requires.state.state c.copy_externs.new.own c.copy_externs.new.copies) c.sound.ensures (r.0.kept c.requires.state.is.kept) c.args.id (interface_content c.index-interface.result.now) (interface_content (record { id = c.in_ok-identifier.identifier; uses = c.in_ok-uses.uses; exports = c.in_ok-exports.exports })) (interface_is_copied c.args.types.now (moved c.requires.state.state c.copy_externs.new.own c.copy_externs.new.copies) c.sound.ensures c.args.id (interface_content c.index-interface.result.now) (interface_content (record { id = c.in_ok-identifier.identifier; uses = c.in_ok-uses.uses; exports = c.in_ok-exports.exports })) c.requires.source c.index-interface.ensures.entry r.1.0 r.1.1)
+    interface_stands c.args.types.now (moved c.requires.state.state c.copy_externs.new.own c.copy_externs.new.copies) c.sound.ensures (r.0.kept c.requires.state.is.kept) c.args.id (interface_content c.index-interface.result.now) (interface_content (record { id = c.in_ok-identifier.identifier; uses = c.in_ok-uses.uses; exports = c.in_ok-exports.exports })) (interface_is_copied c.args.types.now (moved c.requires.state.state c.copy_externs.new.own c.copy_externs.new.copies) c.sound.ensures c.args.id (interface_content c.index-interface.result.now) (interface_content (record { id = c.in_ok-identifier.identifier; uses = c.in_ok-uses.uses; exports = c.in_ok-exports.exports })) c.requires.source c.index-interface.ensures.entry (option_map-clone string_bytes (λ s t same. same) c.index-interface.result.now.id c.in_ok-identifier.identifier c.in_ok-identifier.ensures.cases) r.1.0 r.1.1)
 
 pub copy_world-returns : goal.copy_world-returns
 copy_world-returns t c =
     let parts = Copies-then c.args.types.now c.args.own.now c.copy_externs.new.own c.copy_externs-2.new.own c.args.copies.now c.copy_externs.new.copies c.copy_externs-2.new.copies (keys_height c.args.types.now (world_keys (world_content c.index-world.result.now))) (keys_height c.args.types.now (named_keys item_keys (named (λ k. k) c.index-world.result.now.exports.entries))) (keys_height c.args.types.now (world_keys (world_content c.index-world.result.now))) (λ s. AreMapped (IsCopiedUse c.args.types.now s) (named use_content c.index-world.result.now.uses.entries) (named use_content c.in_ok-uses.uses.entries) × AreMapped (IsCopiedItem c.args.types.now s) (named (λ k. k) c.index-world.result.now.imports.entries) (named (λ k. k) c.in_ok-imports.imports.entries)) (λ s. AreMapped (IsCopiedItem c.args.types.now s) (named (λ k. k) c.index-world.result.now.exports.entries) (named (λ k. k) c.in_ok-exports.exports.entries)) (omega arith) (world_exports_lower c.args.types.now (world_content c.index-world.result.now)) (λ s u kept run h. (uses_still c.args.types.now s u kept (RemembersTruly class_of) c.args.types.now run (named use_content c.index-world.result.now.uses.entries) (named use_content c.in_ok-uses.uses.entries) h.0, items_still c.args.types.now s u kept (RemembersTruly class_of) c.args.types.now run (named (λ k. k) c.index-world.result.now.imports.entries) (named (λ k. k) c.in_ok-imports.imports.entries) h.1)) (Copies-then c.args.types.now c.args.own.now c.copy_uses.new.own c.copy_externs.new.own c.args.copies.now c.copy_uses.new.copies c.copy_externs.new.copies (keys_height c.args.types.now (named_keys use_keys (named use_content c.index-world.result.now.uses.entries))) (keys_height c.args.types.now (named_keys item_keys (named (λ k. k) c.index-world.result.now.imports.entries))) (keys_height c.args.types.now (world_keys (world_content c.index-world.result.now))) (λ s. AreMapped (IsCopiedUse c.args.types.now s) (named use_content c.index-world.result.now.uses.entries) (named use_content c.in_ok-uses.uses.entries)) (λ s. AreMapped (IsCopiedItem c.args.types.now s) (named (λ k. k) c.index-world.result.now.imports.entries) (named (λ k. k) c.in_ok-imports.imports.entries)) (world_uses_lower c.args.types.now (world_content c.index-world.result.now)) (world_imports_lower c.args.types.now (world_content c.index-world.result.now)) (λ s u kept run h. uses_still c.args.types.now s u kept (RemembersTruly class_of) c.args.types.now run (named use_content c.index-world.result.now.uses.entries) (named use_content c.in_ok-uses.uses.entries) h) c.in_ok-uses.ensures c.in_ok-imports.ensures) c.in_ok-exports.ensures in
     Copies-enter c.args.types.now c.args.own.now c.copy_externs-2.new.own c.add_world.new.self c.args.copies.now c.copy_externs-2.new.copies c.put_world.new.self (world_key c.args.id) (world_key c.in_ok-copy.copy) (world_entry (world_content (record { id = c.in_ok-identifier.identifier; uses = c.in_ok-uses.uses; imports = c.in_ok-imports.imports; exports = c.in_ok-exports.exports }))) (keys_height c.args.types.now (world_keys (world_content c.index-world.result.now))) (λ s. (AreMapped (IsCopiedUse c.args.types.now s) (named use_content c.index-world.result.now.uses.entries) (named use_content c.in_ok-uses.uses.entries) × AreMapped (IsCopiedItem c.args.types.now s) (named (λ k. k) c.index-world.result.now.imports.entries) (named (λ k. k) c.in_ok-imports.imports.entries)) × AreMapped (IsCopiedItem c.args.types.now s) (named (λ k. k) c.index-world.result.now.exports.entries) (named (λ k. k) c.in_ok-exports.exports.entries)) c.requires.source.0 (omega (arith, c.index-world.ensures.lower))
     parts c.in_ok-copy.ensures.added (ap world_key c.in_ok-copy.ensures.id) (c.in_ok-put_world.ensures (still_absent c.args.types.now c.args.own.now c.copy_externs-2.new.own c.args.copies.now c.copy_externs-2.new.copies (world_key c.args.id) (keys_height c.args.types.now (world_keys (world_content c.index-world.result.now))) (λ s. (AreMapped (IsCopiedUse c.args.types.now s) (named use_content c.index-world.result.now.uses.entries) (named use_content c.in_ok-uses.uses.entries) × AreMapped (IsCopiedItem c.args.types.now s) (named (λ k. k) c.index-world.result.now.imports.entries) (named (λ k. k) c.in_ok-imports.imports.entries)) × AreMapped (IsCopiedItem c.args.types.now s) (named (λ k. k) c.index-world.result.now.exports.entries) (named (λ k. k) c.in_ok-exports.exports.entries)) c.index-world.ensures.lower (sym c.in_default.ensures) parts))
-    (λ s t own kept q adds. world_enters c.args.types.now s c.sound.ensures kept t c.args.id (world_content c.index-world.result.now) (world_content (record { id = c.in_ok-identifier.identifier; uses = c.in_ok-uses.uses; imports = c.in_ok-imports.imports; exports = c.in_ok-exports.exports })) (world_is_copied c.args.types.now s c.sound.ensures c.args.id (world_content c.index-world.result.now) (world_content (record { id = c.in_ok-identifier.identifier; uses = c.in_ok-uses.uses; imports = c.in_ok-imports.imports; exports = c.in_ok-exports.exports })) c.requires.source c.index-world.ensures.entry q.0.0 q.0.1 q.1) q.0.0 adds)
+    (λ s t own kept q adds. world_enters c.args.types.now s c.sound.ensures kept t c.args.id (world_content c.index-world.result.now) (world_content (record { id = c.in_ok-identifier.identifier; uses = c.in_ok-uses.uses; imports = c.in_ok-imports.imports; exports = c.in_ok-exports.exports })) (world_is_copied c.args.types.now s c.sound.ensures c.args.id (world_content c.index-world.result.now) (world_content (record { id = c.in_ok-identifier.identifier; uses = c.in_ok-uses.uses; imports = c.in_ok-imports.imports; exports = c.in_ok-exports.exports })) c.requires.source c.index-world.ensures.entry q.0.0 q.0.1 q.1) adds)
 
 pub copy_world-copy_uses-requires : goal.copy_world-copy_uses-requires
 copy_world-copy_uses-requires t c =

@@ -3,9 +3,9 @@ use Rattle.wac_names.specs.Class.{class_of}
 use Rattle.wac_narrowing.specs.Apart.{IsApart}
 use Rattle.wac_narrowing.specs.Identified.{IsCovered}
 use Rattle.wac_narrowing.specs.Remembers.{RemembersTruly}
-use Rattle.wac_narrowing.specs.Taking.{IsTakenItem, IsCopiedItem}
+use Rattle.wac_narrowing.specs.Taking.{IsTakenKey, IsCopiedKey, IsTakenItem, IsCopiedItem}
 use Rattle.wac_narrowing.specs.Values.{IsTakenValue, IsCopiedValue, SameValue}
-use Rattle.wac_narrowing.proofs.Values.{taken_value_still, copied_value_still, func_parts, funcs_more, defined_parts, defined_more, each_func, each_defined}
+use Rattle.wac_narrowing.proofs.Values.{taken_value_still, copied_value_still, func_parts, funcs_more, defined_parts, defined_more}
 use Rattle.wac_narrowing.proofs.laws.what_was_taken_in_stays_so.Goals as goal
 use Rattle.wac_narrowing.proofs.Mapped.{mapped_more, mapped_keys, memo_hit, taken_keys_still, taken_item_still, copied_item_still, taken_named, taken_each}
 
@@ -41,21 +41,19 @@ pub returns-clause-copied_values : goal.returns-clause-copied_values
 returns-clause-copied_values c = λ f g s t v w kept run. copied_value_still class_of f s t kept (RemembersTruly class_of) g run v w
 
 pub returns-clause-functions : goal.returns-clause-functions
-returns-clause-functions c = λ f s x z h. (func_parts class_of f s x z h, funcs_more (IsTakenValue class_of f s) (SameValue f s.own) (λ v w k. k.same) x z h)
+returns-clause-functions c = λ f s x z h. (func_parts (IsTakenValue class_of f s) (IsTakenKey class_of f s) (λ v w k. k.keys) x z h, funcs_more (IsTakenValue class_of f s) (SameValue f s.own) (λ v w k. k.same) x z h)
 
 pub returns-clause-defined_types : goal.returns-clause-defined_types
-returns-clause-defined_types c = λ f s x z h. (defined_parts class_of f s x z h, defined_more (IsTakenValue class_of f s) (SameValue f s.own) (λ v w k. k.same) x z h)
+returns-clause-defined_types c = λ f s x z h. (defined_parts (IsTakenValue class_of f s) (IsTakenKey class_of f s) (λ v w k. k.keys) x z h, defined_more (IsTakenValue class_of f s) (SameValue f s.own) (λ v w k. k.same) x z h)
 
 pub returns-clause-copied_functions : goal.returns-clause-copied_functions
 returns-clause-copied_functions c = λ f s x z h. (
-  each_func (IsCopiedValue f s) (Stands s.own) (λ v w k. k.stands) x z h,
-  each_func (IsCopiedValue f s) (IsApart s.own s.shared) (λ v w k. k.apart) x z h,
+  func_parts (IsCopiedValue f s) (IsCopiedKey f s) (λ v w k. k.keys) x z h,
   funcs_more (IsCopiedValue f s) (SameValue f s.own) (λ v w k. k.same) x z h,
 )
 
 pub returns-clause-copied_defined_types : goal.returns-clause-copied_defined_types
 returns-clause-copied_defined_types c = λ f s x z h. (
-  each_defined (IsCopiedValue f s) (Stands s.own) (λ v w k. k.stands) x z h,
-  each_defined (IsCopiedValue f s) (IsApart s.own s.shared) (λ v w k. k.apart) x z h,
+  defined_parts (IsCopiedValue f s) (IsCopiedKey f s) (λ v w k. k.keys) x z h,
   defined_more (IsCopiedValue f s) (SameValue f s.own) (λ v w k. k.same) x z h,
 )

@@ -41,7 +41,7 @@ returns-clause-taken c =
     (λ i. identifier_at (c.in_ok-own.ensures.added i) (last i)) ∙ ap (λ o. option_map_or entry_identifier o None) (last_at was.types (interface_entry z)).at in
     let taken = c.requires.taken.taken in
     Takes-entered f was now theirs (interface_key c.in_ok-own.own) taken.sound taken.stands pair refl
-    (AreFiledIn-put f (state_of was) (state_of now) was.shared.entries now.shared.entries c.args.class c.in_ok-own.own (string_bytes c.args.name) c.requires.state.kept refl enters.run identified (sym c.requires.of) c.in_ok-insert.ensures.updates.0 c.requires.state.filed)
+    (AreFiledIn-put f (state_of was) (state_of now) was.shared.entries now.shared.entries c.args.class c.in_ok-own.own (string_bytes c.args.name) c.requires.state.kept refl enters.run identified (sym c.requires.of) c.in_ok-insert.ensures.updates.0 c.requires.new (shares_last was.shared.entries c.insert.new.self.entries c.args.class c.in_ok-own.own entries) c.requires.state.filed)
     (λ e among. elim (shares.only e among) [
       | inl is ↦ inr (record { theirs = theirs; name = string_bytes c.args.name; walk = (theirs, here, stay); identified = c.requires.identified; own_identified = ap (identifier_at now.types) (is ∙ sym last) ∙ identified })
       | inr stood ↦ inl stood

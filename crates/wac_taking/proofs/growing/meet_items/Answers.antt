@@ -2,7 +2,8 @@ use Rattle.std.proofs.Common.{inl, inr, subst}
 use Rattle.wac_component.specs.Key.{item_keys}
 use Rattle.wac_component.proofs.Extended.{AllStand-Extends}
 use Rattle.wac_taking.specs.Growing.{IsMetIfAny}
-use Rattle.wac_taking.proofs.MergeReasons.{says_mismatch, apart_before}
+use Rattle.wac_taking.proofs.MergeReasons.{apart_before}
+use Rattle.wac_refusals.proofs.Saying.{says_mismatch}
 use Rattle.wac_refusals.proofs.Passing.{passed_on}
 use Rattle.wac_taking.proofs.growing.meet_items.Goals as goal
 
@@ -23,7 +24,7 @@ returns-in_ok-mismatch-in-None c = λ ne.
     let none = subst (IsMetIfAny c.args.types.now c.meet_own.new.types c.args.existing c.args.kind) c.in-None.is c.in_ok-met.ensures in
     inr (record {
       no_bound = apart_before c.args.types.now c.meet_own.new.types c.args.existing c.args.kind none.0 c.requires.existing c.requires.new none.1;
-      says = says_mismatch _ _ _ c.in_ok-mismatch-in-None.ensures.mismatch;
+      says = says_mismatch _ _ _ _ _ c.in_ok-mismatch-in-None.ensures.mismatch;
     })
 
 pub returns-in_err-check_uses_of : goal.returns-in_err-check_uses_of

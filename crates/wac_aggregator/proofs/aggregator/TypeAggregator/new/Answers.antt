@@ -1,9 +1,9 @@
-use Rattle.std.proofs.Common.{[], ap, arith}
+use Rattle.std.proofs.Common.{◌≡◌, [], Some, None, ap, sym, ◌∙◌, arith}
 use Rattle.wac_component.specs.Collection.{Collection}
 use Rattle.wac_imports.specs.Import.{ImportsContent, import_of}
 use Rattle.wac_imports.specs.Left.{listed}
 use Rattle.wac_aggregator.proofs.Front.{none_served}
-use Rattle.wac_aggregator.proofs.Remembering.{truly_in}
+use Rattle.wac_aggregator.proofs.Remembering.{truly_in, owners_in}
 use Rattle.wac_aggregator.proofs.aggregator.TypeAggregator.new.Goals as goal
 
 pub invariant_of-result : goal.invariant_of-result
@@ -17,6 +17,9 @@ returns-clause-empty c = c.no_imports.ensures.empty
 
 pub returns-clause-imports : goal.returns-clause-imports
 returns-clause-imports c = ap listed c.no_imports.ensures.imports
+
+pub returns-clause-owners : goal.returns-clause-owners
+returns-clause-owners c = λ f. owners_in f c.no_imports.result (λ theirs own n at number to. let no : None ≡ Some own = sym (c.no_imports.ensures.taken theirs) ∙ at in absurd (cc))
 
 pub returns-clause-remembers_nothing : goal.returns-clause-remembers_nothing
 returns-clause-remembers_nothing c =
