@@ -9,6 +9,7 @@ use Rattle.wac_component.proofs.Among.{Contains-cases}
 use Rattle.wac_names.specs.Class.{class_of}
 use Rattle.wac_call_lists.specs.Aggregated.{Aggregated, LeadsBelow, AreSteps, rests, goes_on}
 use Rattle.wac_call_lists.specs.Call.{Call, call_tree}
+use Rattle.wac_call_lists.proofs.ByTrack.{one_on}
 use Rattle.wac_call_lists.specs.Laws.{StepsServeAll}
 
 -- what a name leads to is no wider after more calls

@@ -25,7 +25,7 @@ use Rattle.wac_copies.specs.Copies.{Copies, IsCopiedAlias, IsCopiedUse, moved}
 use Rattle.wac_copies.proofs.Arms.{copied_item, copied_value, copied_content, named_stands, named_lower, used_use, used_there, used_stands, used_lower, Copies-set, Copies-place, Copies-use, types-named, one_lower, last_lower, first_lower, others_lower, cases_flat, params_stand, result_stands, params_lower, result_lower, uses_lower, world_uses_lower}
 use Rattle.wac_copies.proofs.Contents.{content_one, content_option, content_result, content_record, content_variant}
 use Rattle.wac_copies.proofs.CopyLemmas.{MayCopy-Copies, Copies-none, Copies-more, Copies-then, Copies-hit, Copies-enter, still_absent}
-use Rattle.wac_copies.proofs.Enters.{defined_stands, func_stands, interface_stands, world_stands, interface_is_copied, world_is_copied, defined_enters, func_enters, resource_enters, interface_enters, world_enters}
+use Rattle.wac_copies.proofs.Enters.{defined_stands, alias_stands, func_stands, interface_stands, world_stands, interface_is_copied, world_is_copied, defined_enters, func_enters, resource_enters, interface_enters, world_enters}
 use Rattle.wac_copies.proofs.Parts.{borrow_of_copy, own_of_copy, defined_of_copy, alias_of_copies, owner_still, uses_still, items_still, values_still, option_still}
 use Rattle.wac_copies.proofs.Placed.{ArePlaced, set_start, set_whole, set_count, named_count, length-named, placed_start, placed_whole}
 use Rattle.wac_copies.proofs.copies.+copies.Goals as goal
@@ -310,6 +310,11 @@ copy_func-add_func_type-requires t c =
     let parts = Copies-then c.args.types.now c.args.own.now c.copy_fields.new.own c.copy_optional.new.own c.args.copies.now c.copy_fields.new.copies c.copy_optional.new.copies (keys_height c.args.types.now (flat_map value_keys (types_of c.index-func.result.now.params.entries))) (keys_height c.args.types.now (optional_keys value_keys c.index-func.result.now.«result»)) (keys_height c.args.types.now (func_keys (func_content c.index-func.result.now))) (λ s. AreMapped (IsCopiedValue c.args.types.now s) (named (λ v. v) c.index-func.result.now.params.entries) (named (λ v. v) c.in_ok-params.params.entries)) (λ s. IfAny (IsCopiedValue c.args.types.now s) c.index-func.result.now.«result» c.in_ok-result.result) (params_lower c.args.types.now c.index-func.result.now.params.entries c.index-func.result.now.«result») (result_lower c.args.types.now c.index-func.result.now.params.entries c.index-func.result.now.«result») (λ s u kept run h. values_still c.args.types.now s u kept (RemembersTruly class_of) c.args.types.now run (named (λ v. v) c.index-func.result.now.params.entries) (named (λ v. v) c.in_ok-params.params.entries) h) c.in_ok-params.ensures c.in_ok-result.ensures in
     let q = (parts.runs c.requires.state.state c.requires.state.is).1 in
     func_stands c.args.types.now (moved c.requires.state.state c.copy_optional.new.own c.copy_optional.new.copies) (func_content c.index-func.result.now) (record { params = named (λ v. v) c.in_ok-params.params.entries; «result» = c.in_ok-result.result; is_async = c.index-func.result.now.is_async }) (record { params = q.0; «result» = q.1; is_async = refl })
+
+pub copy_resource-add_resource-requires : goal.copy_resource-add_resource-requires
+copy_resource-add_resource-requires t c =
+    alias_stands c.args.types.now (moved c.requires.state.state c.copy_source.new.own c.copy_source.new.copies) (option_map alias_content c.index-resource.result.now.alias) (option_map alias_content c.in_ok-alias.alias)
+    (c.in_ok-alias.ensures.runs c.requires.state.state c.requires.state.is).1
 
 pub copy_resource-returns : goal.copy_resource-returns
 copy_resource-returns t c =
