@@ -18,7 +18,7 @@ use Rattle.wac_names.specs.Class.{class_of}
 use Rattle.wac_narrowing.proofs.Mapped.{copied_item_still}
 use Rattle.wac_narrowing.proofs.Values.{copied_value_still}
 use Rattle.wac_narrowing.specs.Remembers.{RemembersTruly}
-use Rattle.wac_narrowing.specs.Taking.{AreMapped, IsCopiedItem, IsCopiedKey}
+use Rattle.wac_narrowing.specs.Taking.{AreMapped, IsCopiedItem, IsCopiedKey, no_keys}
 use Rattle.wac_narrowing.specs.Values.{IsCopiedValue, IfAny, neither, both, AreDefined}
 use Rattle.wac_narrowing.specs.Values as listed
 use Rattle.wac_copies.specs.Copies.{Copies, IsCopiedAlias, IsCopiedUse, moved}
@@ -88,7 +88,7 @@ copy_type-returns-in_ok-copy_module-in-Module t c =
 
 pub copy_value-returns-in-Primitive : goal.copy_value-returns-in-Primitive
 copy_value-returns-in-Primitive t c =
-    Copies-none c.args.types.now c.args.own.now c.args.copies.now (keys_height c.args.types.now (value_keys c.args.ty)) (λ s. IsCopiedValue c.args.types.now s c.args.ty (Primitive c.in-Primitive.ty)) (λ s h. rw c.in-Primitive.is (record { stands = tt; apart = tt; noted = tt; same = refl }))
+    Copies-none c.args.types.now c.args.own.now c.args.copies.now (keys_height c.args.types.now (value_keys c.args.ty)) (λ s. IsCopiedValue c.args.types.now s c.args.ty (Primitive c.in-Primitive.ty)) (λ s h. rw c.in-Primitive.is (record { stands = tt; apart = tt; keys = no_keys; same = refl }))
 
 pub copy_value-returns-in_ok-copy_resource-in-Borrow : goal.copy_value-returns-in_ok-copy_resource-in-Borrow
 copy_value-returns-in_ok-copy_resource-in-Borrow t c =
