@@ -9,7 +9,7 @@ use Rattle.wac_component.specs.Growth.{Extends}
 use Rattle.wac_component.specs.Key.{AllStand, item_keys}
 use Rattle.wac_component.specs.Tree.{item_tree}
 use Rattle.wac_component.specs.declared.items.ItemKind.{ItemKind}
-use Rattle.wac_merge.specs.Bounded.{IsMetAs, IsJoinedAs, AreUnlike}
+use Rattle.wac_merge.specs.Bounded.{AreIncomparable, IsMetAs, IsJoinedAs, AreUnlike}
 
 -- in any relation R of trees
 module _ (R : ItemTree → ItemTree → Type 0) where
@@ -28,6 +28,10 @@ module _ (R : ItemTree → ItemTree → Type 0) where
   -- the bound stays one while the collection grows
   pub bound_after : (d e : Collection) → Extends d e → (s t : ItemTree) (m : ItemKind) → AllStand d (item_keys m) → IsMeetIn R s t (Some (item_tree d m)) → IsMeetIn R s t (Some (item_tree e m))
   bound_after d e grown s t m sm h = subst (λ x. IsMeetIn R s t (Some x)) (sym (grown.trees m sm)) h
+
+-- two that don't compare in d didn't in c, where they stood
+pub incomparable_before : (c d : Collection) → Extends c d → (a b : ItemKind) → AllStand c (item_keys a) → AllStand c (item_keys b) → AreIncomparable (item_tree d a) (item_tree d b) → AreIncomparable (item_tree c a) (item_tree c b)
+incomparable_before c d grown a b sa sb h = subst (λ s. AreIncomparable s (item_tree c b)) (grown.trees a sa) (subst (λ t. AreIncomparable (item_tree d a) t) (grown.trees b sb) h)
 
 -- of two that fit one way
 pub met_left : (c : Collection) (a b : ItemKind) → Fits (item_tree c a) (item_tree c b) → IsMetAs c c a b (Some a)

@@ -17,7 +17,7 @@ use Rattle.wac_component.specs.declared.items.ItemKind.{ItemKind}
 use Rattle.wac_component.proofs.Extended.{Extends-trans, Extends-refl}
 use Rattle.wac_component.proofs.Among.{Contains-first, Contains-cases}
 use Rattle.wac_component.proofs.Keys.{Key-discrete}
-use Rattle.wac_merge.specs.Bounded.{IsMetAs, IsJoinedAs}
+use Rattle.wac_merge.specs.Bounded.{AreIncomparable, IsMetAs, IsJoinedAs}
 use Rattle.wac_merge.specs.Built.{Origins, IsBuilt, first, second, fresh, IsBuiltAt, of_first, of_second, of_both, AreBuilt, IsEntryFrom, of_interfaces, of_worlds, of_modules, IsMadeOf, IsAddedBuilt, OnlyBuilds}
 use Rattle.wac_merge.specs.Items.{entry_item, item_of, Externs}
 use Rattle.wac_merge.specs.Memo.{Made, first_key, second_key, entry_key}
@@ -50,8 +50,8 @@ module _ (c d e : Collection) (o q : Origins) (grown : Extends d e) (agree : Agr
   pub IsBuilt-grown : (a b y : ItemKind) → IsBuilt c d o a b y → IsBuilt c e q a b y
   IsBuilt-grown a b y (first h) = first h
   IsBuilt-grown a b y (second h) = second h
-  IsBuilt-grown a b y (fresh k m names stands new a_is b_is) =
-      fresh k m names (grown.standing m stands) new (a_is ∙ ap (λ (p : Key × Key). entry_item k p.0) (sym (agree m stands))) (b_is ∙ ap (λ (p : Key × Key). entry_item k p.1) (sym (agree m stands)))
+  IsBuilt-grown a b y (fresh k m names stands new a_is b_is apart) =
+      fresh k m names (grown.standing m stands) new (a_is ∙ ap (λ (p : Key × Key). entry_item k p.0) (sym (agree m stands))) (b_is ∙ ap (λ (p : Key × Key). entry_item k p.1) (sym (agree m stands))) apart
 
   IsBuiltAt-grown : (es ts : Externs) (n : Text) (y : ItemKind) → IsBuiltAt c d o es ts n y → IsBuiltAt c e q es ts n y
   IsBuiltAt-grown es ts n y (of_first h) = of_first h
@@ -265,6 +265,6 @@ module _ (b d e : Collection) (a : Asked) (r : EntryId) (a_entry b_entry entry :
         answer = is;
       }
 
--- an item that names an entry that was made of two
-pub made_item : (c d : Collection) (o : Origins) (k : Kind) (x y p : Key) → IsMadeOf c d o x y p → IsBuilt c d o (entry_item k x) (entry_item k y) (entry_item k p)
-made_item c d o k x y p h = fresh k p refl h.0 h.1 (ap (λ (z : Key × Key). entry_item k z.0) (sym h.2)) (ap (λ (z : Key × Key). entry_item k z.1) (sym h.2))
+-- an item that names an entry that was made of those that two items name, which don't compare
+pub made_item : (c d : Collection) (o : Origins) (a b : ItemKind) (k : Kind) (x y p : Key) → a ≡ entry_item k x → b ≡ entry_item k y → AreIncomparable (item_tree c a) (item_tree c b) → IsMadeOf c d o x y p → IsBuilt c d o a b (entry_item k p)
+made_item c d o a b k x y p a_is b_is apart h = fresh k p refl h.0 h.1 (a_is ∙ ap (λ (z : Key × Key). entry_item k z.0) (sym h.2)) (b_is ∙ ap (λ (z : Key × Key). entry_item k z.1) (sym h.2)) apart

@@ -9,7 +9,8 @@ use Rattle.wac_component.specs.Key.{Stands, AllStand, item_keys, optional_keys}
 use Rattle.wac_component.specs.Sound.{IsSound}
 use Rattle.wac_component.specs.Tree.{item_tree}
 use Rattle.wac_component.specs.declared.items.ItemKind.{ItemKind}
-use Rattle.wac_component.proofs.Keys.{Each-append}
+use Rattle.wac_component.proofs.Keys.{Each-append, Each-left, Each-right}
+use Rattle.wac_merge.specs.Bounded.{AreIncomparable}
 use Rattle.wac_merge.specs.Built.{Origins, IsBuilt, IsBuiltWith, IsMadeOf, Builds}
 use Rattle.wac_merge.specs.Items.{entry_item}
 use Rattle.wac_merge.specs.Memo.{Made, made_of, first_key, second_key, entry_key, order_of, IsBoundOf, IsTrueMemo}
@@ -18,6 +19,7 @@ use Rattle.wac_merge.specs.declared.memo.Bound.{Bound}
 use Rattle.wac_merge.specs.declared.memo.EntryId.{EntryId}
 use Rattle.wac_merge.specs.declared.memo.Memo.{Memo}
 use Rattle.wac_merge.specs.declared.memo.Pair.{Pair}
+use Rattle.wac_merge.proofs.BoundLemmas.{incomparable_before}
 use Rattle.wac_merge.proofs.BuiltLemmas.{made_item, nothing_built, nothing_made}
 use Rattle.wac_merge.proofs.ItemKeys.{entry_item-keys}
 use Rattle.wac_merge.proofs.OneLemmas.{ones}
@@ -38,29 +40,20 @@ module _ (a b : ItemKind) (k : Kind) (p : Pair) (is_a : a ≡ entry_item k (firs
       (subst (λ x. IsMeetIn (order_of t) (item_tree d (entry_item k (first_key p))) (item_tree d x) (option_map (item_tree e) r)) (sym is_b)
       (subst (λ x. IsMeetIn (order_of t) (item_tree d (entry_item k (first_key p))) (item_tree d (entry_item k (second_key p))) (option_map (item_tree e) x)) (sym is) (h k)))
 
-  -- what was made of the entries is built of the items
-  built_of : (c e : Collection) (o : Origins) (m : Option EntryId) (r : Option ItemKind) → r ≡ option_map (λ n. entry_item k (entry_key n)) m
+  -- what was made of the entries is built of the items, which don't compare
+  built_of : (c e : Collection) (o : Origins) (m : Option EntryId) (r : Option ItemKind) → r ≡ option_map (λ n. entry_item k (entry_key n)) m → AreIncomparable (item_tree c a) (item_tree c b)
       → IfSome m (λ n. IsMadeOf c e o (first_key p) (second_key p) (entry_key n)) → IfSome r (IsBuilt c e o a b)
-  built_of c e o None r is h = subst (λ z. IfSome z (IsBuilt c e o a b)) (sym is) tt
-  built_of c e o (Some m) r is h =
-      subst (λ z. IfSome z (IsBuilt c e o a b)) (sym is)
-      (subst (λ z. IsBuilt c e o z b (entry_item k (entry_key m))) (sym is_a)
-      (subst (λ z. IsBuilt c e o (entry_item k (first_key p)) z (entry_item k (entry_key m))) (sym is_b)
-      (made_item c e o k (first_key p) (second_key p) (entry_key m) h)))
+  built_of c e o None r is apart h = subst (λ z. IfSome z (IsBuilt c e o a b)) (sym is) tt
+  built_of c e o (Some m) r is apart h = subst (λ z. IfSome z (IsBuilt c e o a b)) (sym is) (made_item c e o a b k (first_key p) (second_key p) (entry_key m) is_a is_b apart h)
 
   -- a run over the entries is one over the items
-  Runs-items : {ms ns : Made} (d e : Collection) (A B : Collection → Origins → Type 0) → ((c : Collection) (o : Origins) → A c o → B c o) → Runs (first_key p ∷ second_key p ∷ []) d ms e ns A → Runs (item_keys a ++ item_keys b) d ms e ns B
-  Runs-items d e A B f run = λ c o sound stand only made.
-      let r = run c o sound (subst (AllStand c) keys_are stand) only made in
-      record { origins = r.origins; agree = r.agree; only = r.only; made = r.made; answer = f c r.origins r.answer }
-
-  pub Runs-built : {ms ns : Made} (d e : Collection) (m : Option EntryId) (r : Option ItemKind) → r ≡ option_map (λ n. entry_item k (entry_key n)) m
+  pub Runs-built : {ms ns : Made} (d e : Collection) (m : Option EntryId) (r : Option ItemKind) → r ≡ option_map (λ n. entry_item k (entry_key n)) m → AreIncomparable (item_tree d a) (item_tree d b)
       → Runs (first_key p ∷ second_key p ∷ []) d ms e ns (λ c o. IfSome m (λ n. IsMadeOf c e o (first_key p) (second_key p) (entry_key n)))
       → Runs (item_keys a ++ item_keys b) d ms e ns (λ c o. IfSome r (IsBuilt c e o a b))
-  Runs-built d e m r is run = Runs-items d e (λ c o. IfSome m (λ n. IsMadeOf c e o (first_key p) (second_key p) (entry_key n))) (λ c o. IfSome r (IsBuilt c e o a b)) (λ c o. built_of c e o m r is) run
-
-  pub Runs-refused : {ms ns : Made} (d e : Collection) (A B : Collection → Origins → Type 0) → ((c : Collection) (o : Origins) → B c o) → Runs (first_key p ∷ second_key p ∷ []) d ms e ns A → Runs (item_keys a ++ item_keys b) d ms e ns B
-  Runs-refused d e A B f run = Runs-items d e A B (λ c o h. f c o) run
+  Runs-built d e m r is apart run = λ c o sound stand only made.
+      let s = run c o sound (subst (AllStand c) keys_are stand) only made in
+      let before : AreIncomparable (item_tree c a) (item_tree c b) = incomparable_before c d only.extends a b (Each-left (Stands c) (item_keys a) (item_keys b) stand) (Each-right (Stands c) (item_keys a) (item_keys b) stand) apart in
+      record { origins = s.origins; agree = s.agree; only = s.only; made = s.made; answer = built_of c e s.origins m r is before s.answer }
 
 -- an item, built with what the other side has
 pub Runs-with : {ms ns : Made} (d e : Collection) (a : ItemKind) (o : Option ItemKind) (b : ItemKind) → o ≡ Some b → (r : Result (Option ItemKind) AllocError)

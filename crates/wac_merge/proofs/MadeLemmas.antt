@@ -4,7 +4,6 @@ use Rattle.wac_model.specs.CoreTree.{ModuleTree}
 use Rattle.wac_model.specs.ItemTree.{Kind}
 use Rattle.std.specs.Str.{bytes_eq}
 use Rattle.wac_core_merge.specs.NameOrder.{HasAllNames, HasSomeNames}
-use Rattle.wac_core_merge.specs.Origin.{IsModuleFrom}
 use Rattle.wac_component.specs.Id.{Id}
 use Rattle.wac_component.specs.Collection.{Collection, InterfaceContent, WorldContent}
 use Rattle.wac_component.specs.Growth.{Extends, with_entry}
@@ -17,7 +16,7 @@ use Rattle.wac_component.proofs.Keys.{Each-append}
 use Rattle.wac_component.proofs.Last.{IsLast}
 use Rattle.wac_component.proofs.Members.{exports_stand}
 use Rattle.wac_merge.specs.Bounded.{IsMetAs, IsJoinedAs}
-use Rattle.wac_merge.specs.Built.{Origins, uses_of_both, AreBuilt, of_interfaces, of_worlds, of_modules, IsMadeOf}
+use Rattle.wac_merge.specs.Built.{Origins, uses_of_both, AreBuilt, IsModuleBuilt, of_interfaces, of_worlds, of_modules, IsMadeOf}
 use Rattle.wac_merge.specs.Items.{Externs, extern_keys, entry_item}
 use Rattle.wac_merge.specs.Memo.{Made, made_of, first_key, second_key, entry_key, IsMade, before, now}
 use Rattle.wac_merge.specs.Reads.{imports_at, exports_at, HasExports, IsInterfaceOfBoth, IsWorldOfBoth, IsModuleAdded}
@@ -54,14 +53,14 @@ made_in {ms = ms} ks b d e m n a r A IsAdded (before there here same) run f =
 made_in {ms = ms} ks b d e m n a r A IsAdded (now new added put same) run f =
     subst (λ (l : Made). Runs ks b ms e l (λ c o. IsMadeOf c e o (first_key a.pair) (second_key a.pair) (entry_key r))) (sym put) (f added)
 
-pub module_made : (c d : Collection) (m n : Memo) (u : Bound) (x y : Id) (r : EntryId) (s t mt : ModuleTree) → slice_get c.modules x.index ≡ Some s → slice_get c.modules y.index ≡ Some t → IsModuleFrom s t mt
+pub module_made : (c d : Collection) (m n : Memo) (u : Bound) (x y : Id) (r : EntryId) (s t mt : ModuleTree) → slice_get c.modules x.index ≡ Some s → slice_get c.modules y.index ≡ Some t → IsModuleBuilt s t mt
     → Extends c d → IsMade c m d n (record { bound = u; pair = Modules x y }) r ((q : Id) × (r ≡ Module q) × IsModuleAdded c d mt q)
     → IsBound c d (λ k. entry_item k (module_key x)) (λ k. entry_item k (module_key y)) (λ k. entry_item k (entry_key r))
     → Runs (module_key x ∷ module_key y ∷ []) c (made_of m) d (made_of n) (λ b o. IsMadeOf b d o (module_key x) (module_key y) (entry_key r))
-module_made c d m n u x y r s t mt at_x at_y is_from grown made bound =
+module_made c d m n u x y r s t mt at_x at_y is_built grown made bound =
     made_in (module_key x ∷ module_key y ∷ []) c c d m n (record { bound = u; pair = Modules x y }) r (λ b o. Unit {0}) ((q : Id) × (r ≡ Module q) × IsModuleAdded c d mt q) made none
     (λ h. Runs-made c c d (record { bound = u; pair = Modules x y }) r (module_entry s) (module_entry t) (module_entry mt) (λ b o. Unit {0}) (Extends-refl c) grown (leaves_of_module c d mt h.2.added)
-    (subst (λ z. IsLast c d (module_entry mt) (entry_key z)) (sym h.1) (module_last c d h.0 mt h.2.added h.2.placed)) (module_at c x s at_x) (module_at c y t at_y) (λ b o g. of_modules is_from) bound none)
+    (subst (λ z. IsLast c d (module_entry mt) (entry_key z)) (sym h.1) (module_last c d h.0 mt h.2.added h.2.placed)) (module_at c x s at_x) (module_at c y t at_y) (λ b o g. of_modules is_built) bound none)
   where
     none : Runs (module_key x ∷ module_key y ∷ []) c (made_of m) c (made_of m) (λ b o. Unit {0})
     none = Runs-none (module_key x ∷ module_key y ∷ []) c c (λ b o. Unit {0}) refl (λ b o. tt)

@@ -6,15 +6,16 @@ use Rattle.wac_model.specs.Text.{Text, lookup}
 use Rattle.wac_model.specs.CoreTree.{ModuleTree}
 use Rattle.wac_model.specs.ItemTree.{Kind}
 use Rattle.wac_core_merge.specs.Names.{with_new}
-use Rattle.wac_core_merge.specs.NameOrder.{HasAllNames, HasSomeNames}
+use Rattle.wac_core_merge.specs.NameOrder.{HasAllNames, HasSomeNames, IsMeetInOrder, IsJoinInOrder}
 use Rattle.wac_core_merge.specs.Origin.{IsModuleFrom}
 use Rattle.wac_component.specs.Collection.{Collection, UseContent, InterfaceContent, WorldContent}
 use Rattle.wac_component.specs.Key.{Key, Entry, interface_entry, world_entry, module_entry, entry_at, Stands}
 use Rattle.wac_component.specs.Growth.{Extends}
 use Rattle.wac_component.specs.Laws.{HasLeavesOf}
+use Rattle.wac_component.specs.Tree.{item_tree}
 use Rattle.wac_component.specs.declared.items.ItemKind.{ItemKind}
 use Rattle.wac_merge.specs.Items.{entry_item, Externs}
-use Rattle.wac_merge.specs.Bounded.{IsMetAs, IsJoinedAs}
+use Rattle.wac_merge.specs.Bounded.{AreIncomparable, IsMetAs, IsJoinedAs}
 use Rattle.wac_merge.specs.declared.memo.Bound.{Bound}
 use Rattle.wac_merge.specs.declared.memo.Bound.TheVariants.{Meet, Join}
 
@@ -22,11 +23,13 @@ use Rattle.wac_merge.specs.declared.memo.Bound.TheVariants.{Meet, Join}
 abbrev pub Origins : Type 0
 Origins = Key → Key × Key
 
--- y is one of the two items, or names an entry that was added for the two that they name
+-- y is one of the two items, or names an entry that was added for the two that they name, where
+-- neither of the two items fits where the other is asked for
 pub data IsBuilt (c d : Collection) (o : Origins) (a b y : ItemKind) : Type 0 where
   first : y ≡ a → IsBuilt c d o a b y
   second : y ≡ b → IsBuilt c d o a b y
-  fresh : (k : Kind) (m : Key) → y ≡ entry_item k m → Stands d m → ¬ (Stands c m) → a ≡ entry_item k (o m).0 → b ≡ entry_item k (o m).1 → IsBuilt c d o a b y
+  fresh : (k : Kind) (m : Key) → y ≡ entry_item k m → Stands d m → ¬ (Stands c m) → a ≡ entry_item k (o m).0 → b ≡ entry_item k (o m).1
+      → AreIncomparable (item_tree c a) (item_tree c b) → IsBuilt c d o a b y
 
 -- y stands under the name in one of the two lists, or is built of what both have there
 pub data IsBuiltAt (c d : Collection) (o : Origins) (es ts : Externs) (n : Text) (y : ItemKind) : Type 0 where
@@ -61,11 +64,16 @@ pub record IsWorldFrom (c d : Collection) (o : Origins) (a b e : WorldContent) :
   pub exports : AreBuilt c d o a.exports b.exports e.exports
   pub names : (HasAllNames bytes_eq a.exports b.exports e.exports × HasSomeNames bytes_eq a.imports e.imports) ⊎ (HasSomeNames bytes_eq a.exports e.exports × HasAllNames bytes_eq a.imports b.imports e.imports)
 
+-- of a meet all exports and some imports, of a join some exports and all imports
+pub record IsModuleBuilt (a b e : ModuleTree) : Type 0 where
+  pub from : IsModuleFrom a b e
+  pub order : IsMeetInOrder a b e ⊎ IsJoinInOrder a b e
+
 -- an interface of two interfaces, a world of two worlds, a core module of two core modules
 pub data IsEntryFrom (c d : Collection) (o : Origins) : Entry → Entry → Entry → Type 0 where
   of_interfaces : {a b e : InterfaceContent} → IsInterfaceFrom c d o a b e → IsEntryFrom c d o (interface_entry a) (interface_entry b) (interface_entry e)
   of_worlds : {a b e : WorldContent} → IsWorldFrom c d o a b e → IsEntryFrom c d o (world_entry a) (world_entry b) (world_entry e)
-  of_modules : {a b e : ModuleTree} → IsModuleFrom a b e → IsEntryFrom c d o (module_entry a) (module_entry b) (module_entry e)
+  of_modules : {a b e : ModuleTree} → IsModuleBuilt a b e → IsEntryFrom c d o (module_entry a) (module_entry b) (module_entry e)
 
 -- the entry is new, and was made of the two
 abbrev pub IsMadeOf : Collection → Collection → Origins → Key → Key → Key → Type 0

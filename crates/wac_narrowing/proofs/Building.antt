@@ -69,7 +69,7 @@ module _ (c d : Collection) (o : Origins) (s : IsSound c) (only : OnlyBuilds c d
     pub from_built : (a b y : ItemKind) → IsBuilt c d o a b y → AreOld (item_keys a) → AreOld (item_keys b) → Each IsFrom (item_keys y)
     from_built a b y (first is) ha hb = subst (λ (x : ItemKind). Each IsFrom (item_keys x)) (sym is) (from_old (item_keys a) ha)
     from_built a b y (second is) ha hb = subst (λ (x : ItemKind). Each IsFrom (item_keys x)) (sym is) (from_old (item_keys b) hb)
-    from_built a b y (fresh k m is stands new a_is b_is) ha hb =
+    from_built a b y (fresh k m is stands new a_is b_is _) ha hb =
         let left = entry_item_each P k (o m).0 (subst (λ (x : ItemKind). Each P (item_keys x)) a_is ha.1) in
         let right = entry_item_each P k (o m).1 (subst (λ (x : ItemKind). Each P (item_keys x)) b_is hb.1) in
         subst (λ (x : ItemKind). Each IsFrom (item_keys x)) (sym is) (each_entry_item IsFrom k m (made stands new left right))

@@ -51,7 +51,7 @@ module _ (P : Collection → Key → Type 0) where
     pub built_export : (n : Text) (a b y : ItemKind) → IsBuilt c d o a b y → IsExportFrom P n (item_tree c a) × AllStand c (item_keys a) → IsExportFrom P n (item_tree c b) × AllStand c (item_keys b) → IsExportFrom P n (item_tree d y)
     built_export n a b y (first is) ha hb = subst (λ x. IsExportFrom P n (item_tree d x)) (sym is) (same_tree n a ha)
     built_export n a b y (second is) ha hb = subst (λ x. IsExportFrom P n (item_tree d x)) (sym is) (same_tree n b hb)
-    built_export n a b y (fresh k m is stands new a_is b_is) ha hb = elim (only.added m stands) [
+    built_export n a b y (fresh k m is stands new a_is b_is _) ha hb = elim (only.added m stands) [
       | inl old ↦ absurd (new old)
       | inr added ↦ subst (λ x. IsExportFrom P n (item_tree d x)) (sym is)
           (bound_export n k m added (subst (λ x. IsExportFrom P n (item_tree c x)) a_is ha.0) (subst (λ x. IsExportFrom P n (item_tree c x)) b_is hb.0))

@@ -489,7 +489,8 @@ pub items::meet_items-returns-clause-built : goal.items::meet_items-returns-clau
 items::meet_items-returns-clause-built t c =
     let alike = rw c.in-Some.is at c.pair_of.ensures.alike in
     Runs-after (item_keys c.args.a ++ item_keys c.args.b) c.args.types.now c.meet_entries.new.types _ (c.in_ok-fits-2.ensures.made ∙ c.in_ok-fits.ensures.made)
-    (Runs-built c.args.a c.args.b (kind_of c.in-Some.is_type) c.in-Some.pair alike.0 alike.1 c.args.types.now c.meet_entries.new.types c.in_ok-met.met c.item_of.result c.item_of.ensures c.in_ok-met.ensures.built)
+    (Runs-built c.args.a c.args.b (kind_of c.in-Some.is_type) c.in-Some.pair alike.0 alike.1 c.args.types.now c.meet_entries.new.types c.in_ok-met.met c.item_of.result c.item_of.ensures
+    (λ h. let yes = c.in_ok-fits.ensures.answer.1 h in let no = c.if-branch.false in cc, λ h. let yes = c.in_ok-fits-2.ensures.answer.1 h in let no = c.if-branch-2.false in cc) c.in_ok-met.ensures.built)
 
 pub items::meet_entries-returns-in-Some-clause-met : goal.items::meet_entries-returns-in-Some-clause-met
 items::meet_entries-returns-in-Some-clause-met t c =
@@ -508,7 +509,8 @@ pub items::join_items-returns-clause-built : goal.items::join_items-returns-clau
 items::join_items-returns-clause-built t c =
     let alike = rw c.in-Some.is at c.pair_of.ensures.alike in
     Runs-after (item_keys c.args.a ++ item_keys c.args.b) c.args.types.now c.join_entries.new.types _ (c.in_ok-fits-2.ensures.made ∙ c.in_ok-fits.ensures.made)
-    (Runs-built c.args.a c.args.b (kind_of c.in-Some.is_type) c.in-Some.pair alike.0 alike.1 c.args.types.now c.join_entries.new.types c.in_ok-joined.joined c.item_of.result c.item_of.ensures c.in_ok-joined.ensures.built)
+    (Runs-built c.args.a c.args.b (kind_of c.in-Some.is_type) c.in-Some.pair alike.0 alike.1 c.args.types.now c.join_entries.new.types c.in_ok-joined.joined c.item_of.result c.item_of.ensures
+    (λ h. let yes = c.in_ok-fits.ensures.answer.1 h in let no = c.if-branch.false in cc, λ h. let yes = c.in_ok-fits-2.ensures.answer.1 h in let no = c.if-branch-2.false in cc) c.in_ok-joined.ensures.built)
 
 pub items::join_entries-returns-in-Some-clause-joined : goal.items::join_entries-returns-in-Some-clause-joined
 items::join_entries-returns-in-Some-clause-joined t c =

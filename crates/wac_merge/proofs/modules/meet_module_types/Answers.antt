@@ -27,4 +27,4 @@ returns-in_ok-module_of-in-Some-clause-standing c = (is_done c).stands
 pub returns-in_ok-module_of-in-Some-clause-built : goal.returns-in_ok-module_of-in-Some-clause-built
 returns-in_ok-module_of-in-Some-clause-built c =
     module_made c.args.types.now c.module_of.new.types c.args.memo.now c.module_of.new.memo Meet c.args.x c.args.y c.in_ok-module_of-in-Some.field-0 (module_content c.index.result.now) (module_content c.index-2.result.now) (module_content c.in-Some.ty)
-    c.index.ensures.entry c.index-2.ensures.entry (rw c.in-Some.is at c.in_ok-ty.ensures.names) c.in_ok-module_of-in-Some.ensures.grows c.in_ok-module_of-in-Some.ensures.made (inl (is_done c).bound)
+    c.index.ensures.entry c.index-2.ensures.entry record { from = rw c.in-Some.is at c.in_ok-ty.ensures.names; order = inl (rw c.in-Some.is at c.in_ok-ty.ensures.order) } c.in_ok-module_of-in-Some.ensures.grows c.in_ok-module_of-in-Some.ensures.made (inl (is_done c).bound)
