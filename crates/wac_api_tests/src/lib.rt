@@ -3,6 +3,8 @@
 #![tactic(auto)]
 
 #[cfg(test)]
+mod aggregated;
+#[cfg(test)]
 mod collections;
 #[cfg(test)]
 mod errors;

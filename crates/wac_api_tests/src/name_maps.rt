@@ -11,11 +11,11 @@ use wac_types::{NameError, NameMap, NameMapIntern};
 
 type Map = NameMap<usize, u32>;
 
-// The value under a name, 0 where it can't be told.
+// The value under a name, 99 where it can't be told.
 fn value<I: NameMapIntern<Key = usize>>(map: &Map, cx: &I, name: &str) -> Option<u32> {
     match map.get(name, cx) {
         Ok(value) => value.copied(),
-        Err(_) => Some(0),
+        Err(_) => Some(99),
     }
 }
 
@@ -47,6 +47,45 @@ fn two_maps_of_one_interner_know_nothing_of_each_other(rt: HostRuntime) -> Resul
     assert_eq!(&rt; cx.intern(rt.alloc(), "a:b/c@1")?, 1000);
     assert!(&rt; stands_alone(rt.alloc(), &mut cx));
     assert!(&rt; stands_alone(rt.alloc(), &mut cx));
+    Ok(())
+}
+
+// Puts two names, refuses one of them again, and puts two versions on a track.
+fn fill_versions(map: &mut Map, cx: &mut Countdown) -> bool {
+    put(map, cx, "a", 0);
+    put(map, cx, "b", 1);
+    let again = map.insert("a", cx, false, 7);
+    put(map, cx, "a:b/c@1.0.0", 2);
+    put(map, cx, "a:b/c@1.0.1", 3);
+    matches!(again, Err(NameError::Twice { .. }))
+}
+
+// Whether a map that was filled so keeps the first value, and finds the greatest version.
+fn finds_versions(map: &Map, cx: &Countdown) -> bool {
+    let kept = value(map, cx, "a");
+    let same = value(map, cx, "a:b/c@1.0.0");
+    let greatest = value(map, cx, "a:b/c@1.1.0");
+    let other = value(map, cx, "c");
+    [kept, same, greatest, other] == [Some(0), Some(2), Some(3), None]
+}
+
+// Puts two names whose versions differ in build metadata alone.
+fn fill_builds(map: &mut Map, cx: &mut Countdown) {
+    put(map, cx, "a:b/c@1.0.0+a", 1);
+    put(map, cx, "a:b/c@1.0.0+b", 2);
+}
+
+// Both maps are filled before either is asked.
+#[test]
+fn two_maps_of_one_interner_find_their_own_versions(rt: HostRuntime) -> Result<(), Fail> {
+    let mut cx = Countdown::new(rt.alloc());
+    assert_eq!(&rt; cx.intern(rt.alloc(), "a:b/c@1")?, 1000);
+    let mut versions: Map = NameMap::new(rt.alloc());
+    let mut builds: Map = NameMap::new(rt.alloc());
+    assert!(&rt; fill_versions(&mut versions, &mut cx));
+    fill_builds(&mut builds, &mut cx);
+    assert!(&rt; finds_versions(&versions, &cx));
+    assert_eq!(&rt; value(&builds, &cx, "a:b/c@1.0.5"), Some(2));
     Ok(())
 }
 
