@@ -39,8 +39,8 @@ says_mismatch before check a b (Kinds x y) h = absurd h
 says_mismatch before check a b (Mismatch frames error) h = of_no error (clash_is_no check error h.0 a b h.2)
   where
     of_no : (error : SubtypeError) → IsNo error → said (Mismatch frames error) ≡ Some mismatch
-    of_no (Disagree path fault) no = refl
-    of_no NoMemory no = absurd no
+    of_no (Disagree path fault) is = refl
+    of_no NoMemory is = absurd is
 says_mismatch before check a b (UsedInterface n x y) h = absurd h
 says_mismatch before check a b (UsedName n) h = absurd h
 says_mismatch before check a b (NoIdentifier n) h = absurd h
