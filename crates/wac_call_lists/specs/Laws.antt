@@ -71,7 +71,7 @@ LeafInstancesFollowLeaves = (c d : Collection) (i : Id) → IsSound c → IsSoun
 abbrev pub MeetsAreUnions : Type 0
 MeetsAreUnions = (t : ItemTree) (ts : List ItemTree) (m : ItemTree) → All IsLeafMap (t ∷ ts) → IsMeet m (t ∷ ts) ↔ IsUnionOf m (t ∷ ts)
 
--- no refusal can come at a call of a compatible WIT list
+-- at a call of a compatible WIT list there is no reason on one track
 abbrev pub CompatibleListsAreAccepted : Type 0
 CompatibleListsAreAccepted = (front : List Call) (call : Call) (imports : Imports) (why : Refusal)
     → IsWitList (front ++ call ∷ []) → AreSoundCalls (front ++ call ∷ []) → IsCompatibleWitList (front ++ call ∷ [])

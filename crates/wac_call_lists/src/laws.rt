@@ -48,7 +48,8 @@ pub fn meets_are_unions()
     ensures { MeetsAreUnions }
 {}
 
-/// Where a WIT list is compatible, nothing stands at its last call for which it could be refused.
+/// Where a WIT list is compatible, no reason on one track stands at its last call. Of other rows of
+/// the table of reasons this says nothing: that the list is accepted is `wit_runs_answer`.
 pub fn compatible_lists_are_accepted()
     ensures { CompatibleListsAreAccepted }
 {}

@@ -25,7 +25,7 @@ use Rattle.wac_narrowing.specs.Entering.{AddsEntry, InterfaceIsTaken, WorldIsTak
 use Rattle.wac_narrowing.specs.Identified.{used_names}
 use Rattle.wac_narrowing.specs.Leaves.{SaysSame, same_func, same_defined, same_resource, same_module}
 use Rattle.wac_narrowing.specs.State.{State, IsKept}
-use Rattle.wac_narrowing.specs.Taking.{AreMapped, none, one, AreTakenKeys, no_keys, one_key, IsTakenItem, IsCopiedItem}
+use Rattle.wac_narrowing.specs.Taking.{AreMapped, none, one, AreTakenKeys, no_keys, one_key, IsTakenKey, IsTakenItem, IsCopiedItem}
 use Rattle.wac_narrowing.specs.Values.{IsTakenValue, SameValue, IfAny, neither, both, AreFuncs, AreDefined}
 use Rattle.wac_narrowing.proofs.Entering.{interface_parts, interface_named, world_parts, world_named as world_names, world_enters as world_goes}
 use Rattle.wac_narrowing.proofs.EnteringLeaves.{leaf_enters, says_same}
@@ -174,12 +174,12 @@ module _ (f : Collection) (s : State) where
       pub defined_enters : (p : Id) (x z : DefinedContent) → Stands f (defined_key p) → slice_get f.defined p.index ≡ Some x → AreDefined (IsTakenValue class_of f s) x z → AddsEntry f s t (defined_key p) (defined_entry z) → t.shared ≡ s.shared
           → Enters f s t (defined_key p) (defined_entry z)
       defined_enters p x z st at h adds same =
-          leaf (defined_key p) (defined_entry x) (defined_entry z) (record { exports = refl; uses = refl; imports = refl }) (record { exports = refl; uses = refl; imports = refl }) st (defined_at f p x at) (defined_stands x z h) (same_defined at (defined_more (IsTakenValue class_of f s) (SameValue f s.own) (λ v w c. c.same) x z h)) (defined_parts class_of f s x z h) (λ r e. absurd (let no : defined_sort ≡ resource_sort = ap (λ (k : Key). k.sort) e in cc)) adds same
+          leaf (defined_key p) (defined_entry x) (defined_entry z) (record { exports = refl; uses = refl; imports = refl }) (record { exports = refl; uses = refl; imports = refl }) st (defined_at f p x at) (defined_stands x z h) (same_defined at (defined_more (IsTakenValue class_of f s) (SameValue f s.own) (λ v w c. c.same) x z h)) (defined_parts (IsTakenValue class_of f s) (IsTakenKey class_of f s) (λ v w c. c.keys) x z h) (λ r e. absurd (let no : defined_sort ≡ resource_sort = ap (λ (k : Key). k.sort) e in cc)) adds same
 
       pub func_enters : (p : Id) (x z : FuncContent) → Stands f (func_key p) → slice_get f.funcs p.index ≡ Some x → AreFuncs (IsTakenValue class_of f s) x z → AddsEntry f s t (func_key p) (func_entry z) → t.shared ≡ s.shared
           → Enters f s t (func_key p) (func_entry z)
       func_enters p x z st at h adds same =
-          leaf (func_key p) (func_entry x) (func_entry z) (record { exports = refl; uses = refl; imports = refl }) (record { exports = refl; uses = refl; imports = refl }) st (func_at f p x at) (func_stands x z h) (same_func at (funcs_more (IsTakenValue class_of f s) (SameValue f s.own) (λ v w c. c.same) x z h)) (func_parts class_of f s x z h) (λ r e. absurd (let no : func_sort ≡ resource_sort = ap (λ (k : Key). k.sort) e in cc)) adds same
+          leaf (func_key p) (func_entry x) (func_entry z) (record { exports = refl; uses = refl; imports = refl }) (record { exports = refl; uses = refl; imports = refl }) st (func_at f p x at) (func_stands x z h) (same_func at (funcs_more (IsTakenValue class_of f s) (SameValue f s.own) (λ v w c. c.same) x z h)) (func_parts (IsTakenValue class_of f s) (IsTakenKey class_of f s) (λ v w c. c.keys) x z h) (λ r e. absurd (let no : func_sort ≡ resource_sort = ap (λ (k : Key). k.sort) e in cc)) adds same
 
       alias_imported : (r : Id) (x : ResourceContent) (y : Option AliasContent) → slice_get f.resources r.index ≡ Some x → IfAny (IsTakenAlias f s) x.alias y → IsOwnerImported f s (owner_at f r)
       alias_imported r x y at h i n is named = go x.alias y h (sym (ap (λ o. option_and_then (λ (e : ResourceContent). option_and_then (λ (a : AliasContent). a.owner) e.alias) o) at) ∙ is)
