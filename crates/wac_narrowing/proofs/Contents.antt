@@ -1,7 +1,5 @@
 -- The trees of interfaces and worlds whose names are served.
-use Rattle.std.proofs.Common.{◌≡◌, ◌<◌, ℕ, List, length, Option, Some, None, slice_get, get_or, ◌≤◌, ◌⊎◌, inl, inr, refl, sym, subst, arith}
-use Rattle.std.proofs.lemmas.List.{length-map}
-use Rattle.std.proofs.lemmas.Option.{slice_get_cases}
+use Rattle.std.proofs.Common.{◌≡◌, List, Option, Some, None, slice_get, refl, sym, subst}
 use Rattle.std.specs.Str.{bytes_eq}
 use Rattle.wac_model.specs.Text.{Text, lookup}
 use Rattle.wac_model.specs.CoreTree.{Serves}
@@ -10,7 +8,7 @@ use Rattle.wac_model.specs.Order.{Fits}
 use Rattle.wac_model.proofs.Serves.{Serves-refl}
 use Rattle.wac_component.specs.Id.{Id}
 use Rattle.wac_component.specs.Collection.{Collection, InterfaceContent, WorldContent}
-use Rattle.wac_component.specs.Key.{interface_entry, world_entry, interface_key, world_key, Stands}
+use Rattle.wac_component.specs.Key.{interface_key, world_key, Stands}
 use Rattle.wac_component.specs.Sound.{IsSound}
 use Rattle.wac_component.specs.Tree.{item_tree, externs}
 use Rattle.wac_component.specs.declared.items.ItemKind.{ItemKind}
