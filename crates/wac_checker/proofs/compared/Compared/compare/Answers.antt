@@ -51,6 +51,6 @@ returns-in-Unfit-clause-answer c = (λ no. absurd (cc (no)), λ fits. absurd (le
 
 pub loop-above-preserved : goal.loop-above-preserved
 loop-above-preserved c = record {
-  way = under_way_below c.args.at.now c.args.bt.now c.args.asked (pairs_of c.loop-above.self.fitting) c.loop-above.above.items c.push_step.new.open.items c.loop-above.step c.in-Below.index c.in-Below.pair c.loop-above.invariant.way (rw c.in-Below.is at c.in_ok-turn.ensures) c.in_ok-push_step-in-Below.ensures;
+  way = under_way_below c.args.at.now c.args.bt.now c.args.asked (pairs_of c.loop-above.self.fitting) c.loop-above.above.items c.push_step.new.steps.items c.loop-above.step c.in-Below.index c.in-Below.pair c.loop-above.invariant.way (rw c.in-Below.is at c.in_ok-turn.ensures) c.in_ok-push_step-in-Below.ensures;
   truly = c.loop-above.invariant.truly;
 }
