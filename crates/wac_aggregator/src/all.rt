@@ -1,6 +1,7 @@
 //! Lists of calls.
 
 ghost use Rattle.std.specs.Prelude.{◌≡◌, ◌≢◌, ◌<◌, Some, Contains, IfErr, IfOk, MatchResult, length, slice_get, take};
+ghost use Rattle.wac_component.specs.Collection.{Collection};
 ghost use Rattle.wac_component.specs.Key.{AllStand, item_keys};
 ghost use Rattle.wac_checker.specs.Cache.{without_number};
 ghost use Rattle.wac_checker.specs.Checker.{direction, depth, remembered};
@@ -8,11 +9,14 @@ ghost use Rattle.wac_call_lists.specs.Aggregated.{IsAggregated, IsByTrack, track
 ghost use Rattle.wac_call_lists.specs.Answer.{accepted, refused, IsPlainAnswer, IsWitAnswer};
 ghost use Rattle.wac_call_lists.specs.PlainList.{IsPlainList};
 ghost use Rattle.wac_call_lists.specs.WitList.{IsWitList};
+ghost use Rattle.wac_names.specs.Class.{class_of};
+ghost use Rattle.wac_narrowing.specs.Remembers.{RemembersTruly};
 ghost use Rattle.wac_refusals.specs.declared.error.AggregateError.TheVariants.{Memory};
 ghost use Rattle.wac_call_lists.specs.Call as listed;
 ghost use Rattle.wac_aggregator.specs.HandedIn.{handed_in};
 ghost use Rattle.wac_aggregator.specs.After.{HasReasonAfter};
-ghost use Rattle.wac_aggregator.specs.Content.{shown};
+ghost use Rattle.wac_aggregator.specs.Content.{shown, state_in};
+ghost use Rattle.wac_aggregator.specs.Served.{IsOneOf};
 
 use super::aggregator::TypeAggregator;
 use super::importing::advance;
@@ -54,6 +58,9 @@ pub struct Call<'a> {
 /// comes only where there is reason, with a collection whose imports serve the calls before it; of
 /// what else that holds nothing is said.
 ///
+/// What is remembered is true of the collections of the calls, and of what these grow to: the
+/// answer may be handed more of their items by [`TypeAggregator::aggregate`].
+///
 /// No pair with an id of the number stays in the checker's cache;
 /// nothing else of the checker changes.
 pub fn aggregate_all(
@@ -70,6 +77,7 @@ pub fn aggregate_all(
     ensures wit { IsWitList (handed_in calls.now) → MatchResult result (λ a. IsWitAnswer (handed_in calls.now) (accepted (track_imports (shown a)))) (λ e. e.error ≢ Memory → IsWitAnswer (handed_in calls.now) (refused e.at)) }
     ensures reason { IfErr result (λ e. (c : listed.Call) → slice_get (handed_in calls.now) e.at ≡ Some c → HasReasonAfter number (take e.at (handed_in calls.now)) c e.error) }
     ensures by_track { IfOk result (λ a. IsByTrack (shown a)) }
+    ensures truly { IfOk result (λ a. (g : Collection) → IsOneOf (handed_in calls.now) g → RemembersTruly class_of g (state_in a)) }
     ensures number { IfOk result (λ a. a.types.number ≡ number) }
     ensures at { IfErr result (λ e. e.at < length calls.now) }
     ensures forgotten { remembered checker.new ≡ without_number number (remembered checker.old) }

@@ -1,7 +1,7 @@
 //! The ids of entries by their index.
 
 ghost use Rattle.std.specs.Prelude.{IfOk};
-ghost use Rattle.wac_component.specs.Key.{Stands, defined_key, interface_key, world_key};
+ghost use Rattle.wac_types.specs.Key.{Stands, defined_key, interface_key, world_key};
 
 use std::test::Fail;
 use wac_types::{DefinedTypeId, InterfaceId, Types, WorldId};

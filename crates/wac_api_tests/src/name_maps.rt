@@ -5,9 +5,8 @@ use std::alloc::Global;
 use std::cmp::Ordering;
 use std::process::Abort;
 use std::test::Fail;
-use wac_names::version_cmp;
 use wac_script_session::{Countdown, Numbers};
-use wac_types::{NameError, NameMap, NameMapIntern};
+use wac_types::{NameError, NameMap, NameMapIntern, version_cmp};
 
 type Map = NameMap<usize, u32>;
 

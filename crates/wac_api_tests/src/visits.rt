@@ -1,11 +1,11 @@
 //! A visit, whose visitor looks at what it is handed.
 
-ghost use Rattle.wac_component.specs.Key.{Stands, defined_key};
+ghost use Rattle.wac_types.specs.Key.{Stands, defined_key};
 
 use super::finding::defined;
 use std::test::Fail;
-use wac_component::laws::visited_types_stand;
 use wac_script_entries::built;
+use wac_types::laws::collections::visited_types_stand;
 use wac_types::{DefinedType, DefinedTypeId, Type, Types, ValueType};
 
 // How many lists a visit of a defined type sees, by a visitor that looks each id up.

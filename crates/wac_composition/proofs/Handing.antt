@@ -1,8 +1,8 @@
 -- Calls that hand in what the components of a graph import.
 use Rattle.std.proofs.Common.{◌≡◌, ◌≢◌, inl, inr, refl, List, [], ◌∷◌, ◌++◌, Some, None, Contains, ap, sym, subst, ◌∙◌}
 use Rattle.std.proofs.lemmas.List.Elements.{Contains-push_cases}
-use Rattle.wac_call_lists.specs.Call.{Call}
-use Rattle.wac_composition.specs.Calls.{collection_at, IsCallOf, AreCallsOf}
+use Rattle.wac_types.specs.Call.{Call}
+use Rattle.wac_composition.specs.Calls.{collection_at, IsCallOf, AreCallsOf, MayBeAggregated}
 use Rattle.wac_composition.specs.declared.graph.Graph.{Graph}
 
 -- one call more
@@ -13,12 +13,19 @@ AreCallsOf-push g calls call before new c m = elim (Contains-push_cases calls ca
 ]
 
 -- no call is of the collection of the merged imports
-pub AreCallsOf-apart : (g : Graph) (calls : List Call) → AreCallsOf g calls → (c : Call) → Contains calls c → c.types.number ≢ 4
+AreCallsOf-apart : (g : Graph) (calls : List Call) → AreCallsOf g calls → (c : Call) → Contains calls c → c.types.number ≢ 4
 AreCallsOf-apart g calls h c m same = let no : None ≡ Some c.types = ap (collection_at g) (sym same) ∙ (h c m).found in cc
 
 -- equal numbers mean one collection
-pub AreCallsOf-one : (g : Graph) (calls : List Call) → AreCallsOf g calls → (c d : Call) → Contains calls c → Contains calls d → c.types.number ≡ d.types.number → c.types ≡ d.types
+AreCallsOf-one : (g : Graph) (calls : List Call) → AreCallsOf g calls → (c d : Call) → Contains calls c → Contains calls d → c.types.number ≡ d.types.number → c.types ≡ d.types
 AreCallsOf-one g calls h c d m n same = let both : Some c.types ≡ Some d.types = sym (h c m).found ∙ ap (collection_at g) same ∙ (h d n).found in cc
+
+pub AreCallsOf-aggregated : (g : Graph) (calls : List Call) → AreCallsOf g calls → MayBeAggregated 4 calls
+AreCallsOf-aggregated g calls h = record {
+  source = λ c m. (h c m).stands;
+  one = AreCallsOf-one g calls h;
+  apart = AreCallsOf-apart g calls h;
+}
 
 -- each component's collection is found by its number
 pub middleware_found : (g : Graph) → collection_at g g.middleware.types.number ≡ Some g.middleware.types

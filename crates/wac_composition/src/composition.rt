@@ -5,6 +5,7 @@ use super::component::Component;
 use super::failure::Failure;
 use super::graph::Graph;
 use super::merging::{import_named, remaining};
+use super::orders::push_other_orders;
 use super::targets::push_targets;
 use std::alloc::{AllocError, Global};
 use std::collections::HashSet;
@@ -32,9 +33,10 @@ fn merge(alloc: Global, text: &mut String, graph: &Graph) -> Result<(), Failure>
     let mut checker = SubtypeChecker::new(&mut cache);
     // the collection of the merged imports has a number of its own
     match aggregate_all(alloc, 4, &calls, &mut checker) {
-        Ok(merged) => push_merged(alloc, text, &merged, graph),
-        Err(refusal) => Ok(push_refusal(text, calls[refusal.at].name, &refusal)?),
+        Ok(merged) => push_merged(alloc, text, &merged, graph)?,
+        Err(refusal) => push_refusal(text, calls[refusal.at].name, &refusal)?,
     }
+    push_other_orders(alloc, text, &calls)
 }
 
 // What the composed component imports, what each component has of that, and the

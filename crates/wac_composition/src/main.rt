@@ -9,6 +9,7 @@ mod composition;
 mod failure;
 mod graph;
 mod merging;
+mod orders;
 mod packages;
 mod targets;
 

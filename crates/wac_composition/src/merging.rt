@@ -2,7 +2,7 @@
 //! imports that it is merged into.
 
 ghost use Rattle.std.specs.Prelude.{◌≡◌, [], ◌∷◌, ◌++◌, Some, IfOk, OnOk};
-ghost use Rattle.wac_aggregator.specs.HandedIn.{handed_in};
+ghost use Rattle.wac_types.specs.HandedIn.{handed_in};
 ghost use Rattle.wac_composition.specs.Calls.{AreCallsOf, collection_at};
 
 use super::component::Component;

@@ -1,8 +1,8 @@
 -- What a checker asks of two items.
 use Rattle.std.specs.Prelude.{◌≡◌}
-use Rattle.wac_component.specs.Collection.{Collection}
-use Rattle.wac_component.specs.Key.{AllStand, item_keys}
-use Rattle.wac_component.specs.declared.items.ItemKind.{ItemKind}
+use Rattle.wac_types.specs.Collection.{Collection}
+use Rattle.wac_types.specs.Key.{AllStand, item_keys}
+use Rattle.wac_types.specs.declared.ItemKind.{ItemKind}
 
 -- they stand in two collections of different numbers
 abbrev pub CanBeAsked : Collection → ItemKind → Collection → ItemKind → Type 0

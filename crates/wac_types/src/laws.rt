@@ -8,4 +8,5 @@ pub use wac_component::laws as collections;
 pub use wac_mismatch::laws as mismatches;
 pub use wac_model::laws as trees;
 pub use wac_names::laws as names;
+pub use wac_narrowing::laws::pairs_are_remembered_truly;
 pub use wac_package::laws as packages;

@@ -1,11 +1,11 @@
-use Rattle.wac_aggregator.specs.HandedIn.{handed_in}
-use Rattle.wac_composition.proofs.Handing.{AreCallsOf-apart, AreCallsOf-one}
+use Rattle.wac_types.specs.HandedIn.{handed_in}
+use Rattle.wac_composition.proofs.Handing.{AreCallsOf-aggregated}
 use Rattle.wac_composition.proofs.composition.merge.Goals as goal
 
 pub aggregate_all-requires-clause-one : goal.aggregate_all-requires-clause-one
 aggregate_all-requires-clause-one c =
-    rw c.deref.ensures.value (AreCallsOf-one c.args.graph.now (handed_in c.in_ok-calls.calls.items) c.in_ok-calls.ensures)
+    rw c.deref.ensures.value (AreCallsOf-aggregated c.args.graph.now (handed_in c.in_ok-calls.calls.items) c.in_ok-calls.ensures).one
 
 pub aggregate_all-requires-clause-apart : goal.aggregate_all-requires-clause-apart
 aggregate_all-requires-clause-apart c =
-    rw c.deref.ensures.value (AreCallsOf-apart c.args.graph.now (handed_in c.in_ok-calls.calls.items) c.in_ok-calls.ensures)
+    rw c.deref.ensures.value (AreCallsOf-aggregated c.args.graph.now (handed_in c.in_ok-calls.calls.items) c.in_ok-calls.ensures).apart

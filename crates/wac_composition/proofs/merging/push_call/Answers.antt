@@ -1,7 +1,7 @@
 use Rattle.std.proofs.Common.{ap, ◌∙◌, [], ◌∷◌}
 use Rattle.std.proofs.lemmas.List.{map-append}
-use Rattle.wac_aggregator.specs.HandedIn.{called, handed_in}
-use Rattle.wac_aggregator.specs.declared.all.Call.{Call}
+use Rattle.wac_types.specs.HandedIn.{called, handed_in}
+use Rattle.wac_types.specs.declared.Call.{Call}
 use Rattle.wac_composition.proofs.merging.push_call.Goals as goal
 
 pub returns-in-Ok : goal.returns-in-Ok

@@ -1,5 +1,5 @@
 use Rattle.std.proofs.Common.{refl, sym, subst}
-use Rattle.wac_aggregator.specs.HandedIn.{handed_in}
+use Rattle.wac_types.specs.HandedIn.{handed_in}
 use Rattle.wac_composition.specs.Calls.{AreCallsOf}
 use Rattle.wac_composition.proofs.Handing.{AreCallsOf-push}
 use Rattle.wac_composition.proofs.merging.push_remaining.Goals as goal

@@ -1,4 +1,4 @@
-use Rattle.wac_aggregator.specs.HandedIn.{handed_in}
+use Rattle.wac_types.specs.HandedIn.{handed_in}
 use Rattle.wac_composition.specs.Calls.{AreCallsOf}
 use Rattle.wac_composition.proofs.merging.push_remaining.Given as goal
 
