@@ -29,7 +29,8 @@ use Rattle.wac_taking.specs.Takes.{shared_keys, state_of, MayTake, LeadsToOwner,
 use Rattle.wac_taking.specs.declared.state.Merging.{Merging}
 use Rattle.wac_taking.proofs.TakeLemmas.{shared_stands}
 use Rattle.wac_aggregator.specs.Advances.{IsPlaced, Advances, added, noted}
-use Rattle.wac_aggregator.specs.Served.{LeadsTo, IsOneOf, AreServed}
+use Rattle.wac_aggregator.specs.HandedIn.{IsOneOf}
+use Rattle.wac_aggregator.specs.Served.{LeadsTo, AreServed}
 use Rattle.wac_aggregator.specs.Content.{shown, content_of}
 use Rattle.wac_aggregator.proofs.Advancing.{placing, at_of, of_at, rest, run, taken_kept, fits_item, leads_below}
 use Rattle.wac_taking.proofs.Identifiers.{is_interface, has_identifier, identifier_of}

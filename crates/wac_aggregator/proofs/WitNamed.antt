@@ -30,7 +30,8 @@ use Rattle.wac_taking.specs.declared.state.Merging.{Merging}
 use Rattle.wac_taking.proofs.Identifiers.{has_identifier, identifier_of}
 use Rattle.wac_taking.proofs.Members.{openly_by_uses}
 use Rattle.wac_aggregator.specs.Advances.{Advances}
-use Rattle.wac_aggregator.specs.Served.{IsOneOf, AreServed}
+use Rattle.wac_aggregator.specs.HandedIn.{IsOneOf}
+use Rattle.wac_aggregator.specs.Served.{AreServed}
 use Rattle.wac_aggregator.specs.Wit.{AreInstances, AreUnstopped, IsWitAfter}
 use Rattle.wac_aggregator.proofs.Instances.{instance_fits, instance_of, first_key}
 use Rattle.wac_aggregator.proofs.Wit.{named_wit, taken_members, no_plain, unshared_plain, may_hand_in, plain_cases, plain_before}

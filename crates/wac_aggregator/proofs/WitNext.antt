@@ -12,7 +12,8 @@ use Rattle.wac_taking.specs.Members.{HasTakenIn, HasAllOf, TakesMembers}
 use Rattle.wac_taking.specs.Takes.{MayTake}
 use Rattle.wac_taking.specs.declared.state.Merging.{Merging}
 use Rattle.wac_aggregator.specs.Advances.{Advances}
-use Rattle.wac_aggregator.specs.Served.{IsOneOf, AreServed}
+use Rattle.wac_aggregator.specs.HandedIn.{IsOneOf}
+use Rattle.wac_aggregator.specs.Served.{AreServed}
 use Rattle.wac_aggregator.specs.Wit.{IsWitAfter, MayHandIn}
 use Rattle.wac_aggregator.proofs.Wit.{named_wit, may_hand_in}
 use Rattle.wac_aggregator.proofs.WitNamed.{named_next}

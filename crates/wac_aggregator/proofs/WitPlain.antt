@@ -35,7 +35,8 @@ use Rattle.wac_taking.proofs.TakeLemmas.{only_grows}
 use Rattle.wac_component.proofs.Extended.{Extends-trans}
 use Rattle.wac_aggregator.specs.Advances.{Advances}
 use Rattle.wac_aggregator.specs.Content.{shown, content_of}
-use Rattle.wac_aggregator.specs.Served.{IsOneOf, AreServed}
+use Rattle.wac_aggregator.specs.HandedIn.{IsOneOf}
+use Rattle.wac_aggregator.specs.Served.{AreServed}
 use Rattle.wac_aggregator.specs.Wit.{AreInstances, AreUnstopped, IsWitAfter, trees_of}
 use Rattle.wac_aggregator.proofs.Advancing.{placing, taken_kept, rest, run}
 use Rattle.wac_aggregator.proofs.Leading.{placed_here}

@@ -33,7 +33,8 @@ use Rattle.wac_taking.specs.Refused.{HasReason}
 use Rattle.wac_taking.specs.declared.state.Merging.{Merging}
 use Rattle.wac_taking.proofs.Identifiers.{is_interface, has_identifier}
 use Rattle.wac_aggregator.specs.Advances.{attempt_at, HasNoMeet}
-use Rattle.wac_aggregator.specs.Served.{IsOneOf, AreServed}
+use Rattle.wac_aggregator.specs.HandedIn.{IsOneOf}
+use Rattle.wac_aggregator.specs.Served.{AreServed}
 use Rattle.wac_aggregator.specs.Wit.{trees_of, IsWitAfter, MayHandIn}
 use Rattle.wac_aggregator.proofs.Wit.{named_wit, taken_members, may_hand_in}
 

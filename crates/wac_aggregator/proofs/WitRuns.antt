@@ -20,7 +20,8 @@ use Rattle.wac_taking.specs.Takes.{MayTake, shared_in}
 use Rattle.wac_taking.specs.declared.state.Merging.{Merging}
 use Rattle.wac_aggregator.specs.Advances.{Advances, attempt_at, HasNoMeet}
 use Rattle.wac_aggregator.specs.Content.{shown, content_of}
-use Rattle.wac_aggregator.specs.Served.{IsOneOf, AreServed}
+use Rattle.wac_aggregator.specs.HandedIn.{IsOneOf}
+use Rattle.wac_aggregator.specs.Served.{AreServed}
 use Rattle.wac_aggregator.specs.Wit.{IsWitAfter, trees_of}
 use Rattle.wac_aggregator.proofs.Listing.{take-next, Contains-at}
 use Rattle.wac_aggregator.proofs.Plain.{track_import}

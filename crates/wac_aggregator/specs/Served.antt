@@ -9,21 +9,17 @@ use Rattle.wac_component.specs.Reach.{IsAmong}
 use Rattle.wac_component.specs.Tree.{item_tree}
 use Rattle.wac_names.specs.Class.{Class, class_of}
 use Rattle.wac_narrowing.specs.Remembers.{RemembersTruly}
-use Rattle.wac_narrowing.specs.State.{IsOneWith}
 use Rattle.wac_call_lists.specs.Call.{Call, call_tree}
 use Rattle.wac_call_lists.specs.Due.{OwnsOn, IsReachedIdentifier, IsImportName}
 use Rattle.wac_imports.specs.Import.{ImportContent, ImportsContent, import_of, led_of}
 use Rattle.wac_taking.specs.Takes.{shared_keys, state_of, OwnersImported}
 use Rattle.wac_taking.specs.declared.state.Merging.{Merging}
+use Rattle.wac_aggregator.specs.HandedIn.{IsOneOf}
 
 -- the name leads to this import: it is its name, or is led to its class
 pub record LeadsTo (is : ImportsContent) (n : Text) (i : ImportContent) : Type 0 where
   pub import : import_of is (class_of n) ≡ Some i
   pub leads : (n ≡ i.0) ⊎ IsSome (led_of is n)
-
--- the collection is the one of each call that has its number
-abbrev pub IsOneOf : List Call → Collection → Type 0
-IsOneOf calls g = (c : Call) → Contains calls c → IsOneWith c.types g
 
 -- each call at the front is served, owners in its item are imported, and each import and each
 -- shared entry is named as it may be; what is remembered of the collections of all calls is true

@@ -19,7 +19,7 @@ use Rattle.wac_narrowing.specs.Identified.{IsUnstopped}
 use Rattle.wac_taking.specs.Members.{HasTakenIn, HasAllOf}
 use Rattle.wac_taking.specs.Takes.{shared_in}
 use Rattle.wac_taking.specs.declared.state.Merging.{Merging}
-use Rattle.wac_aggregator.specs.Served.{IsOneOf}
+use Rattle.wac_aggregator.specs.HandedIn.{IsOneOf}
 
 -- the trees of the imports
 abbrev pub trees_of : Merging → Imports

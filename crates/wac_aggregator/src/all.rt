@@ -12,11 +12,11 @@ ghost use Rattle.wac_call_lists.specs.WitList.{IsWitList};
 ghost use Rattle.wac_names.specs.Class.{class_of};
 ghost use Rattle.wac_narrowing.specs.Remembers.{RemembersTruly};
 ghost use Rattle.wac_refusals.specs.declared.error.AggregateError.TheVariants.{Memory};
+ghost use Rattle.wac_taking.specs.Takes.{OwnersImported};
 ghost use Rattle.wac_call_lists.specs.Call as listed;
-ghost use Rattle.wac_aggregator.specs.HandedIn.{handed_in};
+ghost use Rattle.wac_aggregator.specs.HandedIn.{handed_in, IsOneOf};
 ghost use Rattle.wac_aggregator.specs.After.{HasReasonAfter};
 ghost use Rattle.wac_aggregator.specs.Content.{shown, state_in};
-ghost use Rattle.wac_aggregator.specs.Served.{IsOneOf};
 
 use super::aggregator::TypeAggregator;
 use super::importing::advance;
@@ -77,6 +77,7 @@ pub fn aggregate_all(
     ensures wit { IsWitList (handed_in calls.now) → MatchResult result (λ a. IsWitAnswer (handed_in calls.now) (accepted (track_imports (shown a)))) (λ e. e.error ≢ Memory → IsWitAnswer (handed_in calls.now) (refused e.at)) }
     ensures reason { IfErr result (λ e. (c : listed.Call) → slice_get (handed_in calls.now) e.at ≡ Some c → HasReasonAfter number (take e.at (handed_in calls.now)) c e.error) }
     ensures by_track { IfOk result (λ a. IsByTrack (shown a)) }
+    ensures owners { IfOk result (λ a. (g : Collection) → IsOneOf (handed_in calls.now) g → OwnersImported g (state_in a)) }
     ensures truly { IfOk result (λ a. (g : Collection) → IsOneOf (handed_in calls.now) g → RemembersTruly class_of g (state_in a)) }
     ensures number { IfOk result (λ a. a.types.number ≡ number) }
     ensures at { IfErr result (λ e. e.at < length calls.now) }

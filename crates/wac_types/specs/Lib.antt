@@ -85,6 +85,7 @@ pub use Rattle.wac_call_lists.specs.WitList
 pub use Rattle.wac_call_lists.specs.Compatible
 pub use Rattle.wac_call_lists.specs.Answer
 pub use Rattle.wac_call_lists.specs.Aggregated
+pub use Rattle.wac_call_lists.specs.Imported
 pub use Rattle.wac_call_lists.specs.Attempt
 pub use Rattle.wac_call_lists.specs.Reason
 pub use Rattle.wac_call_lists.specs.Case
@@ -113,6 +114,7 @@ pub use Rattle.wac_imports.specs.Places
 pub use Rattle.wac_refusals.specs.Texts as RefusalTexts
 pub use Rattle.wac_refusals.specs.Said
 pub use Rattle.wac_taking.specs.Refused
+pub use Rattle.wac_taking.specs.Takes
 pub use Rattle.wac_aggregator.specs.Content as Aggregator
 pub use Rattle.wac_aggregator.specs.HandedIn
 pub use Rattle.wac_aggregator.specs.Served

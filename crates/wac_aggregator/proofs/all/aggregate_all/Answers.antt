@@ -9,7 +9,7 @@ use Rattle.wac_call_lists.specs.PlainList.{IsPlain}
 use Rattle.wac_call_lists.proofs.PlainRuns.{plain_runs_answer}
 use Rattle.wac_aggregator.specs.After.{HasReasonAfter}
 use Rattle.wac_aggregator.specs.Content.{shown, content_of}
-use Rattle.wac_aggregator.proofs.Remembering.{truly_in}
+use Rattle.wac_aggregator.proofs.Remembering.{truly_in, owners_in}
 use Rattle.wac_aggregator.proofs.Plain.{run_starts, run_on, run_stops, run_ends, plain_step, plain_refusal}
 use Rattle.wac_imports.specs.Import.{ImportsContent, import_of}
 use Rattle.wac_aggregator.specs.HandedIn.{called, handed_in}
@@ -74,6 +74,9 @@ returns-clause-aggregated c =
 
 pub returns-clause-by_track : goal.returns-clause-by_track
 returns-clause-by_track c = by_track c.loop-at.state c.loop-at.invariant.order.imports
+
+pub returns-clause-owners : goal.returns-clause-owners
+returns-clause-owners c = λ g one. owners_in g c.loop-at.state (c.loop-at.invariant.served.owners g one)
 
 pub returns-clause-truly : goal.returns-clause-truly
 returns-clause-truly c = λ g one. truly_in g c.loop-at.state (c.loop-at.invariant.served.truly g one)
