@@ -2,7 +2,7 @@
 use Rattle.std.proofs.Common.{◌≡◌, ℕ, List, [], Some, None, ap, sym, ◌∙◌, subst}
 use Rattle.wac_model.specs.Text.{Text}
 use Rattle.wac_component.specs.Id.{Id}
-use Rattle.wac_component.specs.Key.{Key, Stands}
+use Rattle.wac_component.specs.Key.{Key, Stands, interface_key}
 use Rattle.wac_component.specs.Open.{import_next}
 use Rattle.wac_component.specs.Reach.{IsAmong}
 use Rattle.wac_component.specs.Sound.{IsSound}

@@ -116,7 +116,7 @@ module _ (call : Call) (a mid : Merging) (own : ItemKind) (may : MayTake call.ty
   pub own_shared : shared_in mid.shared.entries (call_track call) ≡ Some the_instance.0
   own_shared =
       let is = taken_for.remembered.shared call.name (identifier_of call.types i call.name hand.named.identified) in
-      shared_there the_instance.0 (call_track call) is.is_shared (λ t at. let filed = now.filed t the_instance.0 at in sym filed.2 ∙ ap class_of (same_text filed.0 is.name (sym filed.1 ∙ is.identified)) ∙ is.on_track)
+      shared_there the_instance.0 (call_track call) is.is_shared (λ t at. let filed = now.filed.on_class t the_instance.0 at in sym filed.2 ∙ ap class_of (same_text filed.0 is.name (sym filed.1 ∙ is.identified)) ∙ is.on_track)
     where
       same_text : (m n : List ℕ) → ◌≡◌ {A = Option (List ℕ)} (Some m) (Some n) → m ≡ n
       same_text m n e = cc
@@ -129,7 +129,7 @@ module _ (call : Call) (a mid : Merging) (own : ItemKind) (may : MayTake call.ty
       let among = lookup-shared (call_track call) a.shared.entries s.0 s.1 in
       let before = may.filed.on_class (call_track call) s.0 s.1 in
       let there = shared_there s.0 (call_track call) ((takes.run.stops may.kept).shared (interface_key s.0) among) (λ t at.
-      let filed = now.filed t s.0 at in
+      let filed = now.filed.on_class t s.0 at in
       sym filed.2 ∙ ap class_of (same_text filed.0 before.0 (sym filed.1 ∙ (takes.run.stops may.kept).identifiers (interface_key s.0) (shared_stands (state_of a) may.kept (interface_key s.0) among) ∙ before.1)) ∙ before.2) in
       let same : s.0 ≡ the_instance.0 = same_id s.0 the_instance.0 (sym there ∙ own_shared) in
       sym was.2 ∙ s.2 ∙ ap Instance same ∙ sym the_instance.1
