@@ -1,5 +1,5 @@
 -- A new cache has no pair, so that it is sound.
-use Rattle.std.proofs.Common.{◌≡◌, ◌<◌, List, [], ◌∷◌, Contains, arith, subst, ◌∙◌}
+use Rattle.std.proofs.Common.{◌≡◌, ◌<◌, List, [], ◌∷◌, Contains, arith, rules, subst}
 use Rattle.wac_types.specs.Cache.{Pair, IsSoundCache}
 use Rattle.wac_types.specs.Collection.{Collection}
 use Rattle.wac_callers.proofs.linking.link.Goals as goal

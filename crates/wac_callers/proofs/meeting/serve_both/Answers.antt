@@ -1,7 +1,6 @@
 -- The meet of two items is below both, and what is below both is below it.
-use Rattle.std.proofs.Common.{◌≡◌, [], ◌∷◌, Option, Some, None, Result, Ok, Err, IfOk, IfSome, IfNone, lit<}
+use Rattle.std.proofs.Common.{[], ◌∷◌, Option, Some, None, Result, Ok, Err, IfOk, IfSome, IfNone, lit<}
 use Rattle.std.specs.Option.{option_map}
-use Rattle.std.specs.Prelude.{AllocError}
 use Rattle.std.proofs.lemmas.List.Elements.{All-nil, All-cons}
 use Rattle.wac_types.specs.Bounds.{IsMeetIfAny}
 use Rattle.wac_types.specs.ItemTree.{ItemTree}
