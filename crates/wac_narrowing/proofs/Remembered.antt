@@ -140,7 +140,6 @@ module _ (f e : Collection) (s : IsSound f) (x : Extends f e) where
       }
 
   module _ {T : Type 0} (track : Text → T) where
-
     pub IsRememberedAs-foreign : (c : Collection) (ss : List Key) (theirs own : Key) → IsRememberedAs track f c ss theirs own → IsRememberedAs track e c ss theirs own
     IsRememberedAs-foreign c ss theirs own h =
         let st : Stands f theirs = h.stands_for.theirs_stands in

@@ -23,10 +23,6 @@ use Rattle.wac_reasons.proofs.Built.{built_sourced}
 use Rattle.wac_reasons.proofs.Reasons.{entry_items, built_open, items_clash, interfaces_differ, names_differ}
 use Rattle.wac_reasons.proofs.Splitting as splitting
 use Rattle.wac_refusals.specs.declared.error.AggregateError.{AggregateError}
-use Rattle.wac_refusals.specs.declared.error.AggregateError.TheVariants.{Kinds, Mismatch, UsedInterface, UsedName, NoIdentifier, OwnerWithoutIdentifier, Taken, Cycle, Memory}
-use Rattle.wac_refusals.specs.declared.frame.MergeFrame.{MergeFrame}
-use Rattle.wac_mismatch.specs.declared.error.SubtypeError.{SubtypeError}
-use Rattle.wac_refusals.specs.Clashes.{IsMismatch}
 use Rattle.wac_model.specs.Order.{Fits}
 use Rattle.wac_component.specs.Growth.{Extends}
 use Rattle.wac_component.specs.Tree.{item_tree}
