@@ -117,7 +117,6 @@ pub use Rattle.wac_taking.specs.Refused
 pub use Rattle.wac_taking.specs.Takes
 pub use Rattle.wac_aggregator.specs.Content as Aggregator
 pub use Rattle.wac_aggregator.specs.HandedIn
-pub use Rattle.wac_aggregator.specs.Served
 pub use Rattle.wac_aggregator.specs.After
 -- packages
 pub use Rattle.wac_package.specs.Key as PackageKey
