@@ -1,5 +1,5 @@
 -- What `aggregate_all` ensures of WIT lists, by the law that answers are exact.
-use Rattle.std.proofs.Common.{◌≡◌, ◌≢◌, List, Result, Ok, Err, IfOk, MatchResult}
+use Rattle.std.proofs.Common.{◌≢◌, List, Result, Ok, Err, IfOk, MatchResult}
 use Rattle.wac_types.specs.Aggregated.{AllAreServed, IsAggregated, track_imports}
 use Rattle.wac_types.specs.Aggregator.{AggregatorContent, shown}
 use Rattle.wac_types.specs.Answer.{accepted, refused, IsWitAnswer}

@@ -1,5 +1,5 @@
 -- One call after another: what is remembered stays true, and what was served stays so.
-use Rattle.std.proofs.Common.{◌≡◌, ◌<◌, ℕ, inl, inr, List, [], ◌∷◌, ◌++◌, Some, Contains, take, length, slice_get, slice_index_or, refl, ap, sym, subst, arith, add-one, ◌∙◌}
+use Rattle.std.proofs.Common.{◌≡◌, ◌<◌, ◌+◌, ℕ, inl, inr, List, [], ◌∷◌, ◌++◌, Some, Contains, take, length, slice_get, slice_index_or, ap, sym, subst, arith, add-one, ◌∙◌}
 use Rattle.std.proofs.Math.Seq.{take-suc}
 use Rattle.std.proofs.lemmas.List.{length-map, take_all}
 use Rattle.std.proofs.lemmas.List.Elements.{Contains-get_or, Contains-push_cases}
@@ -62,9 +62,9 @@ loop-call-preserved c =
     let call = called c.call-item.result in
     let at = called_at c.args.calls.now c.loop-call.call-index c.call-item.result c.loop-call-test.true c.call-item.is in
     record {
-      number = c.in_ok-aggregate.ensures.number ∙ c.loop-call.invariant.number;
-      truly = λ d m. c.in_ok-aggregate.ensures.truly d.types (λ same. c.requires.one d call m (among calls c.loop-call.call-index call at) same) (c.loop-call.invariant.truly d m);
-      served = one_more c.order_is_transitive.ensures (shown c.loop-call.merged) (shown c.in_ok-aggregate.merged) calls c.loop-call.call-index call at c.in_ok-aggregate.ensures.step c.loop-call.invariant.served;
+      number = c.in_ok-merged.ensures.number ∙ c.loop-call.invariant.number;
+      truly = λ d m. c.in_ok-merged.ensures.truly d.types (λ same. c.requires.one d call m (among calls c.loop-call.call-index call at) same) (c.loop-call.invariant.truly d m);
+      served = one_more c.order_is_transitive.ensures (shown c.loop-call.merged) (shown c.in_ok-merged.merged) calls c.loop-call.call-index call at c.in_ok-merged.ensures.step c.loop-call.invariant.served;
     }
 
 pub returns : goal.returns

@@ -1,7 +1,7 @@
 use Rattle.std.proofs.Common.{◌∙◌}
 use Rattle.std.proofs.lemmas.List.Elements.{Contains-append_left, Contains-push}
 use Rattle.wac_types.specs.HandedIn.{called, handed_in}
-use Rattle.wac_composition.proofs.Orders.{served_on}
+use Rattle.wac_composition.proofs.OtherOrders.{served_on}
 use Rattle.wac_composition.proofs.orders.aggregate_all_and_one.Goals as goal
 
 pub aggregate_all-requires-clause-source : goal.aggregate_all-requires-clause-source

@@ -1,6 +1,6 @@
 use Rattle.std.proofs.lemmas.List.Sorted.{Contains-permutation, IsPermutation-sym}
 use Rattle.wac_types.specs.HandedIn.{handed_in}
-use Rattle.wac_composition.proofs.Orders.{answered_alike}
+use Rattle.wac_composition.proofs.OtherOrders.{answered_alike}
 use Rattle.wac_composition.proofs.orders.aggregate_in_two_orders.Goals as goal
 
 pub aggregate_all-other-requires-clause-source : goal.aggregate_all-other-requires-clause-source
