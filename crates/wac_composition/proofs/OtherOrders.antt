@@ -19,15 +19,21 @@ use Rattle.wac_composition.specs.Answered.{AreAnsweredAlike, AreServed}
 -- an error that isn't another is want of memory
 only_memory : (e : AggregateError) → (e ≢ Memory → ⊥) → e ≡ Memory
 only_memory Memory h = refl
-only_memory e h = absurd (h (λ same. cc))
+only_memory (Kinds existing found) h = absurd (h (λ same. cc))
+only_memory (Mismatch frames error) h = absurd (h (λ same. cc))
+only_memory (UsedInterface used expected found) h = absurd (h (λ same. cc))
+only_memory (UsedName used) h = absurd (h (λ same. cc))
+only_memory (NoIdentifier used) h = absurd (h (λ same. cc))
+only_memory (OwnerWithoutIdentifier resource) h = absurd (h (λ same. cc))
+only_memory (Taken name) h = absurd (h (λ same. cc))
+only_memory (Cycle interface) h = absurd (h (λ same. cc))
 
 -- what `aggregate_all` ensures of WIT lists
-AnswersWit : List Call → Result AggregatorContent AggregateAllError → Type 0
+abbrev AnswersWit : List Call → Result AggregatorContent AggregateAllError → Type 0
 AnswersWit calls r = IsWitList calls → MatchResult r (λ a. IsWitAnswer calls (accepted (track_imports (shown a)))) (λ e. e.error ≢ Memory → IsWitAnswer calls (refused e.at))
 
 module _ (law : ImportsAreGreatestBounds) (calls others : List Call) (permuted : IsPermutation calls others) (family : IsPlainList calls ⊎ IsWitList calls) where
   pub answered_alike : (r s : Result AggregatorContent AggregateAllError) → AnswersWit calls r → AnswersWit others s → AreAnsweredAlike r s
-  unfolding AnswersWit
   answered_alike (Ok a) (Ok b) h k = law.any_order calls others (accepted (track_imports (shown a))) (accepted (track_imports (shown b))) family permuted h k
   answered_alike (Ok a) (Err f) h k = only_memory f.error (λ ne. law.any_order calls others (accepted (track_imports (shown a))) (refused f.at) family permuted h (λ w. k w ne))
   answered_alike (Err e) (Ok b) h k = only_memory e.error (λ ne. law.any_order calls others (refused e.at) (accepted (track_imports (shown b))) family permuted (λ w. h w ne) k)
