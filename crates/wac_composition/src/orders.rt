@@ -8,7 +8,7 @@ ghost use Rattle.wac_composition.specs.Answered.{AreAnsweredAlike, AreServed};
 ghost use Rattle.wac_composition.specs.Calls.{MayBeAggregated};
 
 use super::failure::Failure;
-use std::alloc::Global;
+use std::alloc::{AllocError, Global};
 use std::collections::HashSet;
 use wac_types::laws::{lists, trees};
 use wac_types::{
@@ -76,7 +76,7 @@ pub(crate) fn push_other_orders(
 fn push_reversed(alloc: Global, text: &mut String, calls: &[Call<'_>]) -> Result<(), Failure>
     requires { MayBeAggregated 4 (handed_in calls.now) }
 {
-    let reversed = calls.iter().rev().copied().collect::<Vec<_>>(alloc)?;
+    let reversed = reversed(alloc, calls)?;
     let mut cache = HashSet::new(alloc);
     let mut checker = SubtypeChecker::new(&mut cache);
     let said = match aggregate_in_two_orders(alloc, 4, calls, &reversed, &mut checker) {
@@ -86,6 +86,16 @@ fn push_reversed(alloc: Global, text: &mut String, calls: &[Call<'_>]) -> Result
     };
     writeln!(text, "  the same calls in reverse order: {said}")?;
     Ok(())
+}
+
+// The same calls, the last first.
+fn reversed<'a>(alloc: Global, calls: &[Call<'a>]) -> Result<Vec<Call<'a>>, AllocError>
+    ensures { IfOk result (λ v. IsPermutation calls.now v.items) }
+{
+    let mut reversed = Vec::new(alloc);
+    reversed.extend_from_slice(calls)?;
+    reversed.reverse();
+    Ok(reversed)
 }
 
 // Says whether a call is merged into what became of those before it.

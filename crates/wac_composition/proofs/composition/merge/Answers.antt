@@ -9,3 +9,7 @@ aggregate_all-requires-clause-one c =
 pub aggregate_all-requires-clause-apart : goal.aggregate_all-requires-clause-apart
 aggregate_all-requires-clause-apart c =
     rw c.deref.ensures.value (AreCallsOf-aggregated c.args.graph.now (handed_in c.in_ok-calls.calls.items) c.in_ok-calls.ensures).apart
+
+pub push_other_orders-requires : goal.push_other_orders-requires
+push_other_orders-requires c =
+    rw c.deref-2.ensures.value (AreCallsOf-aggregated c.args.graph.now (handed_in c.in_ok-calls.calls.items) c.in_ok-calls.ensures)
