@@ -62,9 +62,8 @@ fn fits(alloc: Global, a: ItemKind, at: &Types, b: ItemKind, bt: &Types) -> bool
         return false;
     }
     let mut cache = HashSet::new(alloc);
-    SubtypeChecker::new(&mut cache)
-        .is_subtype(alloc, a, at, b, bt)
-        .is_ok()
+    let mut checker = SubtypeChecker::new(&mut cache);
+    checker.is_subtype(alloc, a, at, b, bt).is_ok()
 }
 
 // Whether there is one import, which fits where the instance is asked for, and what of the other way
@@ -143,7 +142,10 @@ fn uses_only(alloc: Global, types: &Types, id: WorldId, name: &str) -> bool {
 // Whether the only import is a component whose imports use the one interface of this identifier.
 fn component_uses_only(alloc: Global, merged: &TypeAggregator, name: &str) -> bool {
     let mut imports = merged.imports();
-    let (Some((_, ItemKind::Component(id))), None) = (imports.next(), imports.next()) else {
+    let (Some((_, import)), None) = (imports.next(), imports.next()) else {
+        return false;
+    };
+    let ItemKind::Component(id) = import else {
         return false;
     };
     uses_only(alloc, merged.types(), id, name)
