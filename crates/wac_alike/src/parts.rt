@@ -91,6 +91,10 @@ fn push_members(parts: &mut Vec<Part>, ty: &DefinedType) -> Result<(), AllocErro
         DefinedType::Tuple(items) => push_items(parts, items),
         DefinedType::List(ty) => push_value(parts, *ty),
         DefinedType::FixedSizeList(ty, _) => push_value(parts, *ty),
+        DefinedType::Map(key, value) => {
+            push_value(parts, *key)?;
+            push_value(parts, *value)
+        }
         DefinedType::Option(ty) => push_value(parts, *ty),
         DefinedType::Result { ok, err } => {
             push_optional(parts, *ok)?;

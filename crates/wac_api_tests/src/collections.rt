@@ -20,6 +20,7 @@ world p:w/n u:t=i0=u m:i=I:i0 e:c=C:w0
 module m:e,t=table:null.3:1:4:1:0 e:x=tag:i32:
 def tuple d0 u8
 def fixed u8 4
+def map u8 d0
 def option d0
 def result u8 -
 def alias d0
@@ -33,6 +34,7 @@ def enum a b";
 const DEFINED: &str = "List(Primitive(U8))
 Tuple([Defined(DefinedTypeId { number: 7, index: 0 }), Primitive(U8)])
 FixedSizeList(Primitive(U8), 4)
+Map(Primitive(U8), Defined(DefinedTypeId { number: 7, index: 0 }))
 Option(Defined(DefinedTypeId { number: 7, index: 0 }))
 Result { ok: Some(Primitive(U8)), err: None }
 Alias(Defined(DefinedTypeId { number: 7, index: 0 }))

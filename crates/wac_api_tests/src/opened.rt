@@ -5,7 +5,7 @@ use std::alloc::Global;
 use std::collections::HashSet;
 use std::test::Fail;
 use wac_script_entries::built;
-use wac_types::{ItemKind, PrimitiveType, SubtypeChecker, Types, ValueType};
+use wac_types::{DefinedType, ItemKind, PrimitiveType, SubtypeChecker, Types, ValueType};
 
 // The first tuple is a pair of bytes, and each of the 29 next ones a pair of the one before.
 fn tuples(alloc: Global, number: u64) -> Result<Types, Fail> {
@@ -16,25 +16,25 @@ fn tuples(alloc: Global, number: u64) -> Result<Types, Fail> {
     Ok(built(alloc, number, &lines)?)
 }
 
-// How many pairs a new checker compares where the last tuple of one collection fits where that of
-// another is asked for, and how many where it is asked again.
-fn opened(alloc: Global, at: &Types, bt: &Types) -> Result<(usize, usize), Fail> {
+// How many pairs a new checker compares where the defined type at an index of one collection fits
+// where that of another is asked for, and how many where it is asked again.
+fn opened(alloc: Global, at: &Types, bt: &Types, index: usize) -> Result<(usize, usize), Fail> {
     if at.number() == bt.number() {
         return Err(Fail::new("the collections have one number"));
     }
-    let (given, wanted) = (defined(at, 29)?, defined(bt, 29)?);
+    let (given, wanted) = (defined(at, index)?, defined(bt, index)?);
     let mut cache = HashSet::new(alloc);
     let mut checker = SubtypeChecker::new(&mut cache);
     let a = ItemKind::Value(ValueType::Defined(given));
     let b = ItemKind::Value(ValueType::Defined(wanted));
     if checker.is_subtype(alloc, a, at, b, bt).is_err() {
-        return Err(Fail::new("the tuple doesn't fit"));
+        return Err(Fail::new("the type doesn't fit"));
     }
     let first = checker.opened();
     let a = ItemKind::Value(ValueType::Defined(given));
     let b = ItemKind::Value(ValueType::Defined(wanted));
     if checker.is_subtype(alloc, a, at, b, bt).is_err() {
-        return Err(Fail::new("the tuple doesn't fit any more"));
+        return Err(Fail::new("the type doesn't fit any more"));
     }
     Ok((first, checker.opened()))
 }
@@ -42,9 +42,90 @@ fn opened(alloc: Global, at: &Types, bt: &Types) -> Result<(usize, usize), Fail>
 #[test]
 fn tuples_that_share_are_compared_once_each(rt: HostRuntime) -> Result<(), Fail> {
     let (given, wanted) = (tuples(rt.alloc(), 1)?, tuples(rt.alloc(), 2)?);
-    let (first, again) = opened(rt.alloc(), &given, &wanted)?;
+    let (first, again) = opened(rt.alloc(), &given, &wanted, 29)?;
     assert!(&rt; first == 30);
     assert!(&rt; again == 0);
+    Ok(())
+}
+
+// So many maps: one of bytes, and each next one of the one before, as its key and as its value.
+fn doubled(alloc: Global, number: u64, count: usize) -> Result<Types, Fail> {
+    let mut types = Types::new(alloc, number);
+    add_map(&mut types, byte(), byte())?;
+    for i in 1..count {
+        let before = ValueType::Defined(defined(&types, i - 1)?);
+        add_map(&mut types, before, before)?;
+    }
+    Ok(types)
+}
+
+// So many maps: one from this key to a byte, and each next one of the one before, as its key or as
+// its value in turn.
+fn nested(alloc: Global, number: u64, count: usize, first: PrimitiveType) -> Result<Types, Fail> {
+    let mut types = Types::new(alloc, number);
+    add_map(&mut types, ValueType::Primitive(first), byte())?;
+    for i in 1..count {
+        let before = ValueType::Defined(defined(&types, i - 1)?);
+        if i % 2 == 0 {
+            add_map(&mut types, before, byte())?;
+        } else {
+            add_map(&mut types, byte(), before)?;
+        }
+    }
+    Ok(types)
+}
+
+fn byte() -> ValueType {
+    ValueType::Primitive(PrimitiveType::U8)
+}
+
+fn add_map(types: &mut Types, key: ValueType, value: ValueType) -> Result<(), Fail> {
+    let map = DefinedType::Map(key, value);
+    if !types.can_add_defined_type(&map) {
+        return Err(Fail::new("the map names what isn't there"));
+    }
+    types.add_defined_type(map)?;
+    Ok(())
+}
+
+// In how many frames a new checker leads from the last of these maps to where it doesn't fit.
+fn frames_to_fault(alloc: Global, at: &Types, bt: &Types, index: usize) -> Result<usize, Fail> {
+    if at.number() == bt.number() {
+        return Err(Fail::new("the collections have one number"));
+    }
+    let a = ItemKind::Value(ValueType::Defined(defined(at, index)?));
+    let b = ItemKind::Value(ValueType::Defined(defined(bt, index)?));
+    let mut cache = HashSet::new(alloc);
+    match SubtypeChecker::new(&mut cache).is_subtype(alloc, a, at, b, bt) {
+        Ok(()) => Err(Fail::new("the type fits")),
+        Err(error) => Ok(error.frames().len()),
+    }
+}
+
+#[test]
+fn maps_that_share_are_compared_once_each(rt: HostRuntime) -> Result<(), Fail> {
+    let (given, wanted) = (doubled(rt.alloc(), 1, 30)?, doubled(rt.alloc(), 2, 30)?);
+    let (first, again) = opened(rt.alloc(), &given, &wanted, 29)?;
+    assert!(&rt; first == 30);
+    assert!(&rt; again == 0);
+    Ok(())
+}
+
+#[test]
+fn maps_may_be_nested_deep(rt: HostRuntime) -> Result<(), Fail> {
+    let given = nested(rt.alloc(), 1, 100_000, PrimitiveType::U8)?;
+    let wanted = nested(rt.alloc(), 2, 100_000, PrimitiveType::U8)?;
+    let (first, again) = opened(rt.alloc(), &given, &wanted, 99_999)?;
+    assert!(&rt; first == 100_000);
+    assert!(&rt; again == 0);
+    Ok(())
+}
+
+#[test]
+fn a_fault_in_maps_nested_deep_has_a_frame_for_each(rt: HostRuntime) -> Result<(), Fail> {
+    let given = nested(rt.alloc(), 1, 100_000, PrimitiveType::U8)?;
+    let wanted = nested(rt.alloc(), 2, 100_000, PrimitiveType::S8)?;
+    assert!(&rt; frames_to_fault(rt.alloc(), &given, &wanted, 99_999)? == 100_000);
     Ok(())
 }
 

@@ -21,6 +21,9 @@ const ROWS: &str = "1 yes
 12 yes
 13 no: mismatched type for export `m`
 14 no: expected function, found value
+15 yes
+16 no: mismatched type for map value
+17 no: expected list, found map
 ";
 
 // The words of a command line, what it prints, what it prints on the error output, and its status.

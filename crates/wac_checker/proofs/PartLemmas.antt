@@ -10,7 +10,7 @@ use Rattle.std.specs.Option.{option_map, option_to_list}
 use Rattle.std.proofs.lemmas.Result.{MatchResult-weaker}
 use Rattle.std.proofs.lemmas.Option.{slice_get_within}
 use Rattle.wac_model.specs.Text.{Text}
-use Rattle.wac_model.specs.ValueTree.{ValueTree, parts_of, tuple, record_of}
+use Rattle.wac_model.specs.ValueTree.{ValueTree, parts_of, tuple, map_of, record_of}
 use Rattle.wac_component.specs.declared.items.ValueType.{ValueType}
 use Rattle.wac_component.specs.declared.items.ValueType.TheVariants.{Defined}
 use Rattle.wac_component.specs.Id.{Id}
@@ -23,6 +23,7 @@ use Rattle.std.specs.List.{flat_map}
 use Rattle.std.proofs.lemmas.Grind.{flat_map-append}
 use Rattle.wac_component.proofs.Keys.{largest-append}
 use Rattle.wac_component.proofs.Lists.{append_nil, slice_get-map}
+use Rattle.wac_component.proofs.Members.{keys_height-member}
 use Rattle.wac_mismatch.specs.Place.{Side, value_side, by_check, expected_of}
 use Rattle.wac_mismatch.specs.Part.{sided}
 use Rattle.wac_mismatch.specs.Steps.{IsHere, IsCase, IsField}
@@ -96,6 +97,33 @@ tuples_same c d vs ws i l e same =
     let here : slice_get (unnamed_parts (parts_of (map (value_tree c) vs))) k ≡ slice_get (unnamed_parts (parts_of (map (value_tree d) ws))) k = same k (omega arith) in
     let both = rw (unnamed (value_tree c) vs, unnamed (value_tree d) ws, slice_get-map (λ (v : ValueType). let q : Text × Option ValueTree = ([], Some (value_tree c v)) in q) vs k, slice_get-map (λ (v : ValueType). let q : Text × Option ValueTree = ([], Some (value_tree d v)) in q) ws k) at here in
     rw (slice_get-map (value_tree c) vs k, slice_get-map (value_tree d) ws k) (unnamed_one (value_tree c) (value_tree d) (slice_get vs k) (slice_get ws k) both)) refl
+
+-- ---- maps
+
+module _ (check : SubtypeCheck) (c d : Collection) (k v l w : ValueType) where
+  -- what was found of the keys of two maps is what was found of the maps at their first place
+  pub part_of_keys : (p : Part) → AreValuesCompared check c d k l p → IsValuePart check c d (composed_side c map_of (k ∷ v ∷ [])) (composed_side d map_of (l ∷ w ∷ [])) (keys_height c (flat_map value_keys (k ∷ v ∷ [])) + 1) (keys_height d (flat_map value_keys (l ∷ w ∷ [])) + 1) 0 p
+  part_of_keys p h =
+      let left = keys_height-member c (k ∷ v ∷ []) 0 k refl in
+      let right = keys_height-member d (l ∷ w ∷ []) 0 l refl in
+      part_of_values check c d (composed_side c map_of (k ∷ v ∷ [])) (composed_side d map_of (l ∷ w ∷ [])) (keys_height c (flat_map value_keys (k ∷ v ∷ [])) + 1) (keys_height d (flat_map value_keys (l ∷ w ∷ [])) + 1) 0 k l (omega arith) ([], refl, refl, λ check f is. rw is (record { alike = tt; same_check = refl; left = refl; right = refl })) (omega (arith, left)) (omega (arith, right)) p h
+
+  -- and so of their values
+  pub part_of_map_values : (p : Part) → AreValuesCompared check c d v w p → IsValuePart check c d (composed_side c map_of (k ∷ v ∷ [])) (composed_side d map_of (l ∷ w ∷ [])) (keys_height c (flat_map value_keys (k ∷ v ∷ [])) + 1) (keys_height d (flat_map value_keys (l ∷ w ∷ [])) + 1) 1 p
+  part_of_map_values p h =
+      let left = keys_height-member c (k ∷ v ∷ []) 1 v refl in
+      let right = keys_height-member d (l ∷ w ∷ []) 1 w refl in
+      part_of_values check c d (composed_side c map_of (k ∷ v ∷ [])) (composed_side d map_of (l ∷ w ∷ [])) (keys_height c (flat_map value_keys (k ∷ v ∷ [])) + 1) (keys_height d (flat_map value_keys (l ∷ w ∷ [])) + 1) 1 v w (omega arith) ([], refl, refl, λ check f is. rw is (record { alike = tt; same_check = refl; left = refl; right = refl })) (omega (arith, left)) (omega (arith, right)) p h
+
+one_tree : (x y : ValueTree) → (let p : Option (Text × Option ValueTree) = Some ([], Some x) in p) ≡ Some ([], Some y) → x ≡ y
+one_tree x y h = let same : Some x ≡ Some y = ap (λ (q : Text × Option ValueTree). q.1) (pair_of ([], Some x) ([], Some y) h) in cc
+
+-- two maps whose keys and values are one
+pub maps_same : (c d : Collection) (k v l w : ValueType) (i : ℕ) → 2 ≤ i → SameBefore (composed_side c map_of (k ∷ v ∷ [])) (composed_side d map_of (l ∷ w ∷ [])) i → composed_side c map_of (k ∷ v ∷ []) ≡ composed_side d map_of (l ∷ w ∷ [])
+maps_same c d k v l w i more same =
+    let keys = one_tree (value_tree c k) (value_tree d l) (same 0 (omega arith)) in
+    let values = one_tree (value_tree c v) (value_tree d w) (same 1 (omega arith)) in
+    rw (keys, values) refl
 
 -- ---- records
 

@@ -1,7 +1,7 @@
 -- The parts of value types and functions, in the order in which they are compared.
 use Rattle.std.specs.Prelude.{◌≡◌, ◌<◌, ◌≤◌, ◌+◌, ◌^◌, ℕ, zero, suc, List, [], ◌∷◌, ◌++◌, map, length, Bool, true, false, Option, Some, None, slice_get}
 use Rattle.wac_model.specs.Text.{Text}
-use Rattle.wac_model.specs.ValueTree.{ValueTree, ValueTrees, FuncTree, node, no_parts, part, tuple, list, fixed_size_list, option, variant, record_of, result_of, stream, future}
+use Rattle.wac_model.specs.ValueTree.{ValueTree, ValueTrees, FuncTree, node, no_parts, part, tuple, list, fixed_size_list, map_of, option, variant, record_of, result_of, stream, future}
 use Rattle.wac_model.specs.ItemTree.{ItemTree, Items, leaf, func, no_items, named, item_at}
 use Rattle.wac_model.specs.Order.{FitsAt}
 use Rattle.wac_mismatch.specs.Place.{Side, item_side, value_side, place}
@@ -58,6 +58,8 @@ abbrev pub IsValueFrame : ValueTree → ℕ → Frame → Type 0
 IsValueFrame (node tuple ts) i f = f ≡ frame.Item i
 IsValueFrame (node list ts) i f = f ≡ frame.ListElement
 IsValueFrame (node (fixed_size_list n) ts) i f = f ≡ frame.FixedSizeListElement
+IsValueFrame (node map_of ts) zero f = f ≡ frame.MapKey
+IsValueFrame (node map_of ts) (suc i) f = f ≡ frame.MapValue
 IsValueFrame (node option ts) i f = f ≡ frame.Option
 IsValueFrame (node (result_of o e) ts) zero f = f ≡ frame.Ok
 IsValueFrame (node (result_of o e) ts) (suc i) f = f ≡ frame.Err

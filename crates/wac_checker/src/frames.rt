@@ -36,6 +36,11 @@ pub(crate) fn defined_frame(
         DefinedType::Tuple(_) => Ok(Frame::Item(index)),
         DefinedType::List(_) => Ok(Frame::ListElement),
         DefinedType::FixedSizeList(_, _) => Ok(Frame::FixedSizeListElement),
+        DefinedType::Map(_, _) => Ok(if index == 0 {
+            Frame::MapKey
+        } else {
+            Frame::MapValue
+        }),
         DefinedType::Option(_) => Ok(Frame::Option),
         DefinedType::Result { .. } => Ok(if index == 0 { Frame::Ok } else { Frame::Err }),
         DefinedType::Variant(variant) => case_frame(&variant.cases, index),

@@ -4,11 +4,11 @@ use Rattle.std.specs.declared.string.String.{String}
 use Rattle.std.specs.declared.alloc.Global.{Global}
 use Rattle.std.specs.Option.{option_map, option_to_list}
 use Rattle.wac_model.specs.Text.{Text}
-use Rattle.wac_model.specs.ValueTree.{tuple, list, fixed_size_list, option, result_of, variant, record_of, flags, enum, stream, future}
+use Rattle.wac_model.specs.ValueTree.{tuple, list, fixed_size_list, map_of, option, result_of, variant, record_of, flags, enum, stream, future}
 use Rattle.wac_component.specs.Collection.{DefinedContent, alias_of, composed, ResourceContent, AliasContent, FuncContent, UseContent, InterfaceContent, WorldContent}
 use Rattle.wac_component.specs.declared.items.ValueType.{ValueType}
 use Rattle.wac_component.specs.declared.defined.DefinedType.{DefinedType}
-use Rattle.wac_component.specs.declared.defined.DefinedType.TheVariants.{Tuple, List as ListOf, FixedSizeList, Option as OptionOf, Result, Variant, Record, Flags, Enum, Alias, Stream, Future}
+use Rattle.wac_component.specs.declared.defined.DefinedType.TheVariants.{Tuple, List as ListOf, FixedSizeList, Map as MapOf, Option as OptionOf, Result, Variant, Record, Flags, Enum, Alias, Stream, Future}
 use Rattle.wac_component.specs.declared.defined.Variant.{Variant as VariantCases}
 use Rattle.wac_component.specs.declared.defined.Record.{Record as RecordFields}
 use Rattle.wac_component.specs.declared.defined.Flags.{Flags as FlagNames}
@@ -57,6 +57,7 @@ abbrev pub defined_content : DefinedType → DefinedContent
 defined_content (Tuple items) = composed tuple items.items
 defined_content (ListOf item) = composed list (item ∷ [])
 defined_content (FixedSizeList item size) = composed (fixed_size_list size) (item ∷ [])
+defined_content (MapOf key value) = composed map_of (key ∷ value ∷ [])
 defined_content (OptionOf item) = composed option (item ∷ [])
 defined_content (Result ok err) = composed (result_of (is_some ok) (is_some err)) (option_to_list ok ++ option_to_list err)
 defined_content (Variant v) = composed (variant (named is_some v.cases.entries)) (case_types v.cases.entries)

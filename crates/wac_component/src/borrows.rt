@@ -41,6 +41,9 @@ impl DefinedType {
             DefinedType::Tuple(items) => items_borrow(items, types),
             DefinedType::List(ty) => ty.contains_borrow(types),
             DefinedType::FixedSizeList(ty, _) => ty.contains_borrow(types),
+            DefinedType::Map(key, value) => {
+                key.contains_borrow(types) || value.contains_borrow(types)
+            }
             DefinedType::Option(ty) => ty.contains_borrow(types),
             DefinedType::Result { ok, err } => {
                 optional_borrows(ok, types) || optional_borrows(err, types)

@@ -13,6 +13,8 @@ pub enum DefinedType {
     List(ValueType),
     /// A list of this element, of this length.
     FixedSizeList(ValueType, u32),
+    /// A map from this key to this value; any value type may stand as the key.
+    Map(ValueType, ValueType),
     /// An option.
     Option(ValueType),
     /// A result.
@@ -49,6 +51,7 @@ impl Clone for DefinedType {
             DefinedType::Tuple(items) => DefinedType::Tuple(items.clone()?),
             DefinedType::List(item) => DefinedType::List(*item),
             DefinedType::FixedSizeList(item, size) => DefinedType::FixedSizeList(*item, *size),
+            DefinedType::Map(key, value) => DefinedType::Map(*key, *value),
             DefinedType::Option(item) => DefinedType::Option(*item),
             DefinedType::Result { ok, err } => DefinedType::Result { ok: *ok, err: *err },
             DefinedType::Variant(variant) => DefinedType::Variant(variant.clone()?),

@@ -71,6 +71,7 @@ impl DefinedType {
             DefinedType::Tuple(_) => "tuple",
             DefinedType::List(_) => "list",
             DefinedType::FixedSizeList(_, _) => "list<,N>",
+            DefinedType::Map(_, _) => "map",
             DefinedType::Option(_) => "option",
             DefinedType::Result { .. } => "result",
             DefinedType::Variant(_) => "variant",

@@ -97,6 +97,10 @@ impl DefinedType {
             DefinedType::Variant(variant) => Parts::Cases(&variant.cases),
             DefinedType::Record(record) => Parts::Fields(&record.fields),
             DefinedType::Flags(_) | DefinedType::Enum(_) => NONE,
+            DefinedType::Map(key, value) => Parts::Pair(
+                Some(ItemKind::Value(*key)),
+                Some(ItemKind::Value(*value)),
+            ),
             DefinedType::Result { ok, err } => Parts::Pair(value_item(*ok), value_item(*err)),
             DefinedType::Stream(ty) | DefinedType::Future(ty) => Parts::Pair(value_item(*ty), None),
             DefinedType::List(ty)

@@ -69,6 +69,10 @@ fn visit_members<E: Drop, F: FnMut(&Types, DefinedTypeId) -> Result<(), E>>(
         DefinedType::Tuple(items) => visit_items(items, types, visitor),
         DefinedType::List(ty) => visit_value(*ty, types, visitor),
         DefinedType::FixedSizeList(ty, _) => visit_value(*ty, types, visitor),
+        DefinedType::Map(key, value) => {
+            visit_value(*key, types, visitor)?;
+            visit_value(*value, types, visitor)
+        }
         DefinedType::Option(ty) => visit_value(*ty, types, visitor),
         DefinedType::Result { ok, err } => {
             visit_optional(ok, types, visitor)?;

@@ -28,6 +28,9 @@ module _ (R : ValueType → ValueType → Type 0) where
   pub content_one : (l : ValueLabel) (v w : ValueType) → R v w → AreDefined R (composed l (v ∷ [])) (composed l (w ∷ []))
   content_one l v w h = (refl, listed.one h listed.none)
 
+  pub content_two : (l : ValueLabel) (u v x y : ValueType) → R u x → R v y → AreDefined R (composed l (u ∷ v ∷ [])) (composed l (x ∷ y ∷ []))
+  content_two l u v x y h g = (refl, listed.one h (listed.one g listed.none))
+
   pub content_option : (label : Bool → ValueLabel) (o q : Option ValueType) → IfAny R o q → AreDefined R (composed (label (is_some o)) (option_to_list o)) (composed (label (is_some q)) (option_to_list q))
   content_option label o q h = (ap label (same_presence o q h), listed_option o q h)
 

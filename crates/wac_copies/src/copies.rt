@@ -213,6 +213,11 @@ fn copy_content(
             let item = copy_value(own, copies, types, *item)?;
             Ok(DefinedType::FixedSizeList(item, *size))
         }
+        DefinedType::Map(key, value) => {
+            let key = copy_value(own, copies, types, *key)?;
+            let value = copy_value(own, copies, types, *value)?;
+            Ok(DefinedType::Map(key, value))
+        }
         DefinedType::Option(item) => {
             let item = copy_value(own, copies, types, *item)?;
             Ok(DefinedType::Option(item))

@@ -56,6 +56,10 @@ fn push_defined(text: &mut String, types: &Types, ty: &DefinedType) -> Result<()
             push_payload(text, types, "list<", Some(*item), ";")?;
             write!(text, "{size}>")
         }
+        DefinedType::Map(key, value) => {
+            push_payload(text, types, "map<", Some(*key), ",")?;
+            push_payload(text, types, "", Some(*value), ">")
+        }
         DefinedType::Option(item) => push_payload(text, types, "option<", Some(*item), ">"),
         DefinedType::Result { ok, err } => {
             push_payload(text, types, "result<", *ok, ",")?;

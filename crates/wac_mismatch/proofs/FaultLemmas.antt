@@ -1,7 +1,7 @@
 -- Of whatever a fault holds does not fit.
 use Rattle.std.proofs.Common.{◌≡◌, ◌≢◌, ℕ, List, [], Bool, Some, string_bytes, slice_get, length, map, refl, ap, sym, ◌∙◌, is_some, Option, None, inl, inr}
 use Rattle.wac_model.specs.Text.{Text, ImportName}
-use Rattle.wac_model.specs.ValueTree.{ValueTree, FuncTree, node, part_count, primitive, borrow, own, tuple, list, fixed_size_list, option, result_of, variant, record_of, flags, enum, stream, future}
+use Rattle.wac_model.specs.ValueTree.{ValueTree, FuncTree, node, part_count, primitive, borrow, own, tuple, list, fixed_size_list, map_of, option, result_of, variant, record_of, flags, enum, stream, future}
 use Rattle.wac_model.specs.CoreTree.{CoreTree, RefTree, CoreTypeTree, CoreFits, Serves, plain, limited, func as core_func, tag, global, table, memory}
 use Rattle.wac_model.specs.ItemTree.{ItemTree, Kind, Leaf, leaf, core_module, composite, no_items, item, type_item, resource, func, value, interface, world}
 use Rattle.wac_model.specs.Order.{Fits, FitsAt, leaves, modules, composites, not_asked, there}
@@ -72,6 +72,7 @@ values_differ f (node (own r) ts) (node (own s) us) h same = resource_differ f r
 values_differ f (node tuple ts) (node tuple us) h same = let parts : ts ≡ us = cc in count_differ count_of.Tuple f (part_count ts) (part_count us) h (ap part_count parts)
 values_differ f (node list ts) (node list us) h same = elim h [ ]
 values_differ f (node (fixed_size_list m) ts) (node (fixed_size_list n) us) h same = size_differ f m n h (cc)
+values_differ f (node map_of ts) (node map_of us) h same = elim h [ ]
 values_differ f (node option ts) (node option us) h same = elim h [ ]
 values_differ f (node (result_of o r) ts) (node (result_of o' r') us) h same = result_differ f o r o' r' h (cc)
 values_differ f (node (variant xs) ts) (node (variant ys) us) h same = variant_differ f xs ys h (cc)

@@ -2,7 +2,7 @@
 use Rattle.std.specs.Prelude.{[], ◌∷◌, codes, decimal, string_bytes}
 use Rattle.wac_model.specs.Text.{Text, joined}
 use Rattle.wac_mismatch.specs.declared.frame.Frame.{Frame}
-use Rattle.wac_mismatch.specs.declared.frame.Frame.TheVariants.{Export, Import, CoreImport, Parameter, FuncResult, ListElement, FixedSizeListElement, FuturePayload, StreamPayload, Option, Ok, Err, Field, Case, Item}
+use Rattle.wac_mismatch.specs.declared.frame.Frame.TheVariants.{Export, Import, CoreImport, Parameter, FuncResult, ListElement, FixedSizeListElement, MapKey, MapValue, FuturePayload, StreamPayload, Option, Ok, Err, Field, Case, Item}
 
 abbrev pub frame_text : Frame → Text
 frame_text (Export n) = joined (codes "mismatched type for export `" ∷ string_bytes n ∷ codes "`" ∷ [])
@@ -12,6 +12,8 @@ frame_text (Parameter n) = joined (codes "mismatched type for function parameter
 frame_text FuncResult = codes "mismatched type for function result"
 frame_text ListElement = codes "mismatched type for list element"
 frame_text FixedSizeListElement = codes "mismatched type for fixed size list element"
+frame_text MapKey = codes "mismatched type for map key"
+frame_text MapValue = codes "mismatched type for map value"
 frame_text FuturePayload = codes "mismatched type for future payload"
 frame_text StreamPayload = codes "mismatched type for stream payload"
 frame_text Option = codes "mismatched type for option"

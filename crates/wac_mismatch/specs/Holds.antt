@@ -3,7 +3,7 @@ use Rattle.std.specs.Prelude.{◌≡◌, ◌≢◌, ℕ, List, Bool, true, false
 use Rattle.std.specs.Str.{bytes_eq}
 use Rattle.wac_model.specs.Text.{Text, ImportName, import_name_eq, lookup}
 use Rattle.wac_model.specs.Desc.{value_desc, item_desc}
-use Rattle.wac_model.specs.ValueTree.{ValueTree, FuncTree, node, part_count, primitive, borrow, own, tuple, list, fixed_size_list, option, result_of, variant, record_of, flags, enum, stream, future}
+use Rattle.wac_model.specs.ValueTree.{ValueTree, FuncTree, node, part_count, primitive, borrow, own, tuple, list, fixed_size_list, map_of, option, result_of, variant, record_of, flags, enum, stream, future}
 use Rattle.wac_model.specs.CoreTree.{CoreTree, RefTree, CoreTypeTree, LimitsFit, plain, limited, func as core_func, tag, global, table, memory}
 use Rattle.wac_model.specs.ItemTree.{ItemTree, Kind, Leaf, leaf, core_module, composite, item, type_item, resource, func, value, interface, world, item_at}
 use Rattle.wac_core.specs.Content.{ref_tree, core_type_tree, func_content}
@@ -73,6 +73,7 @@ HoldsOfValues f (node (own r) ts) (node (own s) us) = IsResource f r s
 HoldsOfValues f (node tuple ts) (node tuple us) = IsCount count_of.Tuple f (part_count ts) (part_count us)
 HoldsOfValues f (node list ts) (node list us) = ⊥
 HoldsOfValues f (node (fixed_size_list m) ts) (node (fixed_size_list n) us) = IsFixedSize f m n
+HoldsOfValues f (node map_of ts) (node map_of us) = ⊥
 HoldsOfValues f (node option ts) (node option us) = ⊥
 HoldsOfValues f (node (result_of o r) ts) (node (result_of o' r') us) = IsOfResult f o r o' r'
 HoldsOfValues f (node (variant xs) ts) (node (variant ys) us) = IsOfVariant f xs ys

@@ -2,11 +2,11 @@
 use Rattle.std.specs.Prelude.{List, [], ◌∷◌, Bool, true, false, Option as Opt, Some, None, string_bytes, if◌then◌else◌}
 use Rattle.std.specs.Str.{bytes_eq}
 use Rattle.wac_model.specs.Text.{Text, lookup, import_name_eq}
-use Rattle.wac_model.specs.ValueTree.{ValueTree, ValueTrees, FuncTree, node, no_parts, part, part_at, tuple, list, fixed_size_list, option, result_of, variant, record_of, stream, future}
+use Rattle.wac_model.specs.ValueTree.{ValueTree, ValueTrees, FuncTree, node, no_parts, part, part_at, tuple, list, fixed_size_list, map_of, option, result_of, variant, record_of, stream, future}
 use Rattle.wac_model.specs.CoreTree.{CoreTree, ModuleTree}
 use Rattle.wac_model.specs.ItemTree.{ItemTree, Items, Shape, leaf, core_module, composite, world, item_at, resource, func, value}
 use Rattle.wac_mismatch.specs.declared.frame.Frame.{Frame}
-use Rattle.wac_mismatch.specs.declared.frame.Frame.TheVariants.{Export, Import, CoreImport, Parameter, FuncResult, ListElement, FixedSizeListElement, FuturePayload, StreamPayload, Option, Ok, Err, Field, Case, Item}
+use Rattle.wac_mismatch.specs.declared.frame.Frame.TheVariants.{Export, Import, CoreImport, Parameter, FuncResult, ListElement, FixedSizeListElement, MapKey, MapValue, FuturePayload, StreamPayload, Option, Ok, Err, Field, Case, Item}
 use Rattle.wac_mismatch.specs.Place.{Side, item_side, core_side, value_side, absent}
 
 -- the value type, as a side
@@ -37,6 +37,8 @@ payload_part false ts = Some absent
 abbrev pub value_part : Frame → ValueTree → Opt Side
 value_part ListElement (node list ts) = sided (part_at ts 0)
 value_part FixedSizeListElement (node (fixed_size_list n) ts) = sided (part_at ts 0)
+value_part MapKey (node map_of ts) = sided (part_at ts 0)
+value_part MapValue (node map_of ts) = sided (part_at ts 1)
 value_part FuturePayload (node (future p) ts) = payload_part p ts
 value_part StreamPayload (node (stream p) ts) = payload_part p ts
 value_part Option (node option ts) = sided (part_at ts 0)

@@ -21,6 +21,10 @@ pub enum Frame {
     ListElement,
     /// To the elements of two lists of fixed size.
     FixedSizeListElement,
+    /// To the keys of two maps.
+    MapKey,
+    /// To the values of two maps.
+    MapValue,
     /// To the payloads of two futures, each there or not.
     FuturePayload,
     /// To the payloads of two streams, each there or not.
@@ -60,6 +64,8 @@ impl fmt::Display for Frame {
             Frame::FixedSizeListElement => {
                 write!(f, "mismatched type for fixed size list element")
             }
+            Frame::MapKey => write!(f, "mismatched type for map key"),
+            Frame::MapValue => write!(f, "mismatched type for map value"),
             Frame::FuturePayload => write!(f, "mismatched type for future payload"),
             Frame::StreamPayload => write!(f, "mismatched type for stream payload"),
             Frame::Option => write!(f, "mismatched type for option"),

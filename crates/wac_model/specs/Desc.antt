@@ -3,7 +3,7 @@ use Rattle.std.specs.Prelude.{codes}
 use Rattle.wac_model.specs.declared.primitive.PrimitiveType.{PrimitiveType}
 use Rattle.wac_model.specs.declared.primitive.PrimitiveType.TheVariants.{U8, S8, U16, S16, U32, S32, U64, S64, F32, F64, Char, Bool, String, ErrorContext}
 use Rattle.wac_model.specs.Text.{Text}
-use Rattle.wac_model.specs.ValueTree.{ValueLabel, primitive, borrow, own, tuple, list, fixed_size_list, option, result_of, variant, record_of, flags, enum, stream, future, ValueTree, node}
+use Rattle.wac_model.specs.ValueTree.{ValueLabel, primitive, borrow, own, tuple, list, fixed_size_list, map_of, option, result_of, variant, record_of, flags, enum, stream, future, ValueTree, node}
 use Rattle.wac_model.specs.ItemTree.{ItemTree, leaf, core_module, composite, item, type_item, resource, func, value, interface, world}
 
 -- the name of a primitive type in WIT
@@ -31,6 +31,7 @@ label_desc (own r) = codes "own"
 label_desc tuple = codes "tuple"
 label_desc list = codes "list"
 label_desc (fixed_size_list n) = codes "list<,N>"
+label_desc map_of = codes "map"
 label_desc option = codes "option"
 label_desc (result_of o e) = codes "result"
 label_desc (variant cs) = codes "variant"

@@ -12,6 +12,8 @@ pub data ValueLabel : Type 0 where
   tuple : ValueLabel
   list : ValueLabel
   fixed_size_list : (size : ℕ) → ValueLabel
+  -- of a key and a value
+  map_of : ValueLabel
   option : ValueLabel
   -- whether there is a type for `ok`, and one for `err`
   result_of : (ok err : Bool) → ValueLabel

@@ -110,6 +110,18 @@ fn fixed_of<'a>(types: &Types, words: &[&'a str]) -> Result<DefinedType, ScriptE
     Ok(DefinedType::FixedSizeList(item, read_small_number(size)?))
 }
 
+// A map from a key to a value.
+fn map_of<'a>(types: &Types, words: &[&'a str]) -> Result<DefinedType, ScriptError<'a>>
+    ensures { IfOk result (λ ty. AllStand types.now (defined_keys (defined_content ty))) }
+{
+    let [key, value] = *words else {
+        return Err(ScriptError::Misused("def map VALUE VALUE"));
+    };
+    let key = find_value(types, read_value(key)?)?;
+    let value = find_value(types, read_value(value)?)?;
+    Ok(DefinedType::Map(key, value))
+}
+
 fn result_of<'a>(types: &Types, words: &[&'a str]) -> Result<DefinedType, ScriptError<'a>>
     ensures { IfOk result (λ ty. AllStand types.now (defined_keys (defined_content ty))) }
 {
@@ -159,6 +171,7 @@ pub(crate) fn definition_of<'a>(
             Ok(DefinedType::Alias(find_value(types, value)?))
         }
         "fixed" => fixed_of(types, words),
+        "map" => map_of(types, words),
         "result" => result_of(types, words),
         "stream" => {
             let value = only_optional_value("def stream VALUE|-", words)?;

@@ -60,6 +60,10 @@ fn push_definition(line: &mut String, ty: &DefinedType) -> Result<(), AllocError
             push_optional(line, "def fixed ", Some(*ty))?;
             write!(line, " {size}")
         }
+        DefinedType::Map(key, value) => {
+            push_optional(line, "def map ", Some(*key))?;
+            push_optional(line, " ", Some(*value))
+        }
         DefinedType::Option(ty) => push_optional(line, "def option ", Some(*ty)),
         DefinedType::Result { ok, err } => {
             push_optional(line, "def result ", *ok)?;

@@ -29,7 +29,7 @@
 //! |---|---|
 //! | `script NAME` | forgets everything |
 //! | `coll N` | begins collection N, or goes back to it |
-//! | `def KIND ..` | adds a defined type: `tuple VALUE*`, `list VALUE`, `option VALUE`, `alias VALUE`, `fixed VALUE SIZE`, `result VALUE\|- VALUE\|-`, `stream VALUE\|-`, `future VALUE\|-`, `variant (NAME=VALUE\|-)*`, `record (NAME=VALUE)*`, `flags NAME*`, `enum NAME*` |
+//! | `def KIND ..` | adds a defined type: `tuple VALUE*`, `list VALUE`, `option VALUE`, `alias VALUE`, `fixed VALUE SIZE`, `map VALUE VALUE`, `result VALUE\|- VALUE\|-`, `stream VALUE\|-`, `future VALUE\|-`, `variant (NAME=VALUE\|-)*`, `record (NAME=VALUE)*`, `flags NAME*`, `enum NAME*` |
 //! | `res NAME [rN iN\|-]` | adds a resource, with what it is an alias of and that alias's owner |
 //! | `func sync\|async VALUE\|- (NAME=VALUE)*` | adds a function: its result and its parameters |
 //! | `iface NAME\|- MEMBER*` | adds an interface: its identifier, uses `u:NAME=iN[=NAME]` (with the name that the type has there) and exports `e:NAME=ITEM` |

@@ -222,6 +222,11 @@ fn take_content(
             let item = take_value(state, types, *item)?;
             Ok(DefinedType::FixedSizeList(item, *size))
         }
+        DefinedType::Map(key, value) => {
+            let key = take_value(state, types, *key)?;
+            let value = take_value(state, types, *value)?;
+            Ok(DefinedType::Map(key, value))
+        }
         DefinedType::Option(item) => {
             let item = take_value(state, types, *item)?;
             Ok(DefinedType::Option(item))

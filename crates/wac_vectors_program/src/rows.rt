@@ -11,7 +11,7 @@ use wac_mismatch::SubtypeError;
 use wac_model::PrimitiveType;
 
 // Which item is asked about, and which is asked for.
-static ROWS: [(Side, Side); 14] = [
+static ROWS: [(Side, Side); 17] = [
     (
         Side::Value(PrimitiveType::U8),
         Side::Value(PrimitiveType::U8),
@@ -35,6 +35,18 @@ static ROWS: [(Side, Side); 14] = [
     (Side::Module(2, Some(5)), Side::Module(1, None)),
     (Side::Module(1, None), Side::Module(2, Some(5))),
     (Side::Value(PrimitiveType::U8), Side::Func(None)),
+    (
+        Side::Map(PrimitiveType::String, PrimitiveType::U8),
+        Side::Map(PrimitiveType::String, PrimitiveType::U8),
+    ),
+    (
+        Side::Map(PrimitiveType::String, PrimitiveType::U8),
+        Side::Map(PrimitiveType::String, PrimitiveType::S8),
+    ),
+    (
+        Side::Map(PrimitiveType::String, PrimitiveType::U8),
+        Side::List(PrimitiveType::U8),
+    ),
 ];
 
 /// Prints each row's number and answer: `yes`, or `no:` and the outermost text of the error.

@@ -19,6 +19,8 @@ pub(crate) enum Side {
     Value(PrimitiveType),
     // A value of a list.
     List(PrimitiveType),
+    // A value of a map, with these as its key and its value.
+    Map(PrimitiveType, PrimitiveType),
     // A value of a stream, with a payload or none.
     Stream(Option<PrimitiveType>),
     // A function, with the name of a parameter of type `u8` if it has one.
@@ -47,6 +49,10 @@ pub(crate) fn add_side(alloc: Global, types: &mut Types, side: Side) -> Result<I
     match side {
         Side::Value(ty) => Ok(ItemKind::Value(ValueType::Primitive(ty))),
         Side::List(ty) => add_value(types, DefinedType::List(ValueType::Primitive(ty))),
+        Side::Map(key, value) => {
+            let key = ValueType::Primitive(key);
+            add_value(types, DefinedType::Map(key, ValueType::Primitive(value)))
+        }
         Side::Stream(None) => add_value(types, DefinedType::Stream(None)),
         Side::Stream(Some(ty)) => {
             add_value(types, DefinedType::Stream(Some(ValueType::Primitive(ty))))

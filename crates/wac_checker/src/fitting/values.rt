@@ -216,6 +216,9 @@ pub(super) fn defined_types_fit(
             }
             values_fit(known, swapped, *x, at, *y, bt)
         }
+        (DefinedType::Map(x, v), DefinedType::Map(y, w)) => {
+            lists_fit(known, swapped, &[*x, *v], at, &[*y, *w], bt)
+        }
         (DefinedType::Option(x), DefinedType::Option(y)) => {
             values_fit(known, swapped, *x, at, *y, bt)
         }

@@ -3,14 +3,14 @@ use Rattle.std.proofs.lemmas.List.Elements.{same_from_all_zip}
 use Rattle.std.specs.List.{flat_map}
 use Rattle.std.specs.Option.{option_map, option_to_list}
 use Rattle.wac_model.specs.ItemTree.{item, type_item}
-use Rattle.wac_model.specs.ValueTree.{list, fixed_size_list, option, flags, enum, stream, future}
+use Rattle.wac_model.specs.ValueTree.{list, fixed_size_list, map_of, option, flags, enum, stream, future}
 use Rattle.wac_component.proofs.CloneLemmas.{named-clones, option-clone, option_map-clone}
 use Rattle.wac_component.proofs.Keys.{Each-flat_map_at, largest-append, largest-flat_map_at}
 use Rattle.wac_component.proofs.Members.{uses_stand, exports_stand, exports_lower, world_uses_stand, world_imports_stand, world_exports_stand, world_imports_lower, world_exports_lower}
 use Rattle.wac_component.specs.Content.{alias_content, defined_content, resource_content, func_content, interface_content, world_content, named, use_content, types_of, case_types}
 use Rattle.wac_component.specs.Height.{height, keys_height}
 use Rattle.wac_component.specs.Key.{Stands, AllStand, defined_entry, resource_entry, func_entry, interface_entry, world_entry, item_keys, value_keys, alias_keys, optional_keys, named_keys, use_keys, defined_keys, func_keys, interface_keys, world_keys, defined_key, resource_key, func_key, interface_key, world_key, module_key}
-use Rattle.wac_component.specs.declared.defined.DefinedType.TheVariants.{List as ListOf, FixedSizeList, Option as OptionOf, Result, Variant, Record, Flags, Enum, Stream, Future}
+use Rattle.wac_component.specs.declared.defined.DefinedType.TheVariants.{List as ListOf, FixedSizeList, Map as MapOf, Option as OptionOf, Result, Variant, Record, Flags, Enum, Stream, Future}
 use Rattle.wac_component.specs.declared.items.ItemKind.TheVariants.{«Type» as OfType, Func, Instance, Component, Module}
 use Rattle.wac_component.specs.declared.items.Type.TheVariants.{Resource as TypeResource, Func as TypeFunc, Interface as TypeInterface, World as TypeWorld, Module as TypeModule}
 use Rattle.wac_component.specs.declared.items.ValueType.TheVariants.{Primitive, Borrow, Own, Defined}
@@ -23,7 +23,7 @@ use Rattle.wac_narrowing.specs.Values.{IsCopiedValue, IfAny, neither, both, AreD
 use Rattle.wac_narrowing.specs.Values as listed
 use Rattle.wac_copies.specs.Copies.{Copies, IsCopiedAlias, IsCopiedUse, moved}
 use Rattle.wac_copies.proofs.Arms.{copied_item, copied_value, copied_content, named_stands, named_lower, used_use, used_there, used_stands, used_lower, Copies-set, Copies-place, Copies-use, types-named, one_lower, last_lower, first_lower, others_lower, cases_flat, params_stand, result_stands, params_lower, result_lower, uses_lower, world_uses_lower}
-use Rattle.wac_copies.proofs.Contents.{content_one, content_option, content_result, content_record, content_variant}
+use Rattle.wac_copies.proofs.Contents.{content_one, content_two, content_option, content_result, content_record, content_variant}
 use Rattle.wac_copies.proofs.CopyLemmas.{MayCopy-Copies, Copies-none, Copies-more, Copies-then, Copies-hit, Copies-enter, still_absent}
 use Rattle.wac_copies.proofs.Enters.{defined_stands, alias_stands, func_stands, interface_stands, world_stands, interface_is_copied, world_is_copied, defined_enters, func_enters, resource_enters, interface_enters, world_enters}
 use Rattle.wac_copies.proofs.Parts.{borrow_of_copy, own_of_copy, defined_of_copy, alias_of_copies, owner_still, uses_still, items_still, values_still, option_still}
@@ -241,6 +241,24 @@ copy_content-returns-in_ok-item-in-List t c =
 pub copy_content-returns-in_ok-item-in-FixedSizeList : goal.copy_content-returns-in_ok-item-in-FixedSizeList
 copy_content-returns-in_ok-item-in-FixedSizeList t c =
     copied_content c.args.types.now c.args.own.now c.copy_value-in-FixedSizeList.new.own c.args.copies.now c.copy_value-in-FixedSizeList.new.copies (keys_height c.args.types.now (value_keys c.in-FixedSizeList.item)) (λ s. IsCopiedValue c.args.types.now s c.in-FixedSizeList.item c.in_ok-item-in-FixedSizeList.item) c.args.ty.now (FixedSizeList c.in-FixedSizeList.item c.in-FixedSizeList.size) (FixedSizeList c.in_ok-item-in-FixedSizeList.item c.in-FixedSizeList.size) c.in-FixedSizeList.is (one_lower c.args.types.now c.in-FixedSizeList.item) (λ s q. content_one (IsCopiedValue c.args.types.now s) (fixed_size_list c.in-FixedSizeList.size) c.in-FixedSizeList.item c.in_ok-item-in-FixedSizeList.item q) c.in_ok-item-in-FixedSizeList.ensures
+
+pub copy_content-copy_value-in-Map-requires : goal.copy_content-copy_value-in-Map-requires
+copy_content-copy_value-in-Map-requires t c =
+    let f = c.args.types.now in
+    let k = c.in-Map.key in
+    let v = c.in-Map.value in
+    let stand : AllStand f (flat_map value_keys (k ∷ v ∷ [])) = subst (λ x. AllStand f (defined_keys (defined_content x))) c.in-Map.is c.requires.source in
+    (omega (arith, ap (λ x. keys_height f (defined_keys (defined_content x))) c.in-Map.is, largest-flat_map_at (height f) value_keys (k ∷ v ∷ []) 0 k refl), (Each-flat_map_at (Stands f) value_keys (k ∷ v ∷ []) 0 k refl stand, c.requires.state))
+
+pub copy_content-returns-in_ok-value-in-Map : goal.copy_content-returns-in_ok-value-in-Map
+copy_content-returns-in_ok-value-in-Map t c =
+    let f = c.args.types.now in
+    let k = c.in-Map.key in
+    let v = c.in-Map.value in
+    let x = c.in_ok-key.key in
+    let y = c.in_ok-value.value in
+    copied_content f c.args.own.now c.copy_value-in-Map-2.new.own c.args.copies.now c.copy_value-in-Map-2.new.copies (keys_height f (flat_map value_keys (k ∷ v ∷ []))) (λ s. IsCopiedValue f s k x × IsCopiedValue f s v y) c.args.ty.now (MapOf k v) (MapOf x y) c.in-Map.is (omega arith) (λ s q. content_two (IsCopiedValue f s) map_of k v x y q.0 q.1)
+    (Copies-then f c.args.own.now c.copy_value-in-Map.new.own c.copy_value-in-Map-2.new.own c.args.copies.now c.copy_value-in-Map.new.copies c.copy_value-in-Map-2.new.copies (keys_height f (value_keys k)) (keys_height f (value_keys v)) (keys_height f (flat_map value_keys (k ∷ v ∷ []))) (λ s. IsCopiedValue f s k x) (λ s. IsCopiedValue f s v y) (largest-flat_map_at (height f) value_keys (k ∷ v ∷ []) 0 k refl) (largest-flat_map_at (height f) value_keys (k ∷ v ∷ []) 1 v refl) (λ s u kept run h. copied_value_still class_of f s u kept (RemembersTruly class_of) f run k x h) c.in_ok-key.ensures c.in_ok-value.ensures)
 
 pub copy_content-returns-in_ok-item-in-Option : goal.copy_content-returns-in_ok-item-in-Option
 copy_content-returns-in_ok-item-in-Option t c =

@@ -4,14 +4,14 @@ use Rattle.std.proofs.lemmas.Result.{MatchResult-weaker}
 use Rattle.std.specs.List.{flat_map}
 use Rattle.std.specs.Option.{option_and_then, option_map, option_map_or, option_to_list}
 use Rattle.wac_model.specs.ItemTree.{item, type_item}
-use Rattle.wac_model.specs.ValueTree.{list, fixed_size_list, option, flags, enum, stream, future}
+use Rattle.wac_model.specs.ValueTree.{list, fixed_size_list, map_of, option, flags, enum, stream, future}
 use Rattle.wac_component.proofs.CloneLemmas.{named-clones, option-clone}
 use Rattle.wac_component.proofs.Keys.{Each-flat_map_at, Each-left, Each-right, largest-append, largest-flat_map_at}
 use Rattle.wac_component.proofs.Members.{uses_stand, exports_stand, exports_lower, world_uses_stand, world_imports_stand, world_exports_stand, world_imports_lower, world_exports_lower}
 use Rattle.wac_component.specs.Content.{alias_content, defined_content, resource_content, func_content, interface_content, world_content, named, use_content, types_of, case_types}
 use Rattle.wac_component.specs.Height.{height, keys_height}
 use Rattle.wac_component.specs.Key.{other_keys, Stands, AllStand, defined_entry, resource_entry, func_entry, world_entry, item_keys, type_keys, value_keys, alias_keys, optional_keys, named_keys, use_keys, defined_keys, func_keys, interface_keys, world_keys, defined_key, resource_key, func_key, interface_key, world_key, module_key}
-use Rattle.wac_component.specs.declared.defined.DefinedType.TheVariants.{Tuple, Alias as AliasOf, List as ListOf, FixedSizeList, Option as OptionOf, Result, Variant, Record, Flags, Enum, Stream, Future}
+use Rattle.wac_component.specs.declared.defined.DefinedType.TheVariants.{Tuple, Alias as AliasOf, List as ListOf, FixedSizeList, Map as MapOf, Option as OptionOf, Result, Variant, Record, Flags, Enum, Stream, Future}
 use Rattle.wac_component.specs.declared.interfaces.UsedType.{UsedType}
 use Rattle.wac_component.specs.declared.items.ItemKind.TheVariants.{«Type» as OfType, Func, Instance, Component, Module, Value}
 use Rattle.wac_component.specs.declared.items.Type.TheVariants.{Resource as TypeResource, Func as TypeFunc, Interface as TypeInterface, World as TypeWorld, Module as TypeModule, Value as TypeValue}
@@ -25,7 +25,7 @@ use Rattle.wac_narrowing.specs.Taking.{no_keys, AreMapped, IsTakenKey, IsTakenIt
 use Rattle.wac_narrowing.specs.Values.{IsTakenValue, IfAny, neither, both, AreDefined, AreListed}
 use Rattle.wac_narrowing.specs.Values as listed
 use Rattle.wac_copies.proofs.Arms.{named_stands, named_lower, used_there, used_stands, used_lower, types-named, one_lower, last_lower, first_lower, others_lower, cases_flat, params_stand, result_stands, params_lower, result_lower, uses_lower, world_uses_lower}
-use Rattle.wac_copies.proofs.Contents.{content_one, content_option, content_result, content_record, content_variant}
+use Rattle.wac_copies.proofs.Contents.{content_one, content_two, content_option, content_result, content_record, content_variant}
 use Rattle.wac_copies.proofs.Parts.{items_still as copies_still}
 use Rattle.wac_copies.proofs.Placed.{ArePlaced, set_start, set_whole, set_count, named_count, length-named, placed_start, placed_whole}
 use Rattle.wac_taking.specs.Takes.{AreWithin, state_of, near_keys, TakesBy, Takes, LeadsToOwner, IsTakenAlias, IsTakenOwner, IsTakenUse, alias_at}
@@ -242,6 +242,16 @@ take_content-returns-in_ok-item-in-List t c =
 pub take_content-returns-in_ok-item-in-FixedSizeList : goal.take_content-returns-in_ok-item-in-FixedSizeList
 take_content-returns-in_ok-item-in-FixedSizeList t c =
     taken_content c.args.types.now c.args.state.now c.take_value-in-FixedSizeList.new.state c.requires.state (keys_height c.args.types.now (value_keys c.in-FixedSizeList.item)) _ (λ s. IsTakenValue class_of c.args.types.now s c.in-FixedSizeList.item c.in_ok-item-in-FixedSizeList.item) c.args.ty.now (FixedSizeList c.in-FixedSizeList.item c.in-FixedSizeList.size) (FixedSizeList c.in_ok-item-in-FixedSizeList.item c.in-FixedSizeList.size) c.in-FixedSizeList.is (one_lower c.args.types.now c.in-FixedSizeList.item) (within_left c.args.types.now (value_keys c.in-FixedSizeList.item) []) (λ s q. content_one (IsTakenValue class_of c.args.types.now s) (fixed_size_list c.in-FixedSizeList.size) c.in-FixedSizeList.item c.in_ok-item-in-FixedSizeList.item q) c.in_ok-item-in-FixedSizeList.ensures
+
+pub take_content-returns-in_ok-value-in-Map : goal.take_content-returns-in_ok-value-in-Map
+take_content-returns-in_ok-value-in-Map t c =
+    let f = c.args.types.now in
+    let k = c.in-Map.key in
+    let v = c.in-Map.value in
+    let x = c.in_ok-key.key in
+    let y = c.in_ok-value.value in
+    taken_content f c.args.state.now c.take_value-in-Map-2.new.state c.requires.state (keys_height f (flat_map value_keys (k ∷ v ∷ []))) _ (λ s. IsTakenValue class_of f s k x × IsTakenValue class_of f s v y) c.args.ty.now (MapOf k v) (MapOf x y) c.in-Map.is (omega arith) (within_all f _) (λ s q. content_two (IsTakenValue class_of f s) map_of k v x y q.0 q.1)
+    (Takes-then f c.args.state.now c.take_value-in-Map.new.state c.take_value-in-Map-2.new.state (keys_height f (value_keys k)) (keys_height f (value_keys v)) (keys_height f (flat_map value_keys (k ∷ v ∷ []))) _ _ (flat_map value_keys (k ∷ v ∷ [])) (λ s. IsTakenValue class_of f s k x) (λ s. IsTakenValue class_of f s v y) (largest-flat_map_at (height f) value_keys (k ∷ v ∷ []) 0 k refl) (largest-flat_map_at (height f) value_keys (k ∷ v ∷ []) 1 v refl) (within_at f value_keys (k ∷ v ∷ []) 0 k refl) (within_at f value_keys (k ∷ v ∷ []) 1 v refl) c.requires.state (λ s u kept run h. taken_value_still class_of f s u kept (RemembersTruly class_of) f run k x h) c.in_ok-key.ensures c.in_ok-value.ensures)
 
 pub take_content-returns-in_ok-item-in-Option : goal.take_content-returns-in_ok-item-in-Option
 take_content-returns-in_ok-item-in-Option t c =

@@ -1,4 +1,4 @@
-use Rattle.std.proofs.Common.{◌+◌, ◌++◌, arith}
+use Rattle.std.proofs.Common.{List, ◌+◌, ◌++◌, ap, arith}
 use Rattle.std.specs.List.{flat_map}
 use Rattle.std.specs.Option.{option_to_list}
 use Rattle.wac_component.specs.Height.{keys_height}
@@ -6,7 +6,7 @@ use Rattle.wac_component.specs.Key.{value_keys}
 use Rattle.wac_component.specs.Content.{defined_content}
 use Rattle.wac_component.specs.Tree.{value_tree}
 use Rattle.wac_component.specs.declared.defined.DefinedType.TheVariants as of
-use Rattle.wac_model.specs.ValueTree.{stream, future}
+use Rattle.wac_model.specs.ValueTree.{ValueTree, node, parts_of, map_of, stream, future}
 use Rattle.wac_checker.specs.Known.{pairs_of}
 use Rattle.wac_checker.proofs.KnownLemmas.{grown_twice, follow_two, yes_of}
 use Rattle.wac_checker.proofs.PairLemmas.{trees_one}
@@ -14,6 +14,12 @@ use Rattle.wac_checker.proofs.CaseLemmas.{variants_one}
 use Rattle.wac_checker.proofs.OneLemmas.{records_one, payloads_one, results_one, first_lower, second_lower}
 use Rattle.wac_checker.proofs.FittingLemmas.{contents_follow}
 use Rattle.wac_checker.proofs.fitting.values.defined_types_fit.Goals as goal
+
+pub returns-in-Map-Map-clause-yes : goal.returns-in-Map-Map-clause-yes
+returns-in-Map-Map-clause-yes c =
+    let left_lower = rw c.in-Map-Map.is-0 at c.index.ensures.lower in
+    let right_lower = rw c.in-Map-Map.is-1 at c.index-2.ensures.lower in
+    contents_follow c.args.at.now c.args.bt.now c.args.swapped (pairs_of c.lists_fit-in-Map-Map.new.known) c.lists_fit-in-Map-Map.result c.args.a c.args.b (defined_content (of.Map c.in-Map-Map.x c.in-Map-Map.v)) (defined_content (of.Map c.in-Map-Map.y c.in-Map-Map.w)) _ _ (rw c.in-Map-Map.is-0 at c.index.ensures.tree) (rw c.in-Map-Map.is-1 at c.index-2.ensures.tree) left_lower right_lower (omega arith) (ap (λ (ts : List ValueTree). node map_of (parts_of ts))) c.lists_fit-in-Map-Map.ensures.yes
 
 pub returns-else-not-branch-clause-grown : goal.returns-else-not-branch-clause-grown
 returns-else-not-branch-clause-grown c = grown_twice _ _ _ _ _ c.options_fit.ensures.grown c.options_fit-in-Result-Result.ensures.grown

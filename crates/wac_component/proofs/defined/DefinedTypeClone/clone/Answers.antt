@@ -2,7 +2,7 @@ use Rattle.std.proofs.Common.{refl}
 use Rattle.std.proofs.lemmas.List.Elements.{same_from_all_zip}
 use Rattle.wac_component.proofs.CloneLemmas.{variant-content, record-content}
 use Rattle.wac_component.proofs.defined.DefinedTypeClone.clone.Goals as goal
-use Rattle.wac_component.proofs.defined.DefinedTypeClone.clone.Goals.{in-Tuple+in_ok-clone-in-Tuple, in-List, in-FixedSizeList, in-Option, in-Result, in-Variant+in_ok-clone-in-Variant, in-Record+in_ok-clone-in-Record, in-Flags+in_ok-clone-in-Flags, in-Enum+in_ok-clone-in-Enum, in-Alias, in-Stream, in-Future}
+use Rattle.wac_component.proofs.defined.DefinedTypeClone.clone.Goals.{in-Tuple+in_ok-clone-in-Tuple, in-List, in-FixedSizeList, in-Map, in-Option, in-Result, in-Variant+in_ok-clone-in-Variant, in-Record+in_ok-clone-in-Record, in-Flags+in_ok-clone-in-Flags, in-Enum+in_ok-clone-in-Enum, in-Alias, in-Stream, in-Future}
 
 pub returns : goal.returns
 returns c = record {
@@ -10,6 +10,7 @@ returns c = record {
     | in-Tuple+in_ok-clone-in-Tuple w ↦ rw (w.result-is, w.in-Tuple.is, same_from_all_zip _ w.in-Tuple.items.items w.in_ok-clone-in-Tuple.field-0.items w.in_ok-clone-in-Tuple.ensures.cases.0 (λ t u same. same)) refl
     | in-List w ↦ rw (w.result-is, w.in-List.is) refl
     | in-FixedSizeList w ↦ rw (w.result-is, w.in-FixedSizeList.is) refl
+    | in-Map w ↦ rw (w.result-is, w.in-Map.is) refl
     | in-Option w ↦ rw (w.result-is, w.in-Option.is) refl
     | in-Result w ↦ rw (w.result-is, w.in-Result.is) refl
     | in-Variant+in_ok-clone-in-Variant w ↦ rw (w.result-is, w.in-Variant.is) (variant-content w.in-Variant.variant w.in_ok-clone-in-Variant.field-0 w.in_ok-clone-in-Variant.ensures.cases)
