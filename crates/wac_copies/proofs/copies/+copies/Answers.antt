@@ -250,15 +250,23 @@ copy_content-copy_value-in-Map-requires t c =
     let stand : AllStand f (flat_map value_keys (k ∷ v ∷ [])) = subst (λ x. AllStand f (defined_keys (defined_content x))) c.in-Map.is c.requires.source in
     (omega (arith, ap (λ x. keys_height f (defined_keys (defined_content x))) c.in-Map.is, largest-flat_map_at (height f) value_keys (k ∷ v ∷ []) 0 k refl), (Each-flat_map_at (Stands f) value_keys (k ∷ v ∷ []) 0 k refl stand, c.requires.state))
 
+pub copy_content-copy_value-in-Map-2-requires : goal.copy_content-copy_value-in-Map-2-requires
+copy_content-copy_value-in-Map-2-requires t c =
+    let f = c.args.types.now in
+    let k = c.in-Map.key in
+    let v = c.in-Map.value in
+    let stand : AllStand f (flat_map value_keys (k ∷ v ∷ [])) = subst (λ x. AllStand f (defined_keys (defined_content x))) c.in-Map.is c.requires.source in
+    (omega (arith, ap (λ x. keys_height f (defined_keys (defined_content x))) c.in-Map.is, largest-flat_map_at (height f) value_keys (k ∷ v ∷ []) 1 v refl), (Each-flat_map_at (Stands f) value_keys (k ∷ v ∷ []) 1 v refl stand, MayCopy-Copies f c.args.own.now c.copy_value-in-Map.new.own c.args.copies.now c.copy_value-in-Map.new.copies _ _ c.requires.state c.in_ok-key-in-Map.ensures))
+
 pub copy_content-returns-in_ok-value-in-Map : goal.copy_content-returns-in_ok-value-in-Map
 copy_content-returns-in_ok-value-in-Map t c =
     let f = c.args.types.now in
     let k = c.in-Map.key in
     let v = c.in-Map.value in
-    let x = c.in_ok-key.key in
-    let y = c.in_ok-value.value in
+    let x = c.in_ok-key-in-Map.key in
+    let y = c.in_ok-value-in-Map.value in
     copied_content f c.args.own.now c.copy_value-in-Map-2.new.own c.args.copies.now c.copy_value-in-Map-2.new.copies (keys_height f (flat_map value_keys (k ∷ v ∷ []))) (λ s. IsCopiedValue f s k x × IsCopiedValue f s v y) c.args.ty.now (MapOf k v) (MapOf x y) c.in-Map.is (omega arith) (λ s q. content_two (IsCopiedValue f s) map_of k v x y q.0 q.1)
-    (Copies-then f c.args.own.now c.copy_value-in-Map.new.own c.copy_value-in-Map-2.new.own c.args.copies.now c.copy_value-in-Map.new.copies c.copy_value-in-Map-2.new.copies (keys_height f (value_keys k)) (keys_height f (value_keys v)) (keys_height f (flat_map value_keys (k ∷ v ∷ []))) (λ s. IsCopiedValue f s k x) (λ s. IsCopiedValue f s v y) (largest-flat_map_at (height f) value_keys (k ∷ v ∷ []) 0 k refl) (largest-flat_map_at (height f) value_keys (k ∷ v ∷ []) 1 v refl) (λ s u kept run h. copied_value_still class_of f s u kept (RemembersTruly class_of) f run k x h) c.in_ok-key.ensures c.in_ok-value.ensures)
+    (Copies-then f c.args.own.now c.copy_value-in-Map.new.own c.copy_value-in-Map-2.new.own c.args.copies.now c.copy_value-in-Map.new.copies c.copy_value-in-Map-2.new.copies (keys_height f (value_keys k)) (keys_height f (value_keys v)) (keys_height f (flat_map value_keys (k ∷ v ∷ []))) (λ s. IsCopiedValue f s k x) (λ s. IsCopiedValue f s v y) (largest-flat_map_at (height f) value_keys (k ∷ v ∷ []) 0 k refl) (largest-flat_map_at (height f) value_keys (k ∷ v ∷ []) 1 v refl) (λ s u kept run h. copied_value_still class_of f s u kept (RemembersTruly class_of) f run k x h) c.in_ok-key-in-Map.ensures c.in_ok-value-in-Map.ensures)
 
 pub copy_content-returns-in_ok-item-in-Option : goal.copy_content-returns-in_ok-item-in-Option
 copy_content-returns-in_ok-item-in-Option t c =

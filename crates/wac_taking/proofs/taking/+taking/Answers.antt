@@ -243,15 +243,31 @@ pub take_content-returns-in_ok-item-in-FixedSizeList : goal.take_content-returns
 take_content-returns-in_ok-item-in-FixedSizeList t c =
     taken_content c.args.types.now c.args.state.now c.take_value-in-FixedSizeList.new.state c.requires.state (keys_height c.args.types.now (value_keys c.in-FixedSizeList.item)) _ (λ s. IsTakenValue class_of c.args.types.now s c.in-FixedSizeList.item c.in_ok-item-in-FixedSizeList.item) c.args.ty.now (FixedSizeList c.in-FixedSizeList.item c.in-FixedSizeList.size) (FixedSizeList c.in_ok-item-in-FixedSizeList.item c.in-FixedSizeList.size) c.in-FixedSizeList.is (one_lower c.args.types.now c.in-FixedSizeList.item) (within_left c.args.types.now (value_keys c.in-FixedSizeList.item) []) (λ s q. content_one (IsTakenValue class_of c.args.types.now s) (fixed_size_list c.in-FixedSizeList.size) c.in-FixedSizeList.item c.in_ok-item-in-FixedSizeList.item q) c.in_ok-item-in-FixedSizeList.ensures
 
+pub take_content-take_value-in-Map-requires : goal.take_content-take_value-in-Map-requires
+take_content-take_value-in-Map-requires t c =
+    let f = c.args.types.now in
+    let k = c.in-Map.key in
+    let v = c.in-Map.value in
+    let stand : AllStand f (flat_map value_keys (k ∷ v ∷ [])) = subst (λ x. AllStand f (defined_keys (defined_content x))) c.in-Map.is c.requires.source in
+    (omega (arith, ap (λ x. keys_height f (defined_keys (defined_content x))) c.in-Map.is, largest-flat_map_at (height f) value_keys (k ∷ v ∷ []) 0 k refl), (Each-flat_map_at (Stands f) value_keys (k ∷ v ∷ []) 0 k refl stand, c.requires.state))
+
+pub take_content-take_value-in-Map-2-requires : goal.take_content-take_value-in-Map-2-requires
+take_content-take_value-in-Map-2-requires t c =
+    let f = c.args.types.now in
+    let k = c.in-Map.key in
+    let v = c.in-Map.value in
+    let stand : AllStand f (flat_map value_keys (k ∷ v ∷ [])) = subst (λ x. AllStand f (defined_keys (defined_content x))) c.in-Map.is c.requires.source in
+    (omega (arith, ap (λ x. keys_height f (defined_keys (defined_content x))) c.in-Map.is, largest-flat_map_at (height f) value_keys (k ∷ v ∷ []) 1 v refl), (Each-flat_map_at (Stands f) value_keys (k ∷ v ∷ []) 1 v refl stand, MayTake-Takes f c.args.state.now c.take_value-in-Map.new.state _ _ _ c.requires.state c.in_ok-key-in-Map.ensures))
+
 pub take_content-returns-in_ok-value-in-Map : goal.take_content-returns-in_ok-value-in-Map
 take_content-returns-in_ok-value-in-Map t c =
     let f = c.args.types.now in
     let k = c.in-Map.key in
     let v = c.in-Map.value in
-    let x = c.in_ok-key.key in
-    let y = c.in_ok-value.value in
+    let x = c.in_ok-key-in-Map.key in
+    let y = c.in_ok-value-in-Map.value in
     taken_content f c.args.state.now c.take_value-in-Map-2.new.state c.requires.state (keys_height f (flat_map value_keys (k ∷ v ∷ []))) _ (λ s. IsTakenValue class_of f s k x × IsTakenValue class_of f s v y) c.args.ty.now (MapOf k v) (MapOf x y) c.in-Map.is (omega arith) (within_all f _) (λ s q. content_two (IsTakenValue class_of f s) map_of k v x y q.0 q.1)
-    (Takes-then f c.args.state.now c.take_value-in-Map.new.state c.take_value-in-Map-2.new.state (keys_height f (value_keys k)) (keys_height f (value_keys v)) (keys_height f (flat_map value_keys (k ∷ v ∷ []))) _ _ (flat_map value_keys (k ∷ v ∷ [])) (λ s. IsTakenValue class_of f s k x) (λ s. IsTakenValue class_of f s v y) (largest-flat_map_at (height f) value_keys (k ∷ v ∷ []) 0 k refl) (largest-flat_map_at (height f) value_keys (k ∷ v ∷ []) 1 v refl) (within_at f value_keys (k ∷ v ∷ []) 0 k refl) (within_at f value_keys (k ∷ v ∷ []) 1 v refl) c.requires.state (λ s u kept run h. taken_value_still class_of f s u kept (RemembersTruly class_of) f run k x h) c.in_ok-key.ensures c.in_ok-value.ensures)
+    (Takes-then f c.args.state.now c.take_value-in-Map.new.state c.take_value-in-Map-2.new.state (keys_height f (value_keys k)) (keys_height f (value_keys v)) (keys_height f (flat_map value_keys (k ∷ v ∷ []))) _ _ (flat_map value_keys (k ∷ v ∷ [])) (λ s. IsTakenValue class_of f s k x) (λ s. IsTakenValue class_of f s v y) (largest-flat_map_at (height f) value_keys (k ∷ v ∷ []) 0 k refl) (largest-flat_map_at (height f) value_keys (k ∷ v ∷ []) 1 v refl) (within_at f value_keys (k ∷ v ∷ []) 0 k refl) (within_at f value_keys (k ∷ v ∷ []) 1 v refl) c.requires.state (λ s u kept run h. taken_value_still class_of f s u kept (RemembersTruly class_of) f run k x h) c.in_ok-key-in-Map.ensures c.in_ok-value-in-Map.ensures)
 
 pub take_content-returns-in_ok-item-in-Option : goal.take_content-returns-in_ok-item-in-Option
 take_content-returns-in_ok-item-in-Option t c =
@@ -800,6 +816,20 @@ take_values-returns-in_err-own t c =
     let f = c.args.types.now in
     let vs = c.args.values.now.items in
     refused_then f c.args.state.now c.loop-i.state _ (flat_map value_keys vs) (value_keys c.value_at.result) (flat_map value_keys vs) _ c.from_residual-in_err-own.result _ c.in_err-own.field-0.0 (within_all f (flat_map value_keys vs)) (within_at f value_keys vs c.loop-i.i c.value_at.result c.value_at.ensures) c.requires.state c.loop-i.invariant.takes c.in_err-own.ensures c.from_residual-in_err-own.ensures
+
+pub take_content-returns-in_err-key-in-Map : goal.take_content-returns-in_err-key-in-Map
+take_content-returns-in_err-key-in-Map t c =
+    let f = c.args.types.now in
+    let k = c.in-Map.key in
+    let v = c.in-Map.value in
+    refused_part f c.args.state.now (value_keys k) (defined_keys (defined_content c.args.ty.now)) c.from_residual-in_err-key-in-Map.result _ c.in_err-key-in-Map.field-0.0 (subst (λ ty. AreWithin f (value_keys k) (defined_keys (defined_content ty))) (sym c.in-Map.is) (within_at f value_keys (k ∷ v ∷ []) 0 k refl)) c.in_err-key-in-Map.ensures c.from_residual-in_err-key-in-Map.ensures
+
+pub take_content-returns-in_err-value-in-Map : goal.take_content-returns-in_err-value-in-Map
+take_content-returns-in_err-value-in-Map t c =
+    let f = c.args.types.now in
+    let k = c.in-Map.key in
+    let v = c.in-Map.value in
+    refused_then f c.args.state.now c.take_value-in-Map.new.state _ (value_keys k) (value_keys v) (defined_keys (defined_content c.args.ty.now)) _ c.from_residual-in_err-value-in-Map.result _ c.in_err-value-in-Map.field-0.0 (subst (λ ty. AreWithin f (value_keys k) (defined_keys (defined_content ty))) (sym c.in-Map.is) (within_at f value_keys (k ∷ v ∷ []) 0 k refl)) (subst (λ ty. AreWithin f (value_keys v) (defined_keys (defined_content ty))) (sym c.in-Map.is) (within_at f value_keys (k ∷ v ∷ []) 1 v refl)) c.requires.state c.in_ok-key-in-Map.ensures c.in_err-value-in-Map.ensures c.from_residual-in_err-value-in-Map.ensures
 
 pub take_content-returns-in_err-ok-in-Result : goal.take_content-returns-in_err-ok-in-Result
 take_content-returns-in_err-ok-in-Result t c =
