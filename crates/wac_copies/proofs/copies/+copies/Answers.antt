@@ -242,16 +242,16 @@ pub copy_content-returns-in_ok-item-in-FixedSizeList : goal.copy_content-returns
 copy_content-returns-in_ok-item-in-FixedSizeList t c =
     copied_content c.args.types.now c.args.own.now c.copy_value-in-FixedSizeList.new.own c.args.copies.now c.copy_value-in-FixedSizeList.new.copies (keys_height c.args.types.now (value_keys c.in-FixedSizeList.item)) (λ s. IsCopiedValue c.args.types.now s c.in-FixedSizeList.item c.in_ok-item-in-FixedSizeList.item) c.args.ty.now (FixedSizeList c.in-FixedSizeList.item c.in-FixedSizeList.size) (FixedSizeList c.in_ok-item-in-FixedSizeList.item c.in-FixedSizeList.size) c.in-FixedSizeList.is (one_lower c.args.types.now c.in-FixedSizeList.item) (λ s q. content_one (IsCopiedValue c.args.types.now s) (fixed_size_list c.in-FixedSizeList.size) c.in-FixedSizeList.item c.in_ok-item-in-FixedSizeList.item q) c.in_ok-item-in-FixedSizeList.ensures
 
-pub copy_content-copy_value-in-Map-requires : goal.copy_content-copy_value-in-Map-requires
-copy_content-copy_value-in-Map-requires t c =
+pub copy_content-copy_value-requires-in-Map : goal.copy_content-copy_value-requires-in-Map
+copy_content-copy_value-requires-in-Map t c =
     let f = c.args.types.now in
     let k = c.in-Map.key in
     let v = c.in-Map.value in
     let stand : AllStand f (flat_map value_keys (k ∷ v ∷ [])) = subst (λ x. AllStand f (defined_keys (defined_content x))) c.in-Map.is c.requires.source in
     (omega (arith, ap (λ x. keys_height f (defined_keys (defined_content x))) c.in-Map.is, largest-flat_map_at (height f) value_keys (k ∷ v ∷ []) 0 k refl), (Each-flat_map_at (Stands f) value_keys (k ∷ v ∷ []) 0 k refl stand, c.requires.state))
 
-pub copy_content-copy_value-in-Map-2-requires : goal.copy_content-copy_value-in-Map-2-requires
-copy_content-copy_value-in-Map-2-requires t c =
+pub copy_content-copy_value-requires-in-Map-2 : goal.copy_content-copy_value-requires-in-Map-2
+copy_content-copy_value-requires-in-Map-2 t c =
     let f = c.args.types.now in
     let k = c.in-Map.key in
     let v = c.in-Map.value in

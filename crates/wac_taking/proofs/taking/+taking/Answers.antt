@@ -243,16 +243,16 @@ pub take_content-returns-in_ok-item-in-FixedSizeList : goal.take_content-returns
 take_content-returns-in_ok-item-in-FixedSizeList t c =
     taken_content c.args.types.now c.args.state.now c.take_value-in-FixedSizeList.new.state c.requires.state (keys_height c.args.types.now (value_keys c.in-FixedSizeList.item)) _ (λ s. IsTakenValue class_of c.args.types.now s c.in-FixedSizeList.item c.in_ok-item-in-FixedSizeList.item) c.args.ty.now (FixedSizeList c.in-FixedSizeList.item c.in-FixedSizeList.size) (FixedSizeList c.in_ok-item-in-FixedSizeList.item c.in-FixedSizeList.size) c.in-FixedSizeList.is (one_lower c.args.types.now c.in-FixedSizeList.item) (within_left c.args.types.now (value_keys c.in-FixedSizeList.item) []) (λ s q. content_one (IsTakenValue class_of c.args.types.now s) (fixed_size_list c.in-FixedSizeList.size) c.in-FixedSizeList.item c.in_ok-item-in-FixedSizeList.item q) c.in_ok-item-in-FixedSizeList.ensures
 
-pub take_content-take_value-in-Map-requires : goal.take_content-take_value-in-Map-requires
-take_content-take_value-in-Map-requires t c =
+pub take_content-take_value-requires-in-Map : goal.take_content-take_value-requires-in-Map
+take_content-take_value-requires-in-Map t c =
     let f = c.args.types.now in
     let k = c.in-Map.key in
     let v = c.in-Map.value in
     let stand : AllStand f (flat_map value_keys (k ∷ v ∷ [])) = subst (λ x. AllStand f (defined_keys (defined_content x))) c.in-Map.is c.requires.source in
     (omega (arith, ap (λ x. keys_height f (defined_keys (defined_content x))) c.in-Map.is, largest-flat_map_at (height f) value_keys (k ∷ v ∷ []) 0 k refl), (Each-flat_map_at (Stands f) value_keys (k ∷ v ∷ []) 0 k refl stand, c.requires.state))
 
-pub take_content-take_value-in-Map-2-requires : goal.take_content-take_value-in-Map-2-requires
-take_content-take_value-in-Map-2-requires t c =
+pub take_content-take_value-requires-in-Map-2 : goal.take_content-take_value-requires-in-Map-2
+take_content-take_value-requires-in-Map-2 t c =
     let f = c.args.types.now in
     let k = c.in-Map.key in
     let v = c.in-Map.value in
