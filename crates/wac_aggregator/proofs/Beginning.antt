@@ -1,8 +1,9 @@
 -- The state before the first call is in order.
-use Rattle.std.proofs.Common.{◌≡◌, ℕ, List, [], Some, None, ap, sym, ◌∙◌, subst}
+use Rattle.std.proofs.Common.{◌≡◌, ◌<◌, arith, length, ℕ, List, [], Some, None, ap, sym, ◌∙◌, subst}
 use Rattle.wac_model.specs.Text.{Text}
+use Rattle.wac_component.specs.Collection.{Collection}
 use Rattle.wac_component.specs.Id.{Id}
-use Rattle.wac_component.specs.Key.{Key, Stands, interface_key}
+use Rattle.wac_component.specs.Key.{Key, Sort, defined_sort, resource_sort, func_sort, interface_sort, world_sort, module_sort, entries, Stands, interface_key}
 use Rattle.wac_component.specs.Open.{import_next}
 use Rattle.wac_component.specs.Reach.{IsAmong}
 use Rattle.wac_component.specs.Sound.{IsSound}
@@ -14,11 +15,24 @@ use Rattle.wac_narrowing.specs.Identified.{IsCovered}
 use Rattle.wac_narrowing.specs.Laws.{IsNew}
 use Rattle.wac_narrowing.specs.State.{IsKept}
 use Rattle.wac_reasons.proofs.Starting.{new_held}
+use Rattle.wac_call_lists.specs.Holding.{HoldsReached}
 use Rattle.wac_copies.specs.Memo.{memo_of}
 use Rattle.wac_imports.specs.Import.{ImportsContent, import_at, AreFiled}
 use Rattle.wac_taking.specs.Takes.{shared_keys, shared_in, state_of, AreFiledIn}
 use Rattle.wac_taking.specs.declared.state.Merging.{Merging}
 use Rattle.wac_aggregator.specs.InOrder.{IsStart}
+
+-- nothing stands in an empty collection
+none_stand : (number : ℕ) (c : Collection) → c ≡ record { number = number; defined = []; resources = []; funcs = []; interfaces = []; worlds = []; modules = [] } → (k : Key) → Stands c k → ⊥
+none_stand number c empty k stands = nothing k.sort (subst (λ d. Stands d k) empty stands).1
+  where
+    nothing : (s : Sort) → k.id.index < length (entries (record { number = number; defined = []; resources = []; funcs = []; interfaces = []; worlds = []; modules = [] }) s) → ⊥
+    nothing defined_sort below = absurd (omega (arith, below))
+    nothing resource_sort below = absurd (omega (arith, below))
+    nothing func_sort below = absurd (omega (arith, below))
+    nothing interface_sort below = absurd (omega (arith, below))
+    nothing world_sort below = absurd (omega (arith, below))
+    nothing module_sort below = absurd (omega (arith, below))
 
 none_among : (k : Key) → IsAmong k [] → ⊥
 none_among k m = elim m [ ]
@@ -65,4 +79,8 @@ module _ (a : Merging) (number : ℕ) (sound : IsSound a.types) (empty : a.types
   }
 
   pub starts : IsStart a number
-  starts = record { in_order = record { kept = kept; filed = filed; imports = imports_filed; held = (new_held (state_of a) new).0; split = (new_held (state_of a) new).1 }; empty = empty; imports = imports; shared = shared; taken = taken; copies = copies }
+  starts = record { in_order = record { kept = kept; filed = filed; imports = imports_filed; held = (new_held (state_of a) new).0; split = (new_held (state_of a) new).1; identified = λ k n stands is. absurd (none_stand number a.types empty k stands) }; empty = empty; imports = imports; shared = shared; taken = taken; copies = copies }
+
+-- nothing is held
+pub none_held : (a : Merging) (number : ℕ) → IsStart a number → HoldsReached [] a.types
+none_held a number start t on = absurd (none_stand number a.types start.empty (interface_key on.interface) on.held.stands)

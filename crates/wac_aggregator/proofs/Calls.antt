@@ -149,6 +149,7 @@ module _ (a : Merging) (told : Option (String Global)) where
       stays = h.takes.stays;
       due = h.takes.due;
       shares = h.takes.shares;
+      identified = h.takes.identified;
       plain = h.takes.plain;
       known = λ all. let only = h.takes.known all in record { grows = only.grows; shared = only.shared; noted = only.noted };
       accounts = λ at trial all by. h.takes.accounts at trial all (near_none at (record a { handed_in = told }));

@@ -9,33 +9,32 @@ use Rattle.wac_model.specs.Order.{Fits}
 use Rattle.wac_model.proofs.ItemOrder.{Fits-trans}
 use Rattle.wac_component.specs.Collection.{Collection}
 use Rattle.wac_component.specs.Entries.{identifier_at}
-use Rattle.wac_component.specs.Key.{Key, Stands, AllStand, item_keys, interface_key}
+use Rattle.wac_component.specs.Key.{Key, AllStand, item_keys, interface_key}
 use Rattle.wac_component.specs.Tree.{item_tree}
-use Rattle.wac_component.proofs.Among.{among_each, Contains-first, Contains-later, Contains-cases}
-use Rattle.wac_component.specs.Reach.{IsAmong, Reaches, here, there}
+use Rattle.wac_component.proofs.Among.{Contains-first, Contains-later, Contains-cases}
+use Rattle.wac_component.specs.Reach.{IsAmong, Reaches}
 use Rattle.wac_component.proofs.OpenWalks.{opens_reach}
 use Rattle.wac_names.specs.Class.{Class, class_eq, class_of}
 use Rattle.wac_names.proofs.Classes.{classes_decided}
 use Rattle.wac_narrowing.specs.Remembers.{RemembersTruly}
-use Rattle.wac_narrowing.specs.State.{State, IsKept, Runs}
-use Rattle.wac_narrowing.specs.Taking.{AreTakenKeys, one_key, IsTakenKey}
+use Rattle.wac_narrowing.specs.State.{IsKept, Runs}
 use Rattle.wac_call_lists.specs.Aggregated.{AllAreServed, IsAggregated}
 use Rattle.wac_call_lists.specs.Call.{Call, call_track, call_tree}
 use Rattle.wac_call_lists.specs.Due.{OwnsOn, IsDue, of_name, of_owner, IsHigher, IsReachedIdentifier, IsHandedInName, IsImportName, AreImportNames}
-use Rattle.wac_imports.specs.Import.{ImportContent, import_of, import_at, AreFiled, PutsImport, stays, leads, raises}
+use Rattle.wac_imports.specs.Import.{ImportContent, import_of, AreFiled, PutsImport, stays, leads, raises}
 use Rattle.wac_imports.specs.Left.{listed}
 use Rattle.wac_imports.proofs.Listed.{of_Contains, classes_listed}
-use Rattle.wac_taking.specs.Takes.{shared_keys, state_of, MayTake, LeadsToOwner, OwnersImported, IsOwnersImport, IsSharedFrom}
+use Rattle.wac_taking.specs.Takes.{shared_keys, state_of, MayTake, IsOwnersImport, IsSharedFrom}
 use Rattle.wac_taking.specs.declared.state.Merging.{Merging}
 use Rattle.wac_taking.proofs.TakeLemmas.{shared_stands}
 use Rattle.wac_aggregator.specs.Advances.{IsPlaced, Advances, added, noted}
 use Rattle.wac_aggregator.specs.HandedIn.{IsOneOf}
 use Rattle.wac_aggregator.specs.Served.{LeadsTo, AreServed}
 use Rattle.wac_aggregator.specs.Content.{shown, content_of}
-use Rattle.wac_aggregator.proofs.Advancing.{placing, at_of, of_at, rest, run, taken_kept, fits_item, leads_below}
-use Rattle.wac_taking.proofs.Identifiers.{is_interface, has_identifier, identifier_of}
+use Rattle.wac_aggregator.proofs.Advancing.{placing, rest, run, taken_kept, fits_item, leads_below}
+use Rattle.wac_taking.proofs.Identifiers.{is_interface, has_identifier}
 use Rattle.wac_aggregator.proofs.Imported.{still_imported, owner_imported, owners_after}
-use Rattle.wac_aggregator.proofs.Leading.{PlacedAs, placed_here, placed_other, placed_still, puts_here, some_is, leads-new, found-of}
+use Rattle.wac_aggregator.proofs.Leading.{PlacedAs, placed_here, placed_other, puts_here, leads-new, found-of}
 use Rattle.wac_aggregator.proofs.Newer.{higher_track, not_higher-self, not_higher-old, not_higher-newer}
 
 -- ---- more calls

@@ -17,6 +17,7 @@ use Rattle.wac_call_lists.specs.Due.{OwnsOn}
 use Rattle.wac_call_lists.specs.Imported.{track_names, ImportsAfter}
 use Rattle.wac_call_lists.specs.PlainList.{IsPlain}
 use Rattle.wac_call_lists.specs.PlainRun.{IsPlainStep, IsPlainRefusal}
+use Rattle.wac_call_lists.specs.Holding.{HoldsNoOthers}
 use Rattle.wac_call_lists.specs.Reason.{IsReason}
 use Rattle.wac_refusals.specs.declared.error.AggregateError.{AggregateError}
 use Rattle.wac_refusals.specs.declared.error.AggregateError.TheVariants.{Memory}
@@ -31,6 +32,7 @@ use Rattle.wac_aggregator.specs.Advances.{attempt_at, Advances, IsRefusedCall, M
 use Rattle.wac_aggregator.specs.Content.{AggregatorContent, shown, content_of, state_in}
 use Rattle.wac_aggregator.specs.InOrder.{IsInOrder}
 use Rattle.wac_aggregator.proofs.Advancing.{at_of, run, advances_step}
+use Rattle.wac_aggregator.proofs.Held.{holds_no_others}
 use Rattle.wac_aggregator.proofs.Listing.{advances_in_order, advances_number}
 use Rattle.wac_aggregator.proofs.Plain.{track_import, plain_step, plain_refusal}
 use Rattle.wac_aggregator.proofs.Imported.{track_name, imports_after, owner_imported, owners_after}
@@ -59,7 +61,7 @@ module _ (call : Call) (inside : Merging) (told : SubtypeCheck) (before : Aggreg
 
   module _ (b : Merging) (filed : AreFiled b.imports) (h : Advances call a b) where
     pub call_in_order : IsSound call.types → AllStand call.types (item_keys call.kind) → IsInOrder b
-    call_in_order sound item = advances_in_order call a b call_may (call_try sound item) order.imports filed h
+    call_in_order sound item = advances_in_order call a b call_may (call_try sound item) order.identified order.imports filed h
 
     pub call_number : b.types.number ≡ before.types.number
     call_number = advances_number call a b call_may order.imports filed h ∙ ap (λ (s : AggregatorContent). s.types.number) is
@@ -72,6 +74,9 @@ module _ (call : Call) (inside : Merging) (told : SubtypeCheck) (before : Aggreg
 
     pub call_imports : ImportsAfter (shown before) (shown (content_of b)) call
     call_imports = subst (λ s. ImportsAfter (shown s) (shown (content_of b)) call) is (imports_after call a b call_may order.imports filed h)
+
+    pub call_held : HoldsNoOthers before.types b.types call
+    call_held = subst (λ (s : AggregatorContent). HoldsNoOthers s.types b.types call) is (holds_no_others call a b call_may order.imports filed h order.held order.identified)
 
     owners_before : (g : Collection) → OwnersImported g (state_in before) → OwnersImported g (state_of a)
     owners_before g o = owners_of g inside (subst (λ s. OwnersImported g (state_in s)) (sym is) o)

@@ -1,6 +1,7 @@
 pub mod Newer
 pub mod Leading
 pub mod Advancing
+pub mod Held
 pub mod Front
 pub mod Calls
 pub mod Beginning

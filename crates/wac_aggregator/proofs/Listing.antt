@@ -13,6 +13,7 @@ use Rattle.wac_names.specs.Class.{class_of}
 use Rattle.wac_narrowing.specs.Remembers.{RemembersTruly}
 use Rattle.wac_narrowing.specs.State.{IsKept, Runs}
 use Rattle.wac_reasons.specs.Trial.{IsAccounted}
+use Rattle.wac_reasons.specs.Split.{AreSharedOrBelow}
 use Rattle.wac_taking.specs.Takes.{state_of, AreFiledIn, MayTake}
 use Rattle.wac_taking.specs.declared.state.Merging.{Merging}
 use Rattle.wac_taking.proofs.TakeLemmas.{AreFiledIn-run}
@@ -24,6 +25,7 @@ use Rattle.wac_aggregator.specs.InOrder.{IsInOrder}
 use Rattle.wac_aggregator.specs.declared.all.Call.{Call as Handed}
 use Rattle.wac_aggregator.proofs.Advancing.{run, rest, taken_kept, call_accounts}
 use Rattle.wac_aggregator.proofs.Front.{advances_served}
+use Rattle.wac_aggregator.proofs.Held.{identified_after}
 use Rattle.wac_aggregator.proofs.Trying.{call_trial, call_accounted}
 
 -- one more of a list
@@ -42,14 +44,15 @@ pub may_try : (call : Call) (a : Merging) → IsSound call.types → AllStand ca
 may_try call a sound item order = record { sound = record { sound = sound; stands = item }; held = order.held; split = order.split }
 
 -- the state is in order after a call
-pub advances_in_order : (call : Call) (a b : Merging) → MayTake call.types a → MayTry call a → AreFiled a.imports → AreFiled b.imports → Advances call a b → IsInOrder b
-advances_in_order call a b may try filed_a filed_b h = record {
+pub advances_in_order : (call : Call) (a b : Merging) → MayTake call.types a → MayTry call a → AreSharedOrBelow (state_of a) → AreFiled a.imports → AreFiled b.imports → Advances call a b → IsInOrder b
+advances_in_order call a b may try order filed_a filed_b h = record {
   kept = kept_b;
   filed = subst (λ (m : Merging). AreFiledIn m.types m.shared.entries) (sym h.same) (AreFiledIn-run call.types (state_of h.taken) (state_of (record h.taken { types = b.types; imports = b.imports })) h.taken.shared.entries (taken_kept call a b may filed_a filed_b h) refl
       (subst (λ (m : Merging). Runs (RemembersTruly class_of) call.types (state_of h.taken) (state_of m)) h.same (rest call a b may filed_a filed_b h)) h.takes.filed);
   imports = filed_b;
   held = held_after (attempt_at call a) (state_of b) kept_b now;
   split = now.split;
+  identified = identified_after call a b may filed_a filed_b h order;
 }
   where
     kept_b : IsKept (state_of b)

@@ -5,12 +5,10 @@ use Rattle.std.proofs.lemmas.Option.{slice_get_within, get_or_from_slice_get}
 use Rattle.std.specs.Map.{lookup as lookup_by, keys_of}
 use Rattle.std.specs.Option.{option_map}
 use Rattle.wac_model.specs.Text.{lookup}
-use Rattle.wac_model.specs.ItemTree.{ItemTree}
 use Rattle.wac_model.specs.Order.{Fits}
 use Rattle.wac_component.specs.Height.{keys_height}
 use Rattle.wac_component.specs.Key.{Key, AllStand, item_keys}
 use Rattle.wac_component.specs.Tree.{item_tree}
-use Rattle.wac_component.specs.declared.items.ItemKind.{ItemKind}
 use Rattle.wac_component.proofs.Extended.{AllStand-Extends}
 use Rattle.wac_names.specs.Class.{Class, class_eq, class_of}
 use Rattle.wac_names.proofs.Classes.{classes_decided}

@@ -83,7 +83,7 @@ pub record IsCallRefusal (call : Call) (a : Merging) (e : AggregateError) : Type
   pub plain : IsPlain call.types call.kind → HasNoMeet call a
   pub reason : MayTry call a → HasReason (attempt_at call a) e
 
--- that is so unless there is no memory
+-- that is so unless an allocation fails
 abbrev pub IsRefusedCall : Call → Merging → AggregateError → Type 0
 IsRefusedCall call a e = e ≢ Memory → IsCallRefusal call a e
 

@@ -5,19 +5,20 @@ use Rattle.wac_copies.specs.Memo.{memo_of}
 use Rattle.wac_imports.specs.Import.{AreFiled}
 use Rattle.wac_narrowing.specs.State.{IsKept}
 use Rattle.wac_reasons.specs.Sharing.{AreHeld}
-use Rattle.wac_reasons.specs.Split.{AreSplit}
+use Rattle.wac_reasons.specs.Split.{AreSplit, AreSharedOrBelow}
 use Rattle.wac_taking.specs.Takes.{AreFiledIn, state_of}
 use Rattle.wac_taking.specs.declared.state.Merging.{Merging}
 
 -- entries, imports and what was taken in are in order, shared entries and imports are
--- filed under the classes of their names, and all that open walks lead to is held, and
--- apart from what is below imports
+-- filed under the classes of their names, all that open walks lead to is held, and apart from
+-- what is below imports, and there alone interfaces with identifiers aren't shared
 pub record IsInOrder (a : Merging) : Type 0 where
   pub kept : IsKept (state_of a)
   pub filed : AreFiledIn a.types a.shared.entries
   pub imports : AreFiled a.imports
   pub held : AreHeld (state_of a)
   pub split : AreSplit (state_of a)
+  pub identified : AreSharedOrBelow (state_of a)
 
 -- nothing was handed in yet
 pub record IsStart (a : Merging) (number : ℕ) : Type 0 where

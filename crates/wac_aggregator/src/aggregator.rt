@@ -10,6 +10,7 @@ ghost use Rattle.wac_checker.specs.Checker.{direction, depth, remembered};
 ghost use Rattle.wac_call_lists.specs.Aggregated.{IsByTrack, IsStep, track_imports};
 ghost use Rattle.wac_call_lists.specs.Attempt.{single_attempt};
 ghost use Rattle.wac_call_lists.specs.Due.{OwnsOn};
+ghost use Rattle.wac_call_lists.specs.Holding.{HoldsNoOthers};
 ghost use Rattle.wac_call_lists.specs.Imported.{track_names, ImportsAfter};
 ghost use Rattle.wac_call_lists.specs.PlainList.{IsPlain};
 ghost use Rattle.wac_call_lists.specs.PlainRun.{IsPlainStep, IsPlainRefusal};
@@ -101,16 +102,18 @@ impl TypeAggregator {
     ///
     /// On another track than the name's each import keeps its name, and what is imported besides
     /// are owners of resources in the item, which all are where those of what was handed in before
-    /// with ids of its number are.
+    /// with ids of its number are. An interface with an identifier that the collection has
+    /// more, and that isn't below an import of a component, is on the track of one that it had,
+    /// or that the item openly reaches.
     ///
-    /// A refusal but for want of memory comes only where there is that reason: with the
-    /// import that stood on the track, in the item, or, of what can't be merged with it, in
-    /// what this aggregator had taken in.
+    /// Unless an allocation fails, a refusal comes only where there is that reason: with the import
+    /// that stood on the track, in the item, or, of what can't be merged with it, in what this
+    /// aggregator had taken in.
     ///
-    /// An item that reaches no interface with an identifier, no interface or world with
-    /// uses, and no resource with an owner changes no import but the one on its track, and
-    /// is refused, but for want of memory, only where no item fits where either that
-    /// import or the item is asked for.
+    /// An item that reaches no interface with an identifier, no interface or world with uses, and
+    /// no resource with an owner changes no import but the one on its track, and is refused, unless
+    /// an allocation fails, only where no item fits where either that import or the item is asked
+    /// for.
     pub fn aggregate(
         self,
         name: &str,
@@ -126,6 +129,7 @@ impl TypeAggregator {
         ensures reason { IfErr result (HasReason (single_attempt self.types (track_imports (shown self) (class_of name.now)) (record { name = name.now; types = types.now; kind = kind }))) }
         ensures by_track { IfOk result (λ a. IsByTrack (shown a)) }
         ensures imports { IfOk result (λ a. ImportsAfter (shown self) (shown a) (record { name = name.now; types = types.now; kind = kind })) }
+        ensures held { IfOk result (λ a. HoldsNoOthers self.types a.types (record { name = name.now; types = types.now; kind = kind })) }
         ensures due { IfOk result (λ a. OwnersImported types.now (state_in self) → (t : Class) → OwnsOn (record { name = name.now; types = types.now; kind = kind }) t → IsSome (track_names (shown a) t)) }
         ensures owners { IfOk result (λ a. (g : Collection) → IsOneWith types.now g → OwnersImported g (state_in self) → OwnersImported g (state_in a)) }
         ensures truly { IfOk result (λ a. (g : Collection) → IsOneWith types.now g → RemembersTruly class_of g (state_in self) → RemembersTruly class_of g (state_in a)) }

@@ -43,20 +43,22 @@ pub struct Call<'a> {
 /// equal numbers mean one collection.
 ///
 /// A list of items that reach no interfaces with identifiers, no uses and no owners is accepted,
-/// but for want of memory, exactly where the items of each track of names have a common lower
+/// unless an allocation fails, exactly where the items of each track of names have a common lower
 /// bound, whatever the order of calls; each import is then the greatest of these.
 ///
 /// So is a list of interfaces as WIT packages give them: instances under their identifiers, whose
 /// interfaces, with each that these use, have identifiers, export functions, value types and
 /// resources alone, and use what owns their resources; and such items under names on other tracks.
-/// It is accepted, but for want of memory, exactly where the interfaces on each track have a common
-/// lower bound, and so the other items; where uses of one name, in interfaces on one track, are of
-/// one track and one name there; and where no track leads back to itself by uses. Each import is
-/// then the greatest lower bound of the interfaces on its track, or else of the items there.
+/// It is accepted, unless an allocation fails, exactly where the interfaces on each track have a
+/// common lower bound, and so the other items; where uses of one name, in interfaces on one track,
+/// are of one track and one name there; and where no track leads back to itself by uses. Each
+/// import is then the greatest lower bound of the interfaces on its track, or else of the items
+/// there.
 ///
-/// The first refusal is answered with the number of its call, from 0 on. But for want of memory it
-/// comes only where there is reason, with a collection whose imports serve the calls before it; of
-/// what else that holds nothing is said.
+/// The first refusal is answered with the number of its call, from 0 on. Unless an allocation
+/// fails, it comes only where there is reason, with a collection whose imports serve the calls
+/// before it, and which holds interfaces with identifiers on no other tracks than those of
+/// interfaces that their items openly reach.
 ///
 /// What is remembered is true of the collections of the calls, and of what these grow to: the
 /// answer may be handed more of their items by [`TypeAggregator::aggregate`].

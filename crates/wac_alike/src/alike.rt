@@ -21,7 +21,7 @@ use wac_mismatch::SubtypeError;
 /// identifier, and these are on the same tracks. Then the answer is the resources with an owner
 /// that the other one is made of.
 ///
-/// The collections have different numbers, or are one. `Err` is want of memory.
+/// The collections have different numbers, or are one. `Err` is a failed allocation.
 pub fn alike_resources(
     alloc: Global,
     own: &Types,
@@ -46,7 +46,7 @@ pub fn alike_resources(
 /// are equal, each owner of a resource that either is made of has an identifier, and these are on
 /// the same tracks. Then the answer is the resources with an owner that the other one is made of.
 ///
-/// The collections have different numbers, or are one. `Err` is want of memory.
+/// The collections have different numbers, or are one. `Err` is a failed allocation.
 pub fn alike_values(
     alloc: Global,
     own: &Types,

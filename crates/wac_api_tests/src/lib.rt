@@ -13,6 +13,8 @@ mod finding;
 #[cfg(test)]
 mod first_use;
 #[cfg(test)]
+mod merged_sharing;
+#[cfg(test)]
 mod name_maps;
 #[cfg(test)]
 mod opened;

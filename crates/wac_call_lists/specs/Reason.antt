@@ -1,4 +1,4 @@
--- Where a call may be refused: for each refusal but that for memory, what stands then.
+-- Where a call may be refused: for each refusal but that of a failed allocation, what stands then.
 use Rattle.std.specs.Prelude.{◌≡◌, ◌≢◌, ◌⊎◌, Some, None, IsSome, slice_get}
 use Rattle.wac_model.specs.Text.{Text}
 use Rattle.wac_model.specs.Desc.{item_desc}

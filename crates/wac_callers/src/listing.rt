@@ -16,8 +16,8 @@ use wac_types::laws::lists;
 use wac_types::{AggregateAllError, Call, SubtypeChecker, TypeAggregator, aggregate_all};
 
 /// Merges what components import into one list. The import to which a name leads fits wherever an
-/// item that was handed in on its track is asked for. WIT interfaces are refused, but for want of
-/// memory, exactly where they aren't compatible.
+/// item that was handed in on its track is asked for. WIT interfaces are refused, unless an
+/// allocation fails, exactly where they aren't compatible.
 pub fn merge_list(
     alloc: Global,
     number: u64,

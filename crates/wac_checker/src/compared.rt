@@ -243,7 +243,7 @@ impl Compared {
     }
 }
 
-// A refusal is a no, unless it is want of memory.
+// A refusal is a no, unless it is a failed allocation.
 fn refused(e: SubtypeError) -> Result<(), AllocError>
     ensures { OnOk result (e ≢ Memory) }
 {

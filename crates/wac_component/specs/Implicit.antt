@@ -45,7 +45,7 @@ as_instance c i = option_map_or (λ name. (name, Instance i) ∷ []) (identifier
 abbrev pub implicit_imports : Collection → WorldContent → List (Text × ItemKind)
 implicit_imports c w = insert_all bytes_eq [] (flat_map (as_instance c) (used_interfaces c w))
 
--- why they can't be told: one of these interfaces has no identifier, or there was no memory
+-- why they can't be told: one of these interfaces has no identifier, or an allocation failed
 abbrev pub IsUntold : Collection → List Id → TargetError → Type 0
 IsUntold c is (NoIdentifier i) = Contains is i × (identifier c i ≡ None)
 IsUntold c is Memory = Unit {0}
@@ -54,7 +54,7 @@ IsUntold c is Memory = Unit {0}
 abbrev pub instances : List (Bor Text × ItemKind) → List (Text × ItemKind)
 instances es = map (λ e. (e.0.now, e.1)) es
 
--- one interface more is added under its identifier, or it has none, or there was no memory
+-- one interface more is added under its identifier, or it has none, or an allocation failed
 abbrev pub AddsInstance : Collection → List (Text × ItemKind) → Id → Result (Unit {0}) TargetError → List (Text × ItemKind) → Type 0
 AddsInstance c es i r es' = MatchResult r (λ u. (name : Text) × (identifier c i ≡ Some name) × (es' ≡ insert_entry bytes_eq es name (Instance i))) (IsUntold c (i ∷ []))
 

@@ -143,7 +143,7 @@ impl Types {
         self.modules.iter()
     }
 
-    /// Puts a defined type last; without memory the collection is unchanged.
+    /// Puts a defined type last; where an allocation fails the collection is unchanged.
     pub fn add_defined_type(&mut self, ty: DefinedType) -> Result<DefinedTypeId, AllocError>
         requires { AllStand self.old (defined_keys (defined_content ty)) }
         ensures added { OnOk result (self.new ≡ record self.old { defined = self.old.defined ++ defined_content ty ∷ [] }) }
@@ -158,7 +158,7 @@ impl Types {
         Ok(DefinedTypeId::at(self.number, index))
     }
 
-    /// Puts a resource last; without memory the collection is unchanged.
+    /// Puts a resource last; where an allocation fails the collection is unchanged.
     pub fn add_resource(&mut self, resource: Resource) -> Result<ResourceId, AllocError>
         requires { AllStand self.old (resource_keys (resource_content resource)) }
         ensures added { OnOk result (self.new ≡ record self.old { resources = self.old.resources ++ resource_content resource ∷ [] }) }
@@ -173,7 +173,7 @@ impl Types {
         Ok(ResourceId::at(self.number, index))
     }
 
-    /// Puts a function type last; without memory the collection is unchanged.
+    /// Puts a function type last; where an allocation fails the collection is unchanged.
     pub fn add_func_type(&mut self, func: FuncType) -> Result<FuncTypeId, AllocError>
         requires { AllStand self.old (func_keys (func_content func)) }
         ensures added { OnOk result (self.new ≡ record self.old { funcs = self.old.funcs ++ func_content func ∷ [] }) }
@@ -188,7 +188,7 @@ impl Types {
         Ok(FuncTypeId::at(self.number, index))
     }
 
-    /// Puts an interface last; without memory the collection is unchanged.
+    /// Puts an interface last; where an allocation fails the collection is unchanged.
     pub fn add_interface(&mut self, interface: Interface) -> Result<InterfaceId, AllocError>
         requires { AllStand self.old (interface_keys (interface_content interface)) }
         ensures added { OnOk result (self.new ≡ record self.old { interfaces = self.old.interfaces ++ interface_content interface ∷ [] }) }
@@ -203,7 +203,7 @@ impl Types {
         Ok(InterfaceId::at(self.number, index))
     }
 
-    /// Puts a world last; without memory the collection is unchanged.
+    /// Puts a world last; where an allocation fails the collection is unchanged.
     pub fn add_world(&mut self, world: World) -> Result<WorldId, AllocError>
         requires { AllStand self.old (world_keys (world_content world)) }
         ensures added { OnOk result (self.new ≡ record self.old { worlds = self.old.worlds ++ world_content world ∷ [] }) }
@@ -218,7 +218,7 @@ impl Types {
         Ok(WorldId::at(self.number, index))
     }
 
-    /// Puts a core module type last; without memory the collection is unchanged.
+    /// Puts a core module type last; where an allocation fails the collection is unchanged.
     pub fn add_module_type(&mut self, ty: ModuleType) -> Result<ModuleTypeId, AllocError>
         ensures added { OnOk result (self.new ≡ record self.old { modules = self.old.modules ++ module_content ty ∷ [] }) }
         ensures id { IfOk result (λ id. id ≡ record { number = self.old.number; index = length self.old.modules }) }

@@ -25,7 +25,7 @@ pub enum TargetError {
         /// The interface.
         interface: InterfaceId,
     },
-    /// There was no memory.
+    /// An allocation failed.
     Memory,
 }
 
@@ -61,8 +61,8 @@ impl World {
     /// uses, and then those that its imports use, where they are instances. An identifier that
     /// comes again keeps its place and takes the last interface.
     ///
-    /// `NoIdentifier` comes exactly where one of them has no identifier, and `Memory` is want of
-    /// memory.
+    /// `NoIdentifier` comes exactly where one of them has no identifier, and `Memory` is a failed
+    /// allocation.
     pub fn implicit_imported_interfaces<'a>(
         &'a self,
         alloc: Global,

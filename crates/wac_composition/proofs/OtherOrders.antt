@@ -16,7 +16,7 @@ use Rattle.wac_types.specs.declared.AggregateError.{AggregateError}
 use Rattle.wac_types.specs.declared.AggregateError.TheVariants.{Memory, Kinds, Mismatch, UsedInterface, UsedName, NoIdentifier, OwnerWithoutIdentifier, Taken, Cycle}
 use Rattle.wac_composition.specs.Answered.{AreAnsweredAlike, AreServed}
 
--- an error that isn't another is want of memory
+-- an error that isn't another is a failed allocation
 only_memory : (e : AggregateError) → (e ≢ Memory → ⊥) → e ≡ Memory
 only_memory Memory h = refl
 only_memory (Kinds existing found) h = absurd (h (λ same. cc))

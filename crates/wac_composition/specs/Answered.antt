@@ -9,7 +9,7 @@ use Rattle.wac_types.specs.declared.AggregateAllError.{AggregateAllError}
 use Rattle.wac_types.specs.declared.AggregateError.TheVariants.{Memory}
 
 -- both are accepted, with imports on the same tracks whose trees are equal but for the order of
--- names, or both are refused; or one is for want of memory
+-- names, or both are refused; or an allocation failed in one
 abbrev pub AreAnsweredAlike : Result AggregatorContent AggregateAllError → Result AggregatorContent AggregateAllError → Type 0
 AreAnsweredAlike (Ok a) (Ok b) = (t : Class) → SameAt (track_imports (shown a) t) (track_imports (shown b) t)
 AreAnsweredAlike (Ok a) (Err f) = f.error ≡ Memory

@@ -7,7 +7,7 @@ use std::alloc::{AllocError, AllocFailed};
 pub(crate) enum Failure {
     /// Something is named that isn't there.
     Missing,
-    /// There was no memory.
+    /// An allocation failed.
     Memory,
 }
 

@@ -5,12 +5,11 @@ use Rattle.wac_model.specs.Text.{Text}
 use Rattle.wac_model.specs.CoreTree.{ModuleTree}
 use Rattle.wac_component.specs.Id.{Id}
 use Rattle.wac_component.specs.Collection.{Collection, DefinedContent, ResourceContent, AliasContent, FuncContent, UseContent, InterfaceContent, WorldContent}
-use Rattle.wac_component.specs.Key.{Key, Each, Stands, AllStand, defined_entry, resource_entry, func_entry, interface_entry, world_entry, module_entry, defined_key, resource_key, func_key, interface_key, world_key, module_key, defined_keys, func_keys, interface_keys, world_keys, alias_keys, optional_keys, named_keys, use_keys, item_keys, entry_at, other_keys, value_keys}
+use Rattle.wac_component.specs.Key.{Key, Each, Stands, AllStand, defined_entry, resource_entry, func_entry, interface_entry, world_entry, module_entry, defined_key, resource_key, func_key, interface_key, world_key, module_key, defined_keys, func_keys, interface_keys, world_keys, alias_keys, optional_keys, named_keys, use_keys, item_keys, entry_at, other_keys}
 use Rattle.wac_component.specs.Sound.{IsSound}
 use Rattle.wac_component.specs.Tree.{root_name}
 use Rattle.wac_component.specs.declared.items.ItemKind.{ItemKind}
 use Rattle.wac_component.specs.Open.{open_next}
-use Rattle.wac_component.proofs.Keys.{Each-append}
 use Rattle.wac_component.proofs.Lists.{slice_get-map}
 use Rattle.wac_component.proofs.Reading.{defined_at, resource_at, func_at}
 use Rattle.wac_names.specs.Class.{class_of}
@@ -22,7 +21,7 @@ use Rattle.wac_narrowing.specs.Identified.{used_names}
 use Rattle.wac_narrowing.specs.Values.{IsCopiedValue, SameValue, IfAny, neither, both, AreFuncs, AreDefined}
 use Rattle.wac_narrowing.proofs.Entering.{copied_named, interface_copied, world_copied_named, world_copied}
 use Rattle.wac_narrowing.proofs.EnteringLeaves.{leaf_copied}
-use Rattle.wac_narrowing.proofs.Mapped.{mapped_keys, paired_named, paired_each}
+use Rattle.wac_narrowing.proofs.Mapped.{paired_append, paired_named, paired_each}
 use Rattle.wac_narrowing.proofs.Values.{funcs_more, func_parts, defined_more, defined_parts, each_func, each_defined}
 use Rattle.wac_reasons.specs.Split.{IsLow}
 use Rattle.wac_copies.specs.Copies.{IsCopiedAlias, IsCopiedUse}
@@ -55,9 +54,22 @@ module _ (f : Collection) (s : State) where
   uses_named us vs none = refl
   uses_named us vs (one {n = n} {xs = ps} {ys = qs} h m) = ap (λ ns. n ∷ ns) (uses_named ps qs m)
 
-  -- what copied items name is low
+  -- what copied items name are copies
+  pub items_copied : (xs ys : List (Text × ItemKind)) → AreMapped (IsCopiedItem f s) xs ys → AreCopiedKeys f s (named_keys item_keys xs) (named_keys item_keys ys)
+  items_copied xs ys m = paired_named (IsCopiedKey f s) (IsCopiedItem f s) item_keys item_keys (λ x y c. c.keys) xs ys m
+
+  -- so it is low
   pub items_low : (xs ys : List (Text × ItemKind)) → AreMapped (IsCopiedItem f s) xs ys → Each (IsLow s) (named_keys item_keys ys)
-  items_low xs ys m = mapped_keys (IsCopiedItem f s) item_keys (IsLow s) (λ x y c. copies_low f s (item_keys x) (item_keys y) c.keys) xs ys m
+  items_low xs ys m = copies_low f s (named_keys item_keys xs) (named_keys item_keys ys) (items_copied xs ys m)
+
+  -- all that an interface, or a world, names
+  interface_parts : (p : Id) (x z : InterfaceContent) → InterfaceIsCopied f s p x z → AreCopiedKeys f s (interface_keys x) (interface_keys z)
+  interface_parts p x z h = paired_append (IsCopiedKey f s) (named_keys use_keys x.uses) (named_keys use_keys z.uses) (named_keys item_keys x.exports) (named_keys item_keys z.exports) h.uses (items_copied x.exports z.exports h.exports)
+
+  world_parts : (p : Id) (x z : WorldContent) → WorldIsCopied f s p x z → AreCopiedKeys f s (world_keys x) (world_keys z)
+  world_parts p x z h =
+      paired_append (IsCopiedKey f s) (named_keys use_keys x.uses ++ named_keys item_keys x.imports) (named_keys use_keys z.uses ++ named_keys item_keys z.imports) (named_keys item_keys x.exports) (named_keys item_keys z.exports)
+      (paired_append (IsCopiedKey f s) (named_keys use_keys x.uses) (named_keys use_keys z.uses) (named_keys item_keys x.imports) (named_keys item_keys z.imports) h.uses (items_copied x.imports z.imports h.imports)) (items_copied x.exports z.exports h.exports)
 
   module _ (sound : IsSound f) where
     pub interface_is_copied : (p : Id) (x z : InterfaceContent) → Stands f (interface_key p) → slice_get f.interfaces p.index ≡ Some x → z.id ≡ x.id → AreMapped (IsCopiedUse f s) x.uses z.uses → AreMapped (IsCopiedItem f s) x.exports z.exports → InterfaceIsCopied f s p x z
@@ -112,45 +124,44 @@ module _ (f : Collection) (s : State) where
     -- entries enter
 
     module _ (kept : IsKept s) (t : State) where
-      pub defined_enters : (p : Id) (x z : DefinedContent) → Stands f (defined_key p) → slice_get f.defined p.index ≡ Some x → AreDefined (IsCopiedValue f s) x z → AddsCopy f s t (defined_key p) (defined_entry z) → HasCopied f s t (defined_key p) (defined_entry z)
+      pub defined_enters : (p : Id) (x z : DefinedContent) → Stands f (defined_key p) → slice_get f.defined p.index ≡ Some x → AreDefined (IsCopiedValue f s) x z → AddsCopy f s t (defined_key p) (defined_entry z) → HasCopied f s t (defined_keys x) (defined_key p) (defined_entry z)
       defined_enters p x z st at h adds = record {
         into = leaf_copied class_of f s kept sound (defined_key p) (defined_entry z) st (same_defined at (defined_more (IsCopiedValue f s) (SameValue f s.own) (λ v w c. c.same) x z h)) t
             (defined_next p x z at h) adds;
         named = defined_stands x z h;
-        low = each_defined (IsCopiedValue f s) (IsLow s) (λ v w c. copies_low f s (value_keys v) (value_keys w) c.keys) x z h;
+        parts = defined_parts (IsCopiedValue f s) (IsCopiedKey f s) (λ v w c. c.keys) x z h;
       }
 
-      pub func_enters : (p : Id) (x z : FuncContent) → Stands f (func_key p) → slice_get f.funcs p.index ≡ Some x → AreFuncs (IsCopiedValue f s) x z → AddsCopy f s t (func_key p) (func_entry z) → HasCopied f s t (func_key p) (func_entry z)
+      pub func_enters : (p : Id) (x z : FuncContent) → Stands f (func_key p) → slice_get f.funcs p.index ≡ Some x → AreFuncs (IsCopiedValue f s) x z → AddsCopy f s t (func_key p) (func_entry z) → HasCopied f s t (func_keys x) (func_key p) (func_entry z)
       func_enters p x z st at h adds = record {
         into = leaf_copied class_of f s kept sound (func_key p) (func_entry z) st (same_func at (funcs_more (IsCopiedValue f s) (SameValue f s.own) (λ v w c. c.same) x z h)) t
             (func_next p x z at h) adds;
         named = func_stands x z h;
-        low = each_func (IsCopiedValue f s) (IsLow s) (λ v w c. copies_low f s (value_keys v) (value_keys w) c.keys) x z h;
+        parts = func_parts (IsCopiedValue f s) (IsCopiedKey f s) (λ v w c. c.keys) x z h;
       }
 
       pub resource_enters : (p : Id) (x z : ResourceContent) → Stands f (resource_key p) → slice_get f.resources p.index ≡ Some x → z.name ≡ x.name → IfAny (IsCopiedAlias f s) x.alias z.alias → AddsCopy f s t (resource_key p) (resource_entry z)
-          → HasCopied f s t (resource_key p) (resource_entry z)
+          → HasCopied f s t (optional_keys alias_keys x.alias) (resource_key p) (resource_entry z)
       resource_enters p x z st at name h adds = record {
         into = leaf_copied class_of f s kept sound (resource_key p) (resource_entry z) st (same_resource at (record { name = name; alias = alias_roots x.alias z.alias h })) t
             (resource_next p x z at h) adds;
         named = alias_stands x.alias z.alias h;
-        low = copies_low f s (optional_keys alias_keys x.alias) (optional_keys alias_keys z.alias) (alias_parts x.alias z.alias h);
+        parts = alias_parts x.alias z.alias h;
       }
 
-      pub module_enters : (p : Id) (x : ModuleTree) → Stands f (module_key p) → slice_get f.modules p.index ≡ Some x → AddsCopy f s t (module_key p) (module_entry x) → HasCopied f s t (module_key p) (module_entry x)
-      module_enters p x st at adds = record { into = leaf_copied class_of f s kept sound (module_key p) (module_entry x) st (same_module at) t (module_next p x at) adds; named = tt; low = tt }
+      pub module_enters : (p : Id) (x : ModuleTree) → Stands f (module_key p) → slice_get f.modules p.index ≡ Some x → AddsCopy f s t (module_key p) (module_entry x) → HasCopied f s t [] (module_key p) (module_entry x)
+      module_enters p x st at adds = record { into = leaf_copied class_of f s kept sound (module_key p) (module_entry x) st (same_module at) t (module_next p x at) adds; named = tt; parts = no_keys }
 
-      pub interface_enters : (p : Id) (x z : InterfaceContent) → InterfaceIsCopied f s p x z → AddsCopy f s t (interface_key p) (interface_entry z) → HasCopied f s t (interface_key p) (interface_entry z)
+      pub interface_enters : (p : Id) (x z : InterfaceContent) → InterfaceIsCopied f s p x z → AddsCopy f s t (interface_key p) (interface_entry z) → HasCopied f s t (interface_keys x) (interface_key p) (interface_entry z)
       interface_enters p x z h adds = record {
         into = interface_copied class_of f s kept p x z h t adds;
         named = interface_stands kept p x z h;
-        low = Each-append (IsLow s) (named_keys use_keys z.uses) (named_keys item_keys z.exports) (copies_low f s (named_keys use_keys x.uses) (named_keys use_keys z.uses) h.uses) (items_low x.exports z.exports h.exports);
+        parts = interface_parts p x z h;
       }
 
-      pub world_enters : (p : Id) (x z : WorldContent) → WorldIsCopied f s p x z → AddsCopy f s t (world_key p) (world_entry z) → HasCopied f s t (world_key p) (world_entry z)
+      pub world_enters : (p : Id) (x z : WorldContent) → WorldIsCopied f s p x z → AddsCopy f s t (world_key p) (world_entry z) → HasCopied f s t (world_keys x) (world_key p) (world_entry z)
       world_enters p x z h adds = record {
         into = world_copied class_of f s kept p x z h t adds;
         named = world_stands kept p x z h;
-        low = Each-append (IsLow s) (named_keys use_keys z.uses ++ named_keys item_keys z.imports) (named_keys item_keys z.exports)
-            (Each-append (IsLow s) (named_keys use_keys z.uses) (named_keys item_keys z.imports) (copies_low f s (named_keys use_keys x.uses) (named_keys use_keys z.uses) h.uses) (items_low x.imports z.imports h.imports)) (items_low x.exports z.exports h.exports);
+        parts = world_parts p x z h;
       }

@@ -1,9 +1,10 @@
 -- What copying does to the state of merging.
-use Rattle.std.specs.Prelude.{◌≡◌, ◌<◌, ℕ, None}
+use Rattle.std.specs.Prelude.{◌≡◌, ◌<◌, ◌⊎◌, List, Some, None}
 use Rattle.wac_component.specs.Collection.{Collection, AliasContent, UseContent}
 use Rattle.wac_component.specs.Growth.{Extends}
-use Rattle.wac_component.specs.Height.{height}
-use Rattle.wac_component.specs.Key.{Key, alias_keys, interface_key}
+use Rattle.wac_component.specs.Height.{height, keys_height}
+use Rattle.wac_component.specs.Key.{Key, Stands, alias_keys, interface_key}
+use Rattle.wac_component.specs.Reach.{IsAmong, Reaches}
 use Rattle.wac_component.specs.Tree.{root_name}
 use Rattle.wac_names.specs.Class.{class_of}
 use Rattle.wac_narrowing.specs.Remembers.{RemembersTruly}
@@ -29,12 +30,22 @@ pub record MayCopy (f c : Collection) (m : Memo) : Type 0 where
 abbrev pub moved : State → Collection → Memo → State
 moved s d n = record s { own = d; copies = memo_of n }
 
--- what copying from f does to the own collection and to what was copied: entries are only added,
--- each state runs on to one of which the fact holds, no id above the height is noted, and what open
--- walks lead to stays apart from copies and from what is below imports
-pub record Copies (f c : Collection) (m : Memo) (d : Collection) (n : Memo) (top : ℕ) (Holds : State → Type 0) : Type 0 where
-  pub low : (k : Key) → top < height f k → memo_of m k ≡ None → memo_of n k ≡ None
+-- a walk from the copy of one of these ids leads to the own entry
+pub record IsBelowCopy (d : Collection) (n : Memo) (ks : List Key) (k : Key) : Type 0 where
+  pub theirs : Key
+  pub among : IsAmong theirs ks
+  pub copy : Key
+  pub noted : memo_of n theirs ≡ Some copy
+  pub walk : Reaches d copy k
+
+-- what copying these ids of f does to the own collection and to what was copied: entries are only
+-- added, below copies of these ids, each state runs on to one of which the fact holds, no id is
+-- noted that is higher than these, and what open walks lead to stays apart from copies and from
+-- what is below imports
+pub record Copies (f c : Collection) (m : Memo) (d : Collection) (n : Memo) (ks : List Key) (Holds : State → Type 0) : Type 0 where
+  pub low : (k : Key) → keys_height f ks < height f k → memo_of m k ≡ None → memo_of n k ≡ None
   pub grows : (s : State) → IsState f c m s → Extends c d
+  pub added : (s : State) → IsState f c m s → (k : Key) → Stands d k → Stands c k ⊎ IsBelowCopy d n ks k
   pub runs : (s : State) → IsState f c m s → Runs (RemembersTruly class_of) f s (moved s d n) × Holds (moved s d n)
   pub splits : (s : State) → IsState f c m s → StaySplit s (moved s d n)
 

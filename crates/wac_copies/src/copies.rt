@@ -34,7 +34,7 @@ pub fn copy_item(
 ) -> Result<ItemKind, AllocError>
     requires source { AllStand types.now (item_keys kind) }
     requires state { MayCopy types.now own.old copies.old }
-    ensures { IfOk result (λ k. Copies types.now own.old copies.old own.new copies.new (keys_height types.now (item_keys kind)) (λ t. IsCopiedItem types.now t kind k)) }
+    ensures { IfOk result (λ k. Copies types.now own.old copies.old own.new copies.new (item_keys kind) (λ t. IsCopiedItem types.now t kind k)) }
 {
     match kind {
         ItemKind::Type(ty) => Ok(ItemKind::Type(copy_type(own, copies, types, ty)?)),
@@ -56,7 +56,7 @@ fn copy_type(
 ) -> Result<Type, AllocError>
     requires source { AllStand types.now (type_keys ty) }
     requires state { MayCopy types.now own.old copies.old }
-    ensures { IfOk result (λ r. Copies types.now own.old copies.old own.new copies.new (keys_height types.now (type_keys ty)) (λ t. IsCopiedItem types.now t (OfType ty) (OfType r))) }
+    ensures { IfOk result (λ r. Copies types.now own.old copies.old own.new copies.new (type_keys ty) (λ t. IsCopiedItem types.now t (OfType ty) (OfType r))) }
 {
     match ty {
         Type::Resource(id) => Ok(Type::Resource(copy_resource(own, copies, types, id)?)),
@@ -78,7 +78,7 @@ fn copy_value(
 ) -> Result<ValueType, AllocError>
     requires source { AllStand types.now (value_keys ty) }
     requires state { MayCopy types.now own.old copies.old }
-    ensures { IfOk result (λ v. Copies types.now own.old copies.old own.new copies.new (keys_height types.now (value_keys ty)) (λ t. IsCopiedValue types.now t ty v)) }
+    ensures { IfOk result (λ v. Copies types.now own.old copies.old own.new copies.new (value_keys ty) (λ t. IsCopiedValue types.now t ty v)) }
 {
     match ty {
         ValueType::Primitive(ty) => Ok(ValueType::Primitive(ty)),
@@ -98,7 +98,7 @@ fn copy_optional(
 ) -> Result<Option<ValueType>, AllocError>
     requires source { AllStand types.now (optional_keys value_keys ty) }
     requires state { MayCopy types.now own.old copies.old }
-    ensures { IfOk result (λ o. Copies types.now own.old copies.old own.new copies.new (keys_height types.now (optional_keys value_keys ty)) (λ t. IfAny (IsCopiedValue types.now t) ty o)) }
+    ensures { IfOk result (λ o. Copies types.now own.old copies.old own.new copies.new (optional_keys value_keys ty) (λ t. IfAny (IsCopiedValue types.now t) ty o)) }
 {
     match ty {
         Some(ty) => Ok(Some(copy_value(own, copies, types, ty)?)),
@@ -116,7 +116,7 @@ fn copy_values(
 ) -> Result<Vec<ValueType>, AllocError>
     requires source { AllStand types.now (flat_map value_keys values.now.items) }
     requires state { MayCopy types.now own.old copies.old }
-    ensures { IfOk result (λ vs. Copies types.now own.old copies.old own.new copies.new (keys_height types.now (flat_map value_keys values.now.items)) (λ t. AreListed (IsCopiedValue types.now t) values.now.items vs.items)) }
+    ensures { IfOk result (λ vs. Copies types.now own.old copies.old own.new copies.new (flat_map value_keys values.now.items) (λ t. AreListed (IsCopiedValue types.now t) values.now.items vs.items)) }
 {
     let mut copied = values.clone()?;
     for i in 0..values.len() {
@@ -136,7 +136,7 @@ fn copy_fields(
 ) -> Result<IndexMap<String, ValueType>, AllocError>
     requires source { AllStand types.now (flat_map value_keys (types_of fields.now.entries)) }
     requires state { MayCopy types.now own.old copies.old }
-    ensures { IfOk result (λ m. Copies types.now own.old copies.old own.new copies.new (keys_height types.now (flat_map value_keys (types_of fields.now.entries))) (λ t. AreMapped (IsCopiedValue types.now t) (named (λ v. v) fields.now.entries) (named (λ v. v) m.entries))) }
+    ensures { IfOk result (λ m. Copies types.now own.old copies.old own.new copies.new (flat_map value_keys (types_of fields.now.entries)) (λ t. AreMapped (IsCopiedValue types.now t) (named (λ v. v) fields.now.entries) (named (λ v. v) m.entries))) }
 {
     let mut copied = fields.clone()?;
     for i in 0..fields.len() {
@@ -156,7 +156,7 @@ fn copy_cases(
 ) -> Result<IndexMap<String, Option<ValueType>>, AllocError>
     requires source { AllStand types.now (flat_map (optional_keys value_keys) (types_of cases.now.entries)) }
     requires state { MayCopy types.now own.old copies.old }
-    ensures { IfOk result (λ m. Copies types.now own.old copies.old own.new copies.new (keys_height types.now (flat_map (optional_keys value_keys) (types_of cases.now.entries))) (λ t. AreMapped (IfAny (IsCopiedValue types.now t)) (named (λ o. o) cases.now.entries) (named (λ o. o) m.entries))) }
+    ensures { IfOk result (λ m. Copies types.now own.old copies.old own.new copies.new (flat_map (optional_keys value_keys) (types_of cases.now.entries)) (λ t. AreMapped (IfAny (IsCopiedValue types.now t)) (named (λ o. o) cases.now.entries) (named (λ o. o) m.entries))) }
 {
     let mut copied = cases.clone()?;
     for i in 0..cases.len() {
@@ -176,7 +176,7 @@ fn copy_defined(
 ) -> Result<DefinedTypeId, AllocError>
     requires source { Stands types.now (defined_key id) }
     requires state { MayCopy types.now own.old copies.old }
-    ensures { IfOk result (λ r. Copies types.now own.old copies.old own.new copies.new (height types.now (defined_key id)) (λ t. IsCopiedKey types.now t (defined_key id) (defined_key r))) }
+    ensures { IfOk result (λ r. Copies types.now own.old copies.old own.new copies.new (defined_key id ∷ []) (λ t. IsCopiedKey types.now t (defined_key id) (defined_key r))) }
 {
     if let Some(copy) = copies.defined(id) {
         return Ok(copy);
@@ -198,7 +198,7 @@ fn copy_content(
 ) -> Result<DefinedType, AllocError>
     requires source { AllStand types.now (defined_keys (defined_content ty.now)) }
     requires state { MayCopy types.now own.old copies.old }
-    ensures { IfOk result (λ r. Copies types.now own.old copies.old own.new copies.new (keys_height types.now (defined_keys (defined_content ty.now))) (λ t. AreDefined (IsCopiedValue types.now t) (defined_content ty.now) (defined_content r))) }
+    ensures { IfOk result (λ r. Copies types.now own.old copies.old own.new copies.new (defined_keys (defined_content ty.now)) (λ t. AreDefined (IsCopiedValue types.now t) (defined_content ty.now) (defined_content r))) }
 {
     match ty {
         DefinedType::Tuple(items) => {
@@ -262,7 +262,7 @@ fn copy_func(
 ) -> Result<FuncTypeId, AllocError>
     requires source { Stands types.now (func_key id) }
     requires state { MayCopy types.now own.old copies.old }
-    ensures { IfOk result (λ r. Copies types.now own.old copies.old own.new copies.new (height types.now (func_key id)) (λ t. IsCopiedKey types.now t (func_key id) (func_key r))) }
+    ensures { IfOk result (λ r. Copies types.now own.old copies.old own.new copies.new (func_key id ∷ []) (λ t. IsCopiedKey types.now t (func_key id) (func_key r))) }
 {
     if let Some(copy) = copies.func(id) {
         return Ok(copy);
@@ -290,7 +290,7 @@ fn copy_resource(
 ) -> Result<ResourceId, AllocError>
     requires source { Stands types.now (resource_key id) }
     requires state { MayCopy types.now own.old copies.old }
-    ensures { IfOk result (λ r. Copies types.now own.old copies.old own.new copies.new (height types.now (resource_key id)) (λ t. IsCopiedKey types.now t (resource_key id) (resource_key r))) }
+    ensures { IfOk result (λ r. Copies types.now own.old copies.old own.new copies.new (resource_key id ∷ []) (λ t. IsCopiedKey types.now t (resource_key id) (resource_key r))) }
 {
     if let Some(copy) = copies.resource(id) {
         return Ok(copy);
@@ -314,7 +314,7 @@ fn copy_source(
 ) -> Result<Option<ResourceAlias>, AllocError>
     requires source { AllStand types.now (optional_keys alias_keys (option_map alias_content alias)) }
     requires state { MayCopy types.now own.old copies.old }
-    ensures { IfOk result (λ r. Copies types.now own.old copies.old own.new copies.new (keys_height types.now (optional_keys alias_keys (option_map alias_content alias))) (λ t. IfAny (IsCopiedAlias types.now t) (option_map alias_content alias) (option_map alias_content r))) }
+    ensures { IfOk result (λ r. Copies types.now own.old copies.old own.new copies.new (optional_keys alias_keys (option_map alias_content alias)) (λ t. IfAny (IsCopiedAlias types.now t) (option_map alias_content alias) (option_map alias_content r))) }
 {
     match alias {
         Some(alias) => Ok(Some(copy_alias(own, copies, types, alias)?)),
@@ -332,7 +332,7 @@ fn copy_alias(
 ) -> Result<ResourceAlias, AllocError>
     requires source { AllStand types.now (alias_keys (alias_content alias)) }
     requires state { MayCopy types.now own.old copies.old }
-    ensures { IfOk result (λ r. Copies types.now own.old copies.old own.new copies.new (keys_height types.now (alias_keys (alias_content alias))) (λ t. IsCopiedAlias types.now t (alias_content alias) (alias_content r))) }
+    ensures { IfOk result (λ r. Copies types.now own.old copies.old own.new copies.new (alias_keys (alias_content alias)) (λ t. IsCopiedAlias types.now t (alias_content alias) (alias_content r))) }
 {
     let owner = copy_owner(own, copies, types, alias.owner)?;
     let source = copy_resource(own, copies, types, alias.source)?;
@@ -349,7 +349,7 @@ fn copy_owner(
 ) -> Result<Option<InterfaceId>, AllocError>
     requires source { AllStand types.now (optional_keys (λ o. interface_key o ∷ []) owner) }
     requires state { MayCopy types.now own.old copies.old }
-    ensures { IfOk result (λ r. Copies types.now own.old copies.old own.new copies.new (keys_height types.now (optional_keys (λ o. interface_key o ∷ []) owner)) (λ t. IfAny (λ a b. IsCopiedKey types.now t (interface_key a) (interface_key b)) owner r)) }
+    ensures { IfOk result (λ r. Copies types.now own.old copies.old own.new copies.new (optional_keys (λ o. interface_key o ∷ []) owner) (λ t. IfAny (λ a b. IsCopiedKey types.now t (interface_key a) (interface_key b)) owner r)) }
 {
     match owner {
         Some(owner) => Ok(Some(copy_interface(own, copies, types, owner)?)),
@@ -367,7 +367,7 @@ fn copy_interface(
 ) -> Result<InterfaceId, AllocError>
     requires source { Stands types.now (interface_key id) }
     requires state { MayCopy types.now own.old copies.old }
-    ensures { IfOk result (λ r. Copies types.now own.old copies.old own.new copies.new (height types.now (interface_key id)) (λ t. IsCopiedKey types.now t (interface_key id) (interface_key r))) }
+    ensures { IfOk result (λ r. Copies types.now own.old copies.old own.new copies.new (interface_key id ∷ []) (λ t. IsCopiedKey types.now t (interface_key id) (interface_key r))) }
 {
     if let Some(copy) = copies.interface(id) {
         return Ok(copy);
@@ -396,7 +396,7 @@ fn copy_uses(
 ) -> Result<IndexMap<String, UsedType>, AllocError>
     requires source { AllStand types.now (named_keys use_keys (named use_content uses.now.entries)) }
     requires state { MayCopy types.now own.old copies.old }
-    ensures { IfOk result (λ m. Copies types.now own.old copies.old own.new copies.new (keys_height types.now (named_keys use_keys (named use_content uses.now.entries))) (λ t. AreMapped (IsCopiedUse types.now t) (named use_content uses.now.entries) (named use_content m.entries))) }
+    ensures { IfOk result (λ m. Copies types.now own.old copies.old own.new copies.new (named_keys use_keys (named use_content uses.now.entries)) (λ t. AreMapped (IsCopiedUse types.now t) (named use_content uses.now.entries) (named use_content m.entries))) }
 {
     let mut copied = uses.clone()?;
     for i in 0..uses.len() {
@@ -416,7 +416,7 @@ pub fn copy_externs(
 ) -> Result<IndexMap<String, ItemKind>, AllocError>
     requires source { AllStand types.now (named_keys item_keys (named (λ k. k) externs.now.entries)) }
     requires state { MayCopy types.now own.old copies.old }
-    ensures { IfOk result (λ m. Copies types.now own.old copies.old own.new copies.new (keys_height types.now (named_keys item_keys (named (λ k. k) externs.now.entries))) (λ t. AreMapped (IsCopiedItem types.now t) (named (λ k. k) externs.now.entries) (named (λ k. k) m.entries))) }
+    ensures { IfOk result (λ m. Copies types.now own.old copies.old own.new copies.new (named_keys item_keys (named (λ k. k) externs.now.entries)) (λ t. AreMapped (IsCopiedItem types.now t) (named (λ k. k) externs.now.entries) (named (λ k. k) m.entries))) }
 {
     let mut copied = externs.clone()?;
     for i in 0..externs.len() {
@@ -438,7 +438,7 @@ fn copy_world(
 ) -> Result<WorldId, AllocError>
     requires source { Stands types.now (world_key id) }
     requires state { MayCopy types.now own.old copies.old }
-    ensures { IfOk result (λ r. Copies types.now own.old copies.old own.new copies.new (height types.now (world_key id)) (λ t. IsCopiedKey types.now t (world_key id) (world_key r))) }
+    ensures { IfOk result (λ r. Copies types.now own.old copies.old own.new copies.new (world_key id ∷ []) (λ t. IsCopiedKey types.now t (world_key id) (world_key r))) }
 {
     if let Some(copy) = copies.world(id) {
         return Ok(copy);
@@ -468,7 +468,7 @@ fn copy_module(
 ) -> Result<ModuleTypeId, AllocError>
     requires source { Stands types.now (module_key id) }
     requires state { MayCopy types.now own.old copies.old }
-    ensures { IfOk result (λ r. Copies types.now own.old copies.old own.new copies.new (height types.now (module_key id)) (λ t. IsCopiedKey types.now t (module_key id) (module_key r))) }
+    ensures { IfOk result (λ r. Copies types.now own.old copies.old own.new copies.new (module_key id ∷ []) (λ t. IsCopiedKey types.now t (module_key id) (module_key r))) }
 {
     if let Some(copy) = copies.module(id) {
         return Ok(copy);

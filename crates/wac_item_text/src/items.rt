@@ -24,8 +24,8 @@ fn sort_word(item: ItemKind) -> &'static str {
     }
 }
 
-/// Puts the canonical text of an item's tree last. `Err` is want of memory, and
-/// what was put then is of no use.
+/// Puts the canonical text of an item's tree last. `Err` is a failed allocation, and what was put
+/// then is of no use.
 #[cycle(items)]
 pub fn push_item_text(
     alloc: Global,

@@ -46,12 +46,12 @@ abbrev pub Path : List Frame → Fault → Place → Type 0
 Path [] f p = Holds f p
 Path (frame ∷ frames) f p = (below : Place) × Leads frame p below × Path frames f below
 
--- a mismatch has a path from the two sides; nothing is said where there was no memory
+-- a mismatch has a path from the two sides; nothing is said where an allocation failed
 abbrev pub Explains : SubtypeError → SubtypeCheck → Side → Side → Type 0
 Explains (Mismatch frames f) c a b = Path frames.items f (place c a b)
 Explains Memory c a b = Unit {0}
 
--- a mismatch says that the fact doesn't hold; nothing is said where there was no memory
+-- a mismatch says that the fact doesn't hold; nothing is said where an allocation failed
 abbrev pub Refutes : SubtypeError → Type 0 → Type 0
 Refutes (Mismatch frames f) P = P → ⊥
 Refutes Memory P = Unit {0}

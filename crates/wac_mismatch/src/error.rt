@@ -14,7 +14,7 @@ pub enum SubtypeError {
         /// What they disagree in there.
         fault: Fault,
     },
-    /// There was no memory.
+    /// An allocation failed.
     Memory,
 }
 

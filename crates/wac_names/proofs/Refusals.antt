@@ -1,5 +1,5 @@
--- The reader of versions answers want of memory for no text: a text that is
--- no version is refused as such.
+-- The reader of versions answers a failed allocation for no text: a text that is no version is
+-- refused as such.
 use Rattle.std.proofs.Common.{◌≡◌, ℕ, ◌+◌, ◌*◌, ◌-◌, ◌^◌, ◌==◌, ◌∷◌, [], Bool, true, false, List, Result, Ok, Err, if◌then◌else◌, refl, sym, ap, ◌∙◌, length}
 use Rattle.std.specs.Char.{is_ascii_digit}
 use Rattle.std.specs.Prelude.{nat_lt, nat_le}
@@ -11,12 +11,12 @@ use Rattle.semver.specs.Parse.{IsRefused, Parts, digits_from, dot_of, end_error,
 use Rattle.semver.proofs.Grammar.{version_parts-sound}
 use Rattle.wac_names.specs.Reading.{IsNoVersionText}
 
--- whether this is an error by want of memory
+-- whether this is a failed allocation
 abbrev is_refusal : {A : Type 0} → Result A Error → Bool
 is_refusal (Ok x) = false
 is_refusal (Err e) = is_memory e.kind
 
--- a value, or an error that is no want of memory
+-- a value, or an error that is no failed allocation
 record IsClean {A : Type 0} (r : Result A Error) : Type 0 where
   is : is_refusal r ≡ false
 
@@ -87,7 +87,7 @@ clean_version text =
     clean_then (numeric place.Patch u) _ (clean_digits place.Patch 0 0 u) (λ z.
     clean_tail_pre x.0 y.0 z.0 z.1))))))
 
--- the error of a text that is no version is not want of memory
+-- the error of a text that is no version is not a failed allocation
 pub refused_not_memory : (text : List ℕ) (e : Error) → IsRefused {T = Version} (version_parts text) (Err e) → IsNoVersionText text → e ≡ memory_error → ⊥
 refused_not_memory text e refused none memory = step (version_parts text) refl (clean_version text) refused where
   step : (o : Result Parts Error) → version_parts text ≡ o → IsClean o → IsRefused {T = Version} o (Err e) → ⊥

@@ -70,7 +70,8 @@ OnTwice (Ok key) P = ⊤
 OnTwice (Err (Twice text)) P = P
 OnTwice (Err Memory) P = ⊤
 
--- why `insert` may refuse: a name that is there, where shadowing is not allowed, or want of memory
+-- why `insert` may refuse: a name that is there, where shadowing is not allowed, or a failed
+-- allocation
 abbrev pub IsRefusalAt : {V : Type 0} → List (Text × V) → Text → Bool → NameError → Type 0
 IsRefusalAt ps name allow_shadowing (Twice text) = (allow_shadowing ≡ false) × HasText ps name × (string_bytes text ≡ name)
 IsRefusalAt ps name allow_shadowing Memory = ⊤

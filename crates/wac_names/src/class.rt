@@ -39,7 +39,7 @@ impl NameClass {
         Ok(NameClass { on_track, text })
     }
 
-    /// The class of a name. `Err` is want of memory.
+    /// The class of a name. `Err` is a failed allocation.
     pub fn of(alloc: Global, name: &str) -> Result<NameClass, AllocError>
         ensures { IfOk result (λ c. c ≡ class_of name.now) }
     {

@@ -11,7 +11,7 @@ pub enum NameError {
         /// The name.
         name: String,
     },
-    /// There was no memory.
+    /// An allocation failed.
     Memory,
 }
 

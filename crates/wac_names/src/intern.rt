@@ -26,7 +26,7 @@ pub trait NameMapIntern {
         ensures extends { Extends (is_key self.old) (is_key self.new) }
         ensures grows { GrowsOnlyAt (is_key self.old) (is_key self.new) (λ text. text ≡ name.now) };
 
-    /// The key of the text, where it has one. `Err` is want of memory.
+    /// The key of the text, where it has one. `Err` is a failed allocation.
     fn lookup(&self, alloc: Global, name: &str) -> Result<Option<Self::Key>, AllocError>
         ensures { IfOk result (IsValueAt (is_key self.now) name.now) };
 

@@ -152,7 +152,7 @@ impl<K: Clone + Eq + Hash + Drop, V: Drop> NameMap<K, V> {
     }
 
     /// Defines a name, and answers its key. A name that is there gets the new value in its place,
-    /// if shadowing is allowed; else the answer is `Twice`. `Memory` is want of memory.
+    /// if shadowing is allowed; else the answer is `Twice`. `Memory` is a failed allocation.
     ///
     /// The name is interned first and then, unless the answer is `Twice`, its track key where it
     /// has one. After a refusal the map is as before, and the interner may have grown. Clones of
@@ -198,7 +198,7 @@ impl<K: Eq + Hash + Drop, V> NameMap<K, V> {
 
     /// The value at a name; where the name is not there, the value at the greatest version on its
     /// track; else none. The greatest is told by the order of `semver::Version`: that of SemVer
-    /// 2.0.0, item 11, and then build metadata. `Err` is want of memory.
+    /// 2.0.0, item 11, and then build metadata. `Err` is a failed allocation.
     pub fn get<I: NameMapIntern<Key = K>>(
         &self,
         name: &str,

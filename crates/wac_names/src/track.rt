@@ -13,7 +13,7 @@ use semver::Version;
 use std::alloc::{AllocError, Global};
 use std::cmp::Ordering;
 
-// Whether an error of a reader is want of memory.
+// Whether an error of a reader is a failed allocation.
 fn is_memory(e: &semver::Error) -> bool
     ensures { IsTrue result ↔ (e.now ≡ memory_error) }
 {
@@ -23,7 +23,7 @@ fn is_memory(e: &semver::Error) -> bool
 /// The version that a text is, where it is one of SemVer 2.0.0 (items 2, 9
 /// and 10) with numbers below 2^64.
 ///
-/// `Err` is want of memory, which only a version with a pre-release or build metadata asks for.
+/// `Err` is a failed allocation; only a version with a pre-release or build metadata asks for one.
 pub fn read_version(alloc: Global, text: &str) -> Result<Option<Version>, AllocError>
     ensures read { IfOk result (λ r. MatchOption r (IsNoVersionText text.now) (λ v. IsVersionText text.now (parts_of v))) }
     ensures no_version { IsNoVersionText text.now → result ≡ Ok None }
@@ -81,7 +81,7 @@ pub(crate) fn tracked(alloc: Global, name: &str) -> Result<Option<(&str, Version
 /// `x:y/z@0.2.3`. What stands after the first `@` has to be a version of SemVer 2.0.0 (items 2, 9
 /// and 10) with numbers below 2^64, no pre-release, and a major or a minor number that is not 0.
 ///
-/// `Err` is want of memory, which only a version with a pre-release or build metadata asks for.
+/// `Err` is a failed allocation; only a version with a pre-release or build metadata asks for one.
 pub fn track_of(alloc: Global, name: &str) -> Result<Option<&str>, AllocError>
     ensures key { IfOk result (λ r. IsKeyOf name.now (option_copied r)) }
     ensures no_memory { IsPlainName name.now → IsOk result }
@@ -94,7 +94,7 @@ pub fn track_of(alloc: Global, name: &str) -> Result<Option<&str>, AllocError>
 
 /// Whether two names are equal or have the same track key.
 ///
-/// `Err` is want of memory, which only versions with a pre-release or build metadata ask for.
+/// `Err` is a failed allocation; only versions with a pre-release or build metadata ask for one.
 pub fn are_semver_compatible(alloc: Global, a: &str, b: &str) -> Result<bool, AllocError>
     ensures answer { IfOk result (λ r. IsTrue r ↔ IsCompatible a.now b.now) }
     ensures no_memory { IsPlainName a.now → IsPlainName b.now → IsOk result }
@@ -116,7 +116,7 @@ pub fn are_semver_compatible(alloc: Global, a: &str, b: &str) -> Result<bool, Al
 /// major, minor and patch number (SemVer 2.0.0, item 11), and then by build metadata. None where
 /// they stand on no common track.
 ///
-/// `Err` is want of memory, which only versions with a pre-release or build metadata ask for.
+/// `Err` is a failed allocation; only versions with a pre-release or build metadata ask for one.
 pub fn version_cmp(alloc: Global, a: &str, b: &str) -> Result<Option<Ordering>, AllocError>
     ensures answer { IfOk result (IsVersionOrder a.now b.now) }
     ensures no_memory { IsPlainName a.now → IsPlainName b.now → IsOk result }

@@ -10,7 +10,7 @@ use indexmap::IndexMap;
 use std::alloc::{AllocError, Global};
 use wac_component::{ItemKind, Type, Types};
 
-/// The definitions among the exports of a world, in order. `Err` is want of memory.
+/// The definitions among the exports of a world, in order. `Err` is a failed allocation.
 pub(crate) fn find_definitions(
     alloc: Global,
     types: &Types,

@@ -11,7 +11,7 @@ use wac_names::read_version;
 
 /// Whether a name is that of an interface, as `wasi:http/types` or `wasi:http/types@0.2.0`.
 ///
-/// `Err` is want of memory, which only a version with a pre-release or build metadata asks for.
+/// `Err` is a failed allocation; only a version with a pre-release or build metadata asks for one.
 pub(crate) fn is_interface_name(alloc: Global, name: &str) -> Result<bool, AllocError>
     ensures { IfOk result (λ r. IsTrue r ↔ IsInterfaceName name.now) }
 {

@@ -38,7 +38,7 @@ impl Model for PackageKey {
 }
 
 impl PackageKey {
-    /// The key of a package. `Err` is want of memory.
+    /// The key of a package. `Err` is a failed allocation.
     pub fn new(alloc: Global, package: &Package) -> Result<PackageKey, AllocError>
         ensures { IfOk result (λ k. k ≡ «package».now.key) }
     {
@@ -155,7 +155,7 @@ impl<'a> BorrowedPackageKey<'a> {
         Self { name, version }
     }
 
-    /// A key of its own with the same name and the same version. `Err` is want of memory.
+    /// A key of its own with the same name and the same version. `Err` is a failed allocation.
     pub fn into_owned(self, alloc: Global) -> Result<PackageKey, AllocError>
         ensures { IfOk result (λ k. k ≡ borrowed_content self.entry) }
     {

@@ -55,8 +55,8 @@ impl Package {
     /// A package of this name and version, whose component has the type `world`.
     ///
     /// An interface without identifier and uses is added to the collection, with the exports of the
-    /// world: it is the type of the component's instances. `Err` is want of memory, and leaves the
-    /// collection as it was. Nothing is said of the bytes.
+    /// world: it is the type of the component's instances. `Err` is a failed allocation, and leaves
+    /// the collection as it was. Nothing is said of the bytes.
     pub fn from_world(
         alloc: Global,
         name: &str,

@@ -49,7 +49,7 @@ low_on s k t (of_copy theirs own is w) v = of_copy theirs own is (Reaches-trans 
 low_on s k t (of_import b) v = of_import (record { world = b.world; stands = b.stands; reached = (b.reached.0, b.reached.1, Reaches-trans s.own b.reached.0 k t b.reached.2 v) })
 
 -- a walk in a collection that was added to
-walk_on : (c d : Collection) → IsSound c → Extends c d → (k t : Key) → Stands c k → Reaches c k t → Reaches d k t
+pub walk_on : (c d : Collection) → IsSound c → Extends c d → (k t : Key) → Stands c k → Reaches c k t → Reaches d k t
 walk_on c d s x k t st stay = stay
 walk_on c d s x k t st (step {j = j} m w) = step (subst (λ (ks : List Key). IsAmong j ks) (sym (next_kept c d s x k st)) m) (walk_on c d s x j t (next_stands c k j s st m) w)
 

@@ -1,4 +1,4 @@
--- Every error but want of memory says something.
+-- Every error but a failed allocation says something.
 use Rattle.std.proofs.Common.{◌≡◌, ◌≢◌, List, Some, None, refl, ap, sym, ◌∙◌}
 use Rattle.wac_model.specs.ItemTree.{ItemTree}
 use Rattle.wac_call_lists.specs.Reason.{Refusal, mismatch}
@@ -11,7 +11,7 @@ use Rattle.wac_refusals.specs.declared.frame.MergeFrame.{MergeFrame}
 use Rattle.wac_refusals.specs.Clashes.{IsNo, IsMismatch, ClashesAt, here, in_modules, below}
 use Rattle.wac_refusals.specs.Said.{said}
 
--- a refusal says why, unless there is no memory
+-- a refusal says why, unless an allocation fails
 pub says_why : (e : AggregateError) → e ≢ Memory → (r : Refusal) × (said e ≡ Some r)
 says_why (Kinds existing found) other = (_, refl)
 says_why (Mismatch frames (Disagree path fault)) other = (_, refl)

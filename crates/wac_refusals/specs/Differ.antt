@@ -18,7 +18,7 @@ pub data SaysUsesDiffer (c : Collection) (us vs : List (Text × UseContent)) (e 
   of_interfaces : (name expected found : Text) (u v : UseContent) → Contains us (name, u) → Contains vs (name, v) → identifier c u.interface ≡ Some expected → identifier c v.interface ≡ Some found → class_of expected ≢ class_of found → said e ≡ Some (used_interface name expected found) → SaysUsesDiffer c us vs e
   of_names : (name : Text) (u v : UseContent) → Contains us (name, u) → Contains vs (name, v) → u.name ≢ v.name → said e ≡ Some (used_name name) → SaysUsesDiffer c us vs e
 
--- such lists are refused, unless there is no memory
+-- such lists are refused, unless an allocation fails
 abbrev pub AreRefusedLists : Collection → List (Text × UseContent) → List (Text × UseContent) → AggregateError → Type 0
 AreRefusedLists c us vs e = e ≢ Memory → SaysUsesDiffer c us vs e
 
@@ -30,6 +30,6 @@ pub record UsesDiffer (c : Collection) (ks js : List Key) (e : AggregateError) :
   pub among_second : IsAmong second js
   pub differ : SaysUsesDiffer c (uses_at c first) (uses_at c second) e
 
--- such entries are refused, unless there is no memory
+-- such entries are refused, unless an allocation fails
 abbrev pub IsUsesRefusal : Collection → List Key → List Key → AggregateError → Type 0
 IsUsesRefusal c ks js e = e ≢ Memory → UsesDiffer c ks js e

@@ -5,7 +5,7 @@ use Rattle.wac_mismatch.specs.declared.error.SubtypeError.TheVariants.{Mismatch 
 use Rattle.wac_refusals.specs.declared.error.AggregateError.{AggregateError}
 use Rattle.wac_refusals.specs.declared.error.AggregateError.TheVariants.{Kinds, Mismatch, UsedInterface, UsedName, NoIdentifier, OwnerWithoutIdentifier, Taken, Cycle, Memory}
 
--- what is refused, unless there is no memory; a mismatch says where types disagree
+-- what is refused, unless an allocation fails; a mismatch says where types disagree
 abbrev pub said : AggregateError → Option Refusal
 said (Kinds existing found) = Some (kinds existing.now found.now)
 said (Mismatch frames (Disagree path fault)) = Some mismatch

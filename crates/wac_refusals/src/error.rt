@@ -56,7 +56,7 @@ pub enum AggregateError {
         /// The identifier of the interface that was to be merged.
         interface: String,
     },
-    /// There was no memory.
+    /// An allocation failed.
     Memory,
 }
 

@@ -13,8 +13,8 @@ use wac_component::{ReplaceError, Types};
 use wac_script_syntax::{Content, EntryName, ScriptError, Sort};
 
 /// Puts the entry that a content describes last in the list of its sort. Refused, the collection is
-/// unchanged: `NoEntry` where an index in the content names no entry, `Memory` for want of memory,
-/// another error where the content's words are malformed.
+/// unchanged: `NoEntry` where an index in the content names no entry, `Memory` where an allocation
+/// fails, another error where the content's words are malformed.
 pub fn add<'a>(
     alloc: Global,
     types: &mut Types,
@@ -63,10 +63,10 @@ pub enum Replacement {
     Cycle,
 }
 
-/// Puts the entry of its sort that words describe in the place of the one of this name,
-/// unless it leads back to it: then, and where the call is refused, the collection is
-/// unchanged. `NoEntry` where a name names no entry, `Memory` for want of memory, another
-/// error where the words are malformed.
+/// Puts the entry of its sort that words describe in the place of the one of this name, unless it
+/// leads back to it: then, and where the call is refused, the collection is unchanged. `NoEntry`
+/// where a name names no entry, `Memory` where an allocation fails, another error where the words
+/// are malformed.
 ///
 /// Who replaces an entry empties each checker's cache that holds an item which leads to it.
 pub fn replace<'a>(

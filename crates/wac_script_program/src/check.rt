@@ -58,8 +58,8 @@ fn refuse<E: Write>(err: &mut E, name: &str, line: usize, failure: &Failure<'_>)
 /// after the name of the script and its number, from 1, with what is expected and what is found;
 /// then one line has the number of questions. The status is 1 where one differs. A line that is
 /// refused with no refusal beside it, a question without an answer, and an answer or a refusal with
-/// nothing before it end the check: `err` gets a line that says so, and the status is 2. Where
-/// there is no memory or a write fails, nothing more is written, and the status is 1.
+/// nothing before it end the check: `err` gets a line that says so, and the status is 2. Where an
+/// allocation or a write fails, nothing more is written, and the status is 1.
 pub fn check_script<W: Write, E: Write>(
     alloc: Global,
     name: &str,

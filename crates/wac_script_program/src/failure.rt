@@ -17,7 +17,7 @@ pub(crate) enum Failure<'a> {
     NoAnswer,
     /// A refusal stands where there is no command, or one that is answered already.
     NoCommand,
-    /// There was no memory, or a read or a write failed.
+    /// An allocation, a read or a write failed.
     Other,
 }
 

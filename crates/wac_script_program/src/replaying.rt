@@ -11,8 +11,8 @@ use wac_script_syntax::read_line;
 /// Reads a script, prints the answers to `out`, and answers the status.
 ///
 /// A line that is malformed, or that names what isn't there, ends the script: `err` gets one line
-/// with its number, from 1, and what was wrong, and the status is 2. Where there is no memory, or a
-/// read or a write fails, nothing more is written, and the status is 1.
+/// with its number, from 1, and what was wrong, and the status is 2. Where an allocation fails, or
+/// a read or a write fails, nothing more is written, and the status is 1.
 pub fn replay<R: BufRead + Drop, W: Write, E: Write>(
     alloc: Global,
     reader: R,

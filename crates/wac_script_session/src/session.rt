@@ -56,8 +56,8 @@ impl Session {
     /// Carries out a command. Gives the lines that it prints, if it prints any, without
     /// the line feed after the last.
     ///
-    /// `NoneAtHand`, `NoCollection` and `NoEntry` come where the command names a collection or
-    /// an entry that isn't there, and `Memory` is want of memory. Refused, a command builds
+    /// `NoneAtHand`, `NoCollection` and `NoEntry` come where the command names a collection or an
+    /// entry that isn't there, and `Memory` is a failed allocation. Refused, a command builds
     /// nothing and takes no number.
     pub fn run<'a>(
         &mut self,
@@ -79,7 +79,7 @@ impl Session {
     /// Hands the items of all calls to a new aggregator, with one checker and an empty cache for
     /// all of them. The calls stay, so the next aggregator is handed the same.
     ///
-    /// Gives what the aggregator answers; `Memory` is want of memory before it is asked.
+    /// Gives what the aggregator answers; `Memory` is an allocation that failed before it is asked.
     pub fn aggregate_calls<'a>(
         &self,
         alloc: Global,

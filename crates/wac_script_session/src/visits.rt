@@ -13,7 +13,7 @@ use wac_script_syntax::{ScriptError, read_number, read_type};
 enum Stop {
     // It was to fail at this call.
     Asked,
-    // There was no memory.
+    // An allocation failed.
     Memory,
 }
 

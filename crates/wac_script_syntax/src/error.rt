@@ -27,7 +27,7 @@ pub enum ScriptError<'a> {
     /// Two keys of packages are equal as they are and not through `dyn
     /// BorrowedKey`, or the other way round.
     Keys,
-    /// There was no memory.
+    /// An allocation failed.
     Memory,
 }
 

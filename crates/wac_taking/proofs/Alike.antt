@@ -314,6 +314,7 @@ module _ (f : Collection) (sound : IsSound f) (a b : Merging) (now : Memo) (thei
           | inl was ↦ inl was
           | inr new ↦ inr (shared_from_within f c (map resource_key rs) (theirs ∷ []) within e (shared_from_still f b c kept runs (map resource_key rs) e among new))
         ];
+        identified = g.identified;
         plain = λ p. g.plain (plain_within f (map resource_key rs) (theirs ∷ []) within p);
         known = λ all.
             let only = g.known (known_within f a (map resource_key rs) (theirs ∷ []) within all) in

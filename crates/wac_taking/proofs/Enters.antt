@@ -1,7 +1,7 @@
 -- Entries all of whose parts were taken in: what they name stands, and they enter.
 use Rattle.std.proofs.Common.{◌≡◌, ◌∙◌, List, [], ◌∷◌, length, Option, Some, None, slice_get, refl, ap, sym, subst, IsSome}
 use Rattle.std.specs.Option.{option_and_then, option_map_or}
-use Rattle.wac_component.specs.Entries.{owner_at, entry_exports, entry_uses, exports_at, uses_at}
+use Rattle.wac_component.specs.Entries.{entry_identifier, owner_at, entry_exports, entry_uses, exports_at, uses_at}
 use Rattle.wac_component.specs.Open.{open_next}
 use Rattle.wac_component.specs.Reach.{IsAmong}
 use Rattle.wac_model.specs.Text.{Text}
@@ -24,22 +24,26 @@ use Rattle.wac_names.specs.Class.{class_of}
 use Rattle.wac_narrowing.specs.Entering.{AddsEntry, InterfaceIsTaken, WorldIsTaken}
 use Rattle.wac_narrowing.specs.Identified.{used_names}
 use Rattle.wac_narrowing.specs.Leaves.{SaysSame, same_func, same_defined, same_resource, same_module}
-use Rattle.wac_narrowing.specs.State.{State, IsKept}
+use Rattle.wac_narrowing.specs.Remembers.{RemembersTruly}
+use Rattle.wac_narrowing.specs.State.{State, IsKept, Runs}
 use Rattle.wac_narrowing.specs.Taking.{AreMapped, none, one, AreTakenKeys, no_keys, one_key, IsTakenKey, IsTakenItem, IsCopiedItem}
 use Rattle.wac_narrowing.specs.Values.{IsTakenValue, SameValue, IfAny, neither, both, AreFuncs, AreDefined}
 use Rattle.wac_narrowing.proofs.Entering.{interface_parts, interface_named, world_parts, world_named as world_names, world_enters as world_goes}
 use Rattle.wac_narrowing.proofs.EnteringLeaves.{leaf_enters, says_same}
 use Rattle.wac_narrowing.proofs.Mapped.{mapped_more, mapped_same, taken_of, taken_each, taken_named}
 use Rattle.wac_narrowing.proofs.Values.{funcs_more, defined_more, each_func, each_defined, func_parts, defined_parts}
-use Rattle.wac_taking.specs.Takes.{IsTakenAlias, IsTakenUse, IsOwnerImported}
+use Rattle.wac_taking.specs.Takes.{state_of, MayPutWorld, IsTakenAlias, IsTakenUse, IsOwnerImported}
+use Rattle.wac_taking.specs.declared.state.Merging.{Merging}
+use Rattle.wac_taking.proofs.Parts.{uses_still, items_still}
 use Rattle.wac_taking.proofs.TakeLemmas.{HasOwners, Enters}
 use Rattle.wac_copies.proofs.Enters.{items_low}
 use Rattle.wac_reasons.specs.Entering.{IsTakenIdentifiedUse}
 use Rattle.wac_reasons.specs.Split.{IsLow}
 use Rattle.wac_reasons.proofs.EntryAccounts.{IsMadeFrom}
 
--- the entry exports, uses and imports nothing
+-- the entry has no identifier, and exports, uses and imports nothing
 record IsLeaf (e : Entry) : Type 0 where
+  plain : entry_identifier e ≡ None
   exports : entry_exports e ≡ []
   uses : entry_uses e ≡ []
   imports : import_keys e ≡ []
@@ -155,6 +159,7 @@ module _ (f : Collection) (s : State) where
       leaf theirs x z is own_is st at named says parts self adds same =
           let taken = subst (λ ks. AreTakenKeys class_of f s ks (other_keys z)) (sym (ap (optional_keys other_keys) at)) parts in
           record {
+            plain = own_is.plain;
             entered = leaf_enters class_of f s kept sound theirs z st says t taken adds same;
             owners = record { parts = noted theirs x (other_keys z) at parts; self = self };
             made = record {
@@ -174,12 +179,12 @@ module _ (f : Collection) (s : State) where
       pub defined_enters : (p : Id) (x z : DefinedContent) → Stands f (defined_key p) → slice_get f.defined p.index ≡ Some x → AreDefined (IsTakenValue class_of f s) x z → AddsEntry f s t (defined_key p) (defined_entry z) → t.shared ≡ s.shared
           → Enters f s t (defined_key p) (defined_entry z)
       defined_enters p x z st at h adds same =
-          leaf (defined_key p) (defined_entry x) (defined_entry z) (record { exports = refl; uses = refl; imports = refl }) (record { exports = refl; uses = refl; imports = refl }) st (defined_at f p x at) (defined_stands x z h) (same_defined at (defined_more (IsTakenValue class_of f s) (SameValue f s.own) (λ v w c. c.same) x z h)) (defined_parts (IsTakenValue class_of f s) (IsTakenKey class_of f s) (λ v w c. c.keys) x z h) (λ r e. absurd (let no : defined_sort ≡ resource_sort = ap (λ (k : Key). k.sort) e in cc)) adds same
+          leaf (defined_key p) (defined_entry x) (defined_entry z) (record { plain = refl; exports = refl; uses = refl; imports = refl }) (record { plain = refl; exports = refl; uses = refl; imports = refl }) st (defined_at f p x at) (defined_stands x z h) (same_defined at (defined_more (IsTakenValue class_of f s) (SameValue f s.own) (λ v w c. c.same) x z h)) (defined_parts (IsTakenValue class_of f s) (IsTakenKey class_of f s) (λ v w c. c.keys) x z h) (λ r e. absurd (let no : defined_sort ≡ resource_sort = ap (λ (k : Key). k.sort) e in cc)) adds same
 
       pub func_enters : (p : Id) (x z : FuncContent) → Stands f (func_key p) → slice_get f.funcs p.index ≡ Some x → AreFuncs (IsTakenValue class_of f s) x z → AddsEntry f s t (func_key p) (func_entry z) → t.shared ≡ s.shared
           → Enters f s t (func_key p) (func_entry z)
       func_enters p x z st at h adds same =
-          leaf (func_key p) (func_entry x) (func_entry z) (record { exports = refl; uses = refl; imports = refl }) (record { exports = refl; uses = refl; imports = refl }) st (func_at f p x at) (func_stands x z h) (same_func at (funcs_more (IsTakenValue class_of f s) (SameValue f s.own) (λ v w c. c.same) x z h)) (func_parts (IsTakenValue class_of f s) (IsTakenKey class_of f s) (λ v w c. c.keys) x z h) (λ r e. absurd (let no : func_sort ≡ resource_sort = ap (λ (k : Key). k.sort) e in cc)) adds same
+          leaf (func_key p) (func_entry x) (func_entry z) (record { plain = refl; exports = refl; uses = refl; imports = refl }) (record { plain = refl; exports = refl; uses = refl; imports = refl }) st (func_at f p x at) (func_stands x z h) (same_func at (funcs_more (IsTakenValue class_of f s) (SameValue f s.own) (λ v w c. c.same) x z h)) (func_parts (IsTakenValue class_of f s) (IsTakenKey class_of f s) (λ v w c. c.keys) x z h) (λ r e. absurd (let no : func_sort ≡ resource_sort = ap (λ (k : Key). k.sort) e in cc)) adds same
 
       alias_imported : (r : Id) (x : ResourceContent) (y : Option AliasContent) → slice_get f.resources r.index ≡ Some x → IfAny (IsTakenAlias f s) x.alias y → IsOwnerImported f s (owner_at f r)
       alias_imported r x y at h i n is named = go x.alias y h (sym (ap (λ o. option_and_then (λ (e : ResourceContent). option_and_then (λ (a : AliasContent). a.owner) e.alias) o) at) ∙ is)
@@ -191,14 +196,15 @@ module _ (f : Collection) (s : State) where
       pub resource_enters : (p : Id) (x z : ResourceContent) → Stands f (resource_key p) → slice_get f.resources p.index ≡ Some x → z.name ≡ x.name → IfAny (IsTakenAlias f s) x.alias z.alias → AddsEntry f s t (resource_key p) (resource_entry z) → t.shared ≡ s.shared
           → Enters f s t (resource_key p) (resource_entry z)
       resource_enters p x z st at name h adds same =
-          leaf (resource_key p) (resource_entry x) (resource_entry z) (record { exports = refl; uses = refl; imports = refl }) (record { exports = refl; uses = refl; imports = refl }) st (resource_at f p x at) (alias_stands x.alias z.alias h) (same_resource at (record { name = name; alias = alias_roots x.alias z.alias h })) (alias_parts x.alias z.alias h)
+          leaf (resource_key p) (resource_entry x) (resource_entry z) (record { plain = refl; exports = refl; uses = refl; imports = refl }) (record { plain = refl; exports = refl; uses = refl; imports = refl }) st (resource_at f p x at) (alias_stands x.alias z.alias h) (same_resource at (record { name = name; alias = alias_roots x.alias z.alias h })) (alias_parts x.alias z.alias h)
           (λ r e. let same_id : p ≡ r = ap (λ (k : Key). k.id) e in subst (λ i. IsOwnerImported f s (owner_at f i)) same_id (alias_imported p x z.alias at h)) adds same
 
       pub module_enters : (p : Id) (x : ModuleTree) → Stands f (module_key p) → slice_get f.modules p.index ≡ Some x → AddsEntry f s t (module_key p) (module_entry x) → t.shared ≡ s.shared → Enters f s t (module_key p) (module_entry x)
-      module_enters p x st at adds same = leaf (module_key p) (module_entry x) (module_entry x) (record { exports = refl; uses = refl; imports = refl }) (record { exports = refl; uses = refl; imports = refl }) st (module_at f p x at) tt (same_module at) no_keys (λ r e. absurd (let no : module_sort ≡ resource_sort = ap (λ (k : Key). k.sort) e in cc)) adds same
+      module_enters p x st at adds same = leaf (module_key p) (module_entry x) (module_entry x) (record { plain = refl; exports = refl; uses = refl; imports = refl }) (record { plain = refl; exports = refl; uses = refl; imports = refl }) st (module_at f p x at) tt (same_module at) no_keys (λ r e. absurd (let no : module_sort ≡ resource_sort = ap (λ (k : Key). k.sort) e in cc)) adds same
 
       pub world_enters : (p : Id) (x z : WorldContent) → WorldIsTaken class_of f s p x z → AreMapped (IsTakenUse f s) x.uses z.uses → AddsEntry f s t (world_key p) (world_entry z) → t.shared ≡ s.shared → Enters f s t (world_key p) (world_entry z)
       world_enters p x z h used adds same = record {
+        plain = refl;
         entered = world_goes class_of f s kept p x z h t adds same;
         made = world_made kept p x z h used;
         owners = record { parts = λ j m. let o = taken_of class_of f s (open_next f (world_key p)) (other_keys (world_entry z)) j (world_parts class_of f s kept p x z h) m in (o.0, o.2.noted); self = λ r e. absurd (let no : world_sort ≡ resource_sort = ap (λ (k : Key). k.sort) e in cc) };
@@ -207,3 +213,12 @@ module _ (f : Collection) (s : State) where
     -- of an interface
     pub interface_owners : IsKept s → (p : Id) (x z : InterfaceContent) → InterfaceIsTaken class_of f s p x z → HasOwners f s (interface_key p)
     interface_owners kept p x z h = record { parts = λ j m. let o = taken_of class_of f s (open_next f (interface_key p)) (interface_keys z) j (interface_parts class_of f s kept p x z h) m in (o.0, o.2.noted); self = λ r e. absurd (let no : interface_sort ≡ resource_sort = ap (λ (k : Key). k.sort) e in cc) }
+
+-- a world whose uses and exports were taken in, once what it imports was copied
+pub world_put : (f : Collection) (a b : Merging) → Runs (RemembersTruly class_of) f (state_of a) (state_of b) → IsKept (state_of a) → (p : Id) (x z : WorldContent) → IsSound f → Stands f (world_key p) → slice_get f.worlds p.index ≡ Some x → MayPutWorld f a p z.uses z.exports
+    → AreMapped (IsCopiedItem f (state_of b)) x.imports z.imports → WorldIsTaken class_of f (state_of b) p x z × AreMapped (IsTakenUse f (state_of b)) x.uses z.uses
+world_put f a b run kept p x z sound stands at may imported =
+    let same : may.content ≡ x = let both : Some may.content ≡ Some x = sym may.entry ∙ at in cc in
+    let used = uses_still f (state_of a) (state_of b) kept (RemembersTruly class_of) f run x.uses z.uses (subst (λ (w : WorldContent). AreMapped (IsTakenUse f (state_of a)) w.uses z.uses) same may.used) in
+    let exported = items_still f (state_of a) (state_of b) kept (RemembersTruly class_of) f run x.exports z.exports (subst (λ (w : WorldContent). AreMapped (IsTakenItem class_of f (state_of a)) w.exports z.exports) same may.exported) in
+    (world_is_taken f (state_of b) sound p x z stands at used imported exported, used)

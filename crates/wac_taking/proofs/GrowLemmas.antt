@@ -8,7 +8,7 @@ use Rattle.std.specs.List.{IsDistinct}
 use Rattle.std.specs.Map.{keys_of}
 use Rattle.std.specs.Map.Iter.{TakesFirst}
 use Rattle.std.proofs.lemmas.List.Elements.{Contains-append_left, Contains-append_right, All-cons, All-head, All-nil, All-tail}
-use Rattle.std.specs.Option.{option_or, option_map}
+use Rattle.std.specs.Option.{option_or, option_map, option_map_or}
 use Rattle.std.specs.Str.{bytes_eq}
 use Rattle.indexmap.specs.IndexMap.{insert_entry}
 use Rattle.wac_model.specs.Text.{Text, lookup}
@@ -23,6 +23,7 @@ use Rattle.wac_bounds.specs.MeetIn.{IsMeetIn}
 use Rattle.wac_model.proofs.Lookups.{IsDistinct-shown}
 use Rattle.wac_component.specs.Collection.{Collection}
 use Rattle.wac_component.specs.Content.{named, use_content}
+use Rattle.wac_component.specs.Entries.{entry_identifier, identifier_at}
 use Rattle.wac_component.specs.Key.{Key, Each, Stands, AllStand, item_keys, named_keys, use_keys}
 use Rattle.wac_component.specs.Sound.{IsSound}
 use Rattle.wac_component.specs.Tree.{item_tree}
@@ -41,7 +42,7 @@ use Rattle.wac_merge.specs.Items.{Externs, AreFound, extern_keys}
 use Rattle.wac_merge.proofs.PutLemmas.{lookup-insert_entry}
 use Rattle.wac_narrowing.specs.Apart.{IsGood}
 use Rattle.wac_narrowing.specs.Identified.{IsCovered}
-use Rattle.wac_narrowing.proofs.Building.{built_covered}
+use Rattle.wac_narrowing.proofs.Building.{built_covered, added_unidentified}
 use Rattle.wac_narrowing.proofs.Contents.{served_same}
 use Rattle.wac_narrowing.proofs.Mapped.{AreServed-trans}
 use Rattle.wac_narrowing.proofs.Steps.{IsStep-refl, IsStep-trans, building_steps}
@@ -63,10 +64,10 @@ use Rattle.wac_taking.specs.Growing.{StepsOn, IsMetWith, IsMetIfAny, AreMetWith,
 -- ---- collections that are only added to
 
 pub StepsOn-refl : (c : Collection) → StepsOn c c
-StepsOn-refl c = record { grows = Extends-refl c; steps = λ ss g. IsStep-refl c ss g }
+StepsOn-refl c = record { grows = Extends-refl c; identified = λ k n stands is. stands; steps = λ ss g. IsStep-refl c ss g }
 
 pub StepsOn-trans : (c d e : Collection) → StepsOn c d → StepsOn d e → StepsOn c e
-StepsOn-trans c d e g h = record { grows = Extends-trans c d e g.grows h.grows; steps = λ ss k. IsStep-trans c d e ss ss ss (g.steps ss k) (h.steps ss (g.steps ss k).good) }
+StepsOn-trans c d e g h = record { grows = Extends-trans c d e g.grows h.grows; identified = λ k n stands is. let then = h.identified k n stands is in g.identified k n then (ap (λ o. option_map_or entry_identifier o None) (sym (h.grows.same_entry k then)) ∙ is); steps = λ ss k. IsStep-trans c d e ss ss ss (g.steps ss k) (h.steps ss (g.steps ss k).good) }
 
 module _ (c d : Collection) (on : StepsOn c d) where
   -- what openly led to shared interfaces alone does so still
@@ -174,11 +175,18 @@ along_on c d grows ss rs from good (k ∷ ks) st h = (along_added class_of (Arro
 
 -- ---- meets
 
+-- what is built has no identifier
+built_identified : (c d : Collection) (o : Origins) → IsSound c → OnlyBuilds c d o → (k : Key) (n : Text) → Stands d k → identifier_at d k ≡ Some n → Stands c k
+built_identified c d o sound only k n stands is = elim (only.added k stands) [
+  | inl was ↦ was
+  | inr new ↦ absurd (let no : None ≡ Some n = sym (added_unidentified c d o sound only k new) ∙ is in cc)
+]
+
 -- of two items, what was built of them
 pub built_met : (c d : Collection) (o : Origins) (a b m : ItemKind) → IsSound c → IsSound d → OnlyBuilds c d o → AreOnes c d o → IsBuilt c d o a b m → AllStand c (item_keys a) → AllStand c (item_keys b) → AllStand d (item_keys m)
     → Fits (item_tree d m) (item_tree c a) → Fits (item_tree d m) (item_tree c b) → ((t : ItemTree) → Fits t (item_tree c a) → Fits t (item_tree c b) → Fits t (item_tree d m)) → (Fits (item_tree c a) (item_tree c b) → m ≡ a) → IsMetWith c d a b m
 built_met c d o a b m sound sound_too only ones built sa sb sm fa fb greatest kept = record {
-  on = record { grows = only.extends; steps = λ ss g. building_steps c d ss o g sound_too only };
+  on = record { grows = only.extends; identified = built_identified c d o sound only; steps = λ ss g. building_steps c d ss o g sound_too only };
   stands = sm;
   answer = Ok (Some m);
   builds = record { origins = o; only = only; ones = ones; built = built };

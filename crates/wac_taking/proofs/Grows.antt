@@ -24,10 +24,12 @@ use Rattle.wac_narrowing.specs.Narrows.{IsStep, CanGrow, grown}
 use Rattle.wac_narrowing.specs.Remembers.{RemembersTruly}
 use Rattle.wac_narrowing.specs.State.{State, AddsPair, IsKept, Runs}
 use Rattle.wac_narrowing.specs.Taking.{IsTakenKey, IsTakenItem}
+use Rattle.wac_narrowing.proofs.Growing.{stood}
 use Rattle.wac_narrowing.proofs.Entering.{interface_named, interface_covered, grown_interface_enters}
 use Rattle.wac_narrowing.proofs.Mapped.{mapped_more, taken_keys_still, taken_item_still}
 use Rattle.wac_narrowing.proofs.Remembered.{RemembersTruly-step}
 use Rattle.wac_narrowing.proofs.Running.{Runs-step, Runs-trans}
+use Rattle.wac_reasons.specs.Split.{AddsSharedOrBelow}
 use Rattle.wac_copies.specs.Memo.{memo_of}
 use Rattle.wac_copies.specs.declared.memo.Memo.{Memo}
 use Rattle.wac_taking.specs.Growing.{AreMetWith}
@@ -132,7 +134,10 @@ module _ (f : Collection) (a : Merging) (may : MayTake f a) (p e : Id) (name : T
       let enters = grown_interface_enters class_of f mid (run.kept may.kept) p put.content z (interface_taken_still f (state_of a) mid may.kept run p put.content z put.taken) t e old new name filed.0 theirs_is own_is filed.2 can
       (served_on a.types d met.on d new.exports es (Each-right (Stands a.types) (named_keys use_keys us) (extern_keys es) taken_named) met.serve_second) acyclic is refl refl refl put.taken.stands.0 adds in
       let whole = Runs-trans (RemembersTruly class_of) f (state_of a) mid t run enters.run in
-      Takes-entered f a (record a { types = w; taken = n }) (interface_key p) (interface_key e) put.taken.sound put.taken.stands adds refl (AreFiledIn-run f (state_of a) t a.shared.entries may.kept refl whole may.filed) (λ k m. inl m)
+      let settled : AddsSharedOrBelow (state_of a) t = λ k m stands at.
+      let then = stood d (state_of a).shared e old new (run.kept may.kept).good can acyclic k (subst (λ c. Stands c k) is stands) in
+      inl (met.on.identified k m then (sym ((enters.run.stops (run.kept may.kept)).identifiers k then) ∙ at)) in
+      Takes-entered f a (record a { types = w; taken = n }) (interface_key p) (interface_key e) put.taken.sound put.taken.stands adds refl (AreFiledIn-run f (state_of a) t a.shared.entries may.kept refl whole may.filed) (λ k m. inl m) settled
       (λ all. absurd (not_known f a (interface_key p) name identified put.absent all))
       (interface_owners f (state_of a) put.taken.sound may.kept p put.content z put.taken) (record { run = whole; taken = enters.taken })
       (λ at trial all. grown_accounted at f (state_of a) p e put.content us es name filed.0 may.kept trial all put.taken put.used identified put.absent among filed.1 filed.2 old new was d met uses_are found new_found t old_named uses can acyclic is refl refl refl adds own_is)

@@ -292,6 +292,6 @@ module _ (f : Collection) (a : Merging) (may : MayTake f a) (p e : Id) (name : T
     pub member_cycle_refused : (r : AggregateError) → (r ≢ Memory → NamesReach d (interface_keys new) (interface_key e)) → IsMemberRefusal f (ReachesByUses f p) taken r
     member_cycle_refused r h x says merging = in_circle (h (not_memory r x says))
 
--- want of memory isn't a refusal of two that can't be merged
+-- a failed allocation isn't a refusal of two that can't be merged
 pub memory_apart : (f : Collection) (P : Id → Type 0) (taken : Taken) → IsMemberRefusal f P taken Memory
 memory_apart f P taken x says merging = absurd (not_memory Memory x says refl)

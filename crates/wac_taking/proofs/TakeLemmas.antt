@@ -8,8 +8,8 @@ use Rattle.wac_component.specs.Entries.{entry_identifier, identifier_at, owner_a
 use Rattle.wac_component.specs.Growth.{Extends, with_entry}
 use Rattle.wac_component.specs.Height.{height}
 use Rattle.wac_component.specs.Id.{Id}
-use Rattle.wac_component.specs.Key.{Key, Entry, Each, Stands, AllStand, item_keys, resource_key, interface_key}
-use Rattle.wac_component.specs.Open.{open_next, OpenReaches, stay, step}
+use Rattle.wac_component.specs.Key.{Key, Entry, Each, Stands, AllStand, item_keys, import_keys, optional_keys, resource_key, interface_key}
+use Rattle.wac_component.specs.Open.{open_next, import_next, OpenReaches, stay, step}
 use Rattle.wac_component.specs.Sound.{IsSound}
 use Rattle.wac_component.specs.declared.items.ItemKind.{ItemKind}
 use Rattle.wac_component.specs.declared.items.ItemKind.TheVariants.{Instance}
@@ -24,23 +24,29 @@ use Rattle.wac_narrowing.specs.Last.{last_key}
 use Rattle.wac_narrowing.specs.Narrows.{AddsShared}
 use Rattle.wac_narrowing.specs.Remembers.{RemembersTruly}
 use Rattle.wac_narrowing.specs.State.{State, Memo as Remembered, AddsPair, IsKept, IsOneWith, Runs}
-use Rattle.wac_narrowing.specs.Taking.{IsTakenKey}
+use Rattle.wac_narrowing.specs.Taking.{IsTakenKey, IsCopiedKey, AreCopiedKeys}
 use Rattle.wac_narrowing.specs.Identified.{IsCovered}
 use Rattle.wac_narrowing.specs.Imports.{IsImportFor}
+use Rattle.wac_narrowing.proofs.Adding.{last_at}
+use Rattle.wac_narrowing.proofs.Mapped.{paired_of}
 use Rattle.wac_narrowing.proofs.Running.{Runs-refl, Runs-trans, Runs-import, ImportsFit-refl}
 use Rattle.wac_imports.specs.Import.{ImportContent, ImportsContent, import_of, import_at, PutsImport}
-use Rattle.wac_call_lists.specs.Attempt.{Attempt}
+use Rattle.wac_call_lists.specs.Attempt.{Attempt, IsBelowImport}
 use Rattle.wac_reasons.specs.Sharing.{of_shared, of_import}
+use Rattle.wac_reasons.specs.Split.{AddsSharedOrBelow}
 use Rattle.wac_reasons.specs.Trial.{IsTrial, IsAccounted, IsOpenSource, StaysAccounted}
 use Rattle.wac_reasons.proofs.Accounts.{root_open, accounted_none, accounted_then, accounted_added, accounted_imports}
 use Rattle.wac_reasons.proofs.EntryAccounts.{IsMadeFrom, made_accounted}
-use Rattle.wac_copies.specs.Copies.{IsState, MayCopy, Copies, moved}
+use Rattle.wac_reasons.proofs.SharedOrBelow.{adds_none, adds_then}
+use Rattle.wac_reasons.proofs.Splitting.{walk_on}
+use Rattle.wac_copies.specs.Copies.{IsState, MayCopy, IsBelowCopy, Copies}
 use Rattle.wac_copies.specs.Memo.{memo_of}
 use Rattle.wac_copies.specs.declared.memo.Memo.{Memo}
 use Rattle.wac_taking.specs.Takes.{shared_keys, shared_in, state_of, AreFiledIn, MayTake, AreWithin, LeadsToOwner, OwnersImported, IsOwnersImport, IsSharedFrom, IsOwnerImported, AreKnown, OnlyGrows, TakesBy, AreNear, Takes}
 use Rattle.wac_taking.specs.declared.state.Merging.{Merging}
 use Rattle.wac_component.proofs.Adding.{Extends-with_entry}
 use Rattle.wac_component.proofs.Extended.{Extends-refl}
+use Rattle.wac_component.proofs.Last.{IsLast}
 use Rattle.wac_call_lists.specs.PlainList.{ArePlain}
 use Rattle.wac_taking.proofs.Plain.{OnlyGrows-refl, OnlyGrows-trans, plain_within, plain_known, not_plain_owner}
 use Rattle.wac_taking.proofs.Within.{within_all, openly_within, leads_within}
@@ -168,6 +174,7 @@ module _ (f : Collection) {near : List Key} where
     stays = λ c i is. is;
     due = λ c i is. inl is;
     shares = λ e among. inl among;
+    identified = adds_none (state_of a);
     plain = λ p. refl;
     known = λ all. OnlyGrows-refl f a;
     accounts = λ at trial all h. accounted_none at (state_of a) all;
@@ -185,6 +192,7 @@ module _ (f : Collection) {near : List Key} where
     stays = h.stays;
     due = λ q i is. elim (h.due q i is) [ inl was ↦ inl was | inr new ↦ inr (owners_import_within f b ks js within q i new) ];
     shares = λ e among. elim (h.shares e among) [ inl was ↦ inl was | inr new ↦ inr (shared_from_within f b ks js within e new) ];
+    identified = h.identified;
     plain = λ p. h.plain (plain_within f ks js within p);
     known = λ all. h.known (known_within f a ks js within all);
     accounts = λ at trial all by. h.accounts at (trial_within at f ks js within trial) all by;
@@ -217,6 +225,7 @@ module _ (f : Collection) {near : List Key} where
           ]
           | inr new ↦ inr (shared_from_within f c js ls second e new)
         ];
+        identified = adds_then (RemembersTruly class_of) f (state_of a) (state_of b) (state_of c) kept h.run g.identified h.identified;
         plain = λ p. h.plain (plain_within f js ls second p) ∙ g.plain (plain_within f ks ls first p);
         known = λ all. OnlyGrows-trans f a b c (g.known (known_within f a ks ls first all)) (h.known (known_within f b js ls second (known_still f a b ls g.run all)));
         accounts = λ at trial all by.
@@ -253,6 +262,7 @@ module _ (f : Collection) where
     stays = h.stays;
     due = h.due;
     shares = h.shares;
+    identified = h.identified;
     plain = h.plain;
     known = h.known;
     accounts = λ at trial all by. h.accounts at trial all (of at all by);
@@ -280,25 +290,6 @@ module _ (f : Collection) where
   -- copies are made of what stands below imports
   pub MayTake-copies : (a : Merging) → MayTake f a → MayCopy f a.types a.copies
   MayTake-copies a may = record { state = state_of a; is = record { own = refl; copies = refl; kept = may.kept; truly = may.truly } }
-
-  pub Takes-copied : (a : Merging) (d : Collection) (n : Memo) (top : ℕ) (ks : List Key) (Q : State → Type 0) → MayTake f a → Copies f a.types a.copies d n top Q → Takes f a (record a { types = d; copies = n }) top ks Q
-  Takes-copied a d n top ks Q may h =
-      let is : IsState f a.types a.copies (state_of a) = record { own = refl; copies = refl; kept = may.kept; truly = may.truly } in
-      let r = h.runs (state_of a) is in
-      record {
-        low = λ k above none. none;
-        run = r.0;
-        filed = AreFiledIn-run (state_of a) (moved (state_of a) d n) a.shared.entries may.kept refl r.0 may.filed;
-        owners = λ g one h. h;
-        led = refl;
-        stays = λ c i is. is;
-        due = λ c i is. inl is;
-        shares = λ e among. inl among;
-        plain = λ p. refl;
-        known = λ all. record { grows = h.grows (state_of a) is; shared = refl; noted = λ k o noted. inl noted };
-        accounts = λ at trial all by. accounted_added at (state_of a) (moved (state_of a) d n) may.kept (h.grows (state_of a) is) refl refl refl (h.splits (state_of a) is) all;
-        holds = r.1;
-      }
 
   -- what an id openly names was taken in, and its owner, if it is a
   -- resource that has one, is imported
@@ -352,10 +343,10 @@ module _ (f : Collection) where
 
   -- what was taken in entered, and nothing was imported
   pub Takes-entered : (a c : Merging) (theirs own : Key) → IsSound f → Stands f theirs → AddsPair (memo_of a.taken) (memo_of c.taken) theirs own → c.imports ≡ a.imports → AreFiledIn c.types c.shared.entries
-      → ((e : Key) → IsAmong e (shared_keys c.shared.entries) → IsAmong e (shared_keys a.shared.entries) ⊎ IsSharedFrom f (theirs ∷ []) c e)
+      → ((e : Key) → IsAmong e (shared_keys c.shared.entries) → IsAmong e (shared_keys a.shared.entries) ⊎ IsSharedFrom f (theirs ∷ []) c e) → AddsSharedOrBelow (state_of a) (state_of c)
       → (AreKnown f a (theirs ∷ []) → OnlyGrows f a c) → HasOwners (state_of a) theirs → IsEntered class_of f (state_of a) (state_of c) theirs own → ((at : Attempt) → IsTrial at f (theirs ∷ []) → IsAccounted at (state_of a) → StaysAccounted at (state_of a) (state_of c))
       → Takes f a c (height f theirs) (theirs ∷ []) (λ t. IsTakenKey class_of f t theirs own)
-  Takes-entered a c theirs own sound stands adds same filed shares known has in_to accounts = record {
+  Takes-entered a c theirs own sound stands adds same filed shares identified known has in_to accounts = record {
     low = λ k above absent. still_none (memo_of a.taken) (memo_of c.taken) theirs own k adds (λ e. omega (arith, above, ap (height f) e)) absent (memo_of c.taken k) refl;
     run = in_to.run;
     filed = filed;
@@ -364,14 +355,26 @@ module _ (f : Collection) where
     stays = λ q i is. ap (λ s. import_of s q) same ∙ is;
     due = λ q i is. inl (ap (λ s. import_of s q) (sym same) ∙ is);
     shares = shares;
+    identified = identified;
     plain = λ p. same;
     known = known;
     accounts = λ at trial all by. accounts at trial all;
     holds = in_to.taken;
   }
 
-  -- an entry enters, whose owners are imported, made of what was taken in
+  -- an entry without identifier is added
+  plain_added : (s t : State) (z : Entry) → t.own ≡ with_entry s.own z → entry_identifier z ≡ None → AddsSharedOrBelow s t
+  plain_added s t z added plain k n stands is = elim (last.others k stands) [
+    | inl was ↦ inl was
+    | inr same ↦ absurd (let no : None ≡ Some n = sym plain ∙ sym (ap (λ o. option_map_or entry_identifier o None) last.at) ∙ ap (identifier_at t.own) (sym same) ∙ is in cc)
+  ]
+    where
+      last : IsLast s.own t.own z (last_key s.own z)
+      last = subst (λ c. IsLast s.own c z (last_key s.own z)) (sym added) (last_at s.own z)
+
+  -- an entry without identifier enters, whose owners are imported, made of what was taken in
   pub record Enters (s t : State) (theirs : Key) (z : Entry) : Type 0 where
+    pub plain : entry_identifier z ≡ None
     pub entered : IsEntered class_of f s t theirs (last_key s.own z)
     pub owners : HasOwners s theirs
     pub made : IsMadeFrom f s theirs z
@@ -387,10 +390,70 @@ module _ (f : Collection) where
       let in_to = enters (state_of c) kept g.holds adds_entry (ap (λ (m : Merging). (state_of m).shared) same) in
       let filed : AreFiledIn c.types c.shared.entries = subst (λ (ss : List (Class × Id)). AreFiledIn c.types ss) (ap (λ (m : Merging). m.shared.entries) (sym same)) (AreFiledIn-run (state_of b) (state_of c) b.shared.entries kept refl in_to.entered.run g.filed) in
       Takes-after f a b c low (height f theirs) ks (theirs ∷ []) Q (λ t. IsTakenKey class_of f t theirs own) below within may g
-      (Takes-entered b c theirs own sound stands adds (ap (λ (m : Merging). m.imports) same) filed (λ e among. inl (subst (IsAmong e) (ap (λ (m : Merging). shared_keys m.shared.entries) same) among))
+      (Takes-entered b c theirs own sound stands adds (ap (λ (m : Merging). m.imports) same) filed (λ e among. inl (subst (IsAmong e) (ap (λ (m : Merging). shared_keys m.shared.entries) same) among)) (plain_added (state_of b) (state_of c) z added in_to.plain)
       (λ all. record { grows = subst (Extends b.types) (sym added) (Extends-with_entry b.types z kept.good.sound); shared = ap (λ (m : Merging). m.shared.entries) same; noted = noted_known b c theirs own stands.0 adds all }) in_to.owners
       (subst (λ k. IsEntered class_of f (state_of b) (state_of c) theirs k) (sym last) in_to.entered)
       (λ at trial all. made_accounted at f (state_of b) theirs z trial all in_to.made (state_of c) kept adds_entry (ap (λ (m : Merging). (state_of m).shared) same)))
+
+  -- copies are made
+  module _ (a : Merging) (d : Collection) (n : Memo) (ks : List Key) (Q : State → Type 0) (may : MayTake f a) (copies : Copies f a.types a.copies d n ks Q) where
+    abbrev mid : Merging
+    mid = record a { types = d; copies = n }
+
+    is_state : IsState f a.types a.copies (state_of a)
+    is_state = record { own = refl; copies = refl; kept = may.kept; truly = may.truly }
+
+    pub copied_run : Runs (RemembersTruly class_of) f (state_of a) (state_of mid)
+    copied_run = (copies.runs (state_of a) is_state).0
+
+    pub copied_holds : Q (state_of mid)
+    copied_holds = (copies.runs (state_of a) is_state).1
+
+    pub copied_may : MayTake f mid
+    copied_may = record {
+      apart = λ e. may.apart (e ∙ (copied_run.narrows may.kept).number);
+      kept = copied_run.kept may.kept;
+      truly = copied_run.truly may.kept f (λ e. refl) may.truly;
+      filed = AreFiledIn-run (state_of a) (state_of mid) a.shared.entries may.kept refl copied_run may.filed;
+    }
+
+    -- then a world enters, below whose imports they are
+    module _ (c : Merging) (theirs own : Key) (z : Entry) (added : c.types ≡ with_entry d z) (last : own ≡ last_key d z) (parts : AreCopiedKeys f (state_of mid) ks (import_keys z)) where
+      below_import : (k : Key) → IsBelowCopy d n ks k → IsBelowImport c.types k
+      below_import k b =
+          let part = paired_of (IsCopiedKey f (state_of mid)) ks (import_keys z) b.theirs parts b.among in
+          let same : part.0 ≡ b.copy = let both : Some part.0 ≡ Some b.copy = sym part.2.noted ∙ b.noted in cc in
+          let is_last = subst (λ e. IsLast d e z (last_key d z)) (sym added) (last_at d z) in
+          let among : IsAmong b.copy (import_next c.types own) = subst (IsAmong b.copy) (sym (ap (import_next c.types) last ∙ ap (optional_keys import_keys) is_last.at)) (subst (λ j. IsAmong j (import_keys z)) same part.1) in
+          let grows : Extends d c.types = subst (Extends d) (sym added) (Extends-with_entry d z copied_may.kept.good.sound) in
+          record { world = own; stands = subst (Stands c.types) (sym last) is_last.stands; reached = (b.copy, among, walk_on d c.types copied_may.kept.good.sound grows b.copy k (copied_may.kept.copies b.theirs b.copy b.noted).0 b.walk) }
+
+      pub Takes-copied : Takes f mid c (height f theirs) (theirs ∷ []) (λ t. IsTakenKey class_of f t theirs own) → Takes f a c (height f theirs) (theirs ∷ []) (λ t. IsTakenKey class_of f t theirs own)
+      Takes-copied h =
+          let grows = copies.grows (state_of a) is_state in
+          record {
+            low = h.low;
+            run = Runs-trans (RemembersTruly class_of) f (state_of a) (state_of mid) (state_of c) copied_run h.run;
+            filed = h.filed;
+            owners = h.owners;
+            led = h.led;
+            stays = h.stays;
+            due = h.due;
+            shares = h.shares;
+            identified = λ k m stands is. elim (h.identified k m stands is) [
+              | inl then ↦ elim (copies.added (state_of a) is_state k then) [
+                | inl was ↦ inl was
+                | inr new ↦ inr (inr (below_import k new))
+              ]
+              | inr new ↦ inr new
+            ];
+            plain = h.plain;
+            known = λ all. OnlyGrows-trans f a mid c (record { grows = grows; shared = refl; noted = λ k o noted. inl noted }) (h.known all);
+            accounts = λ at trial all by.
+                let one = accounted_added at (state_of a) (state_of mid) may.kept grows refl refl refl (copies.splits (state_of a) is_state) all in
+                accounted_then at (state_of a) (state_of mid) (state_of c) (copied_run.narrows may.kept).standing one (h.accounts at trial one.now (near_none at mid));
+            holds = h.holds;
+          }
 
   -- shared entries stay filed where one is added, under the class of its identifier
   pub AreFiledIn-put : (s t : State) (ss ts : List (Class × Id)) (q : Class) (i : Id) (n : Text) → IsKept s → s.shared ≡ shared_keys ss → Runs (RemembersTruly class_of) f s t → identifier_at t.own (interface_key i) ≡ Some n → class_of n ≡ q
@@ -461,6 +524,7 @@ module _ (f : Collection) where
       stays = kept_of;
       due = due;
       shares = λ e m. inl m;
+      identified = λ k n stands is. inl stands;
       plain = λ p. absurd (not_plain_owner f ks from owner_name among leads p);
       known = λ all. record { grows = Extends-refl a.types; shared = refl; noted = λ k o noted. inl noted };
       accounts = λ at trial all by. accounted_imports at (state_of a) (state_of (record a { imports = is })) may.kept refl refl refl refl (import_open at all) all;

@@ -10,8 +10,9 @@ use Rattle.wac_model.specs.Order.{Fits}
 use Rattle.wac_bounds.specs.Bounds.{IsLowerBound}
 use Rattle.wac_bounds.specs.MeetIn.{IsMeetIn}
 use Rattle.wac_component.specs.Collection.{Collection}
+use Rattle.wac_component.specs.Entries.{identifier_at}
 use Rattle.wac_component.specs.Growth.{Extends}
-use Rattle.wac_component.specs.Key.{Key, Each, AllStand, item_keys}
+use Rattle.wac_component.specs.Key.{Key, Each, Stands, AllStand, item_keys}
 use Rattle.wac_component.specs.Tree.{item_tree}
 use Rattle.wac_component.specs.declared.items.ItemKind.{ItemKind}
 use Rattle.wac_checker.specs.Externs.{AreServed}
@@ -27,9 +28,10 @@ use Rattle.wac_reasons.specs.Trial.{IsAccounted, IsOpenItem, AreOpenItems, Stays
 use Rattle.wac_narrowing.specs.Identified.{IsCovered}
 use Rattle.wac_narrowing.specs.Narrows.{IsStep}
 
--- d is c with entries added to it, a step whatever is shared
+-- d is c with entries added to it, none of which has an identifier: a step whatever is shared
 pub record StepsOn (c d : Collection) : Type 0 where
   pub grows : Extends c d
+  pub identified : (k : Key) (n : Text) → Stands d k → identifier_at d k ≡ Some n → Stands c k
   pub steps : (ss : List Key) → IsGood c ss → IsStep c ss d ss
 
 -- the state with another own collection

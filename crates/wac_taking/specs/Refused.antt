@@ -41,7 +41,7 @@ pub record IsRefusal (near : List Key) (f : Collection) (a : Merging) (ks : List
   pub known : AreKnown f a ks → (r : Refusal) → said e ≡ Some r → IsOfUnidentified r
   pub reason : (at : Attempt) → IsTrial at f ks → IsAccounted at (state_of a) → AreNear at a near → HasReason at e
 
--- that is so unless there is no memory
+-- that is so unless an allocation fails
 abbrev pub IsRefusedBy : List Key → Collection → Merging → List Key → AggregateError → Type 0
 IsRefusedBy near f a ks e = e ≢ Memory → IsRefusal near f a ks e
 
@@ -62,7 +62,7 @@ pub record SaysMismatch (c : Collection) (a b : ItemKind) (e : AggregateError) :
   pub no_bound : HaveNoLowerBound (item_tree c a) (item_tree c b)
   pub says : said e ≡ Some mismatch
 
--- two items are refused, unless there is no memory, over their uses or since they can't be met
+-- two items are refused, unless an allocation fails, over their uses or since they can't be met
 abbrev pub IsMergeRefusal : Collection → ItemKind → ItemKind → AggregateError → Type 0
 IsMergeRefusal c a b e = e ≢ Memory → UsesDiffer c (item_keys a) (item_keys b) e ⊎ SaysMismatch c a b e
 
@@ -82,6 +82,6 @@ pub record IsItemsRefusal (c : Collection) (es ts : Externs) (e : AggregateError
   pub reason : (at : Attempt) (s : State) → IsKept (with_own s c) → IsAccounted at (with_own s c) → AreOpenItems at (with_own s c) es → AreAllOpen at (with_own s c) ts → Touches at → HasReason at e
   pub leaves : All (λ t. IsLeafItem t.1) ts → HasApartLeaves c es ts
 
--- such items are refused, unless there is no memory
+-- such items are refused, unless an allocation fails
 abbrev pub AreRefusedItems : Collection → Externs → Externs → AggregateError → Type 0
 AreRefusedItems c es ts e = e ≢ Memory → IsItemsRefusal c es ts e

@@ -4,13 +4,13 @@ use Rattle.std.specs.List.{flat_map}
 use Rattle.std.specs.Map.{lookup}
 use Rattle.std.specs.Option.{option_and_then}
 use Rattle.wac_model.specs.Text.{Text}
-use Rattle.wac_component.specs.Collection.{Collection, AliasContent, UseContent, InterfaceContent}
+use Rattle.wac_component.specs.Collection.{Collection, AliasContent, UseContent, InterfaceContent, WorldContent}
 use Rattle.wac_component.specs.Entries.{identifier_at, owner_at}
 use Rattle.wac_component.specs.Growth.{Extends}
 use Rattle.wac_component.specs.Height.{height}
 use Rattle.wac_component.specs.Id.{Id}
 use Rattle.wac_component.specs.Implicit.{HasIdentifier}
-use Rattle.wac_component.specs.Key.{Key, Each, Stands, AllStand, alias_keys, optional_keys, resource_key, interface_key}
+use Rattle.wac_component.specs.Key.{Key, Each, Stands, AllStand, alias_keys, optional_keys, resource_key, interface_key, world_key}
 use Rattle.wac_component.specs.Open.{open_next, OpenReaches}
 use Rattle.wac_component.specs.Reach.{IsAmong}
 use Rattle.wac_component.specs.Tree.{root_name}
@@ -23,8 +23,9 @@ use Rattle.wac_narrowing.specs.Entering.{InterfaceIsTaken}
 use Rattle.wac_narrowing.specs.Identified.{IsCovered}
 use Rattle.wac_narrowing.specs.Remembers.{RemembersTruly}
 use Rattle.wac_narrowing.specs.State.{State, IsKept, IsOneWith, Runs}
-use Rattle.wac_narrowing.specs.Taking.{AreMapped, AreTakenKeys, IsTakenKey}
+use Rattle.wac_narrowing.specs.Taking.{AreMapped, AreTakenKeys, IsTakenKey, IsTakenItem}
 use Rattle.wac_narrowing.specs.Values.{IfAny}
+use Rattle.wac_reasons.specs.Split.{AddsSharedOrBelow}
 use Rattle.wac_reasons.specs.Trial.{IsTrial, IsAccounted, IsOpenSource, StaysAccounted}
 use Rattle.wac_copies.specs.Memo.{memo_of}
 use Rattle.wac_imports.specs.Import.{ImportContent, import_of, import_at}
@@ -135,9 +136,10 @@ pub record OnlyGrows (f : Collection) (a b : Merging) : Type 0 where
 -- what taking in from f does: the state runs on to one of which the fact holds, and no id above the
 -- height is noted; each owner is imported still. What is imported stays; what is new is an owner to
 -- which the ids openly lead, and each new shared entry has the identifier of an interface to which
--- they do. Where the ids are plain, nothing is imported; where all was taken in that they openly
--- lead to and that has an identifier, entries are only added While a call is tried whose item
--- openly reaches the ids, and what is near is open and comes from sources, all stays accounted for
+-- they do; each other new interface with an identifier is below an import of a component. Where the
+-- ids are plain, nothing is imported; where all was taken in that they openly lead to and that has
+-- an identifier, entries are only added. While a call is tried whose item openly reaches the ids,
+-- and what is near is open and comes from sources, all stays accounted for
 pub record TakesBy (near : List Key) (f : Collection) (a b : Merging) (top : ℕ) (ks : List Key) (Holds : State → Type 0) : Type 0 where
   pub low : (k : Key) → top < height f k → memo_of a.taken k ≡ None → memo_of b.taken k ≡ None
   pub run : Runs (RemembersTruly class_of) f (state_of a) (state_of b)
@@ -147,6 +149,7 @@ pub record TakesBy (near : List Key) (f : Collection) (a b : Merging) (top : ℕ
   pub stays : (q : Class) (i : ImportContent) → import_of a.imports q ≡ Some i → import_of b.imports q ≡ Some i
   pub due : (q : Class) (i : ImportContent) → import_of b.imports q ≡ Some i → (import_of a.imports q ≡ Some i) ⊎ IsOwnersImport f ks b q i
   pub shares : (e : Key) → IsAmong e (shared_keys b.shared.entries) → IsAmong e (shared_keys a.shared.entries) ⊎ IsSharedFrom f ks b e
+  pub identified : AddsSharedOrBelow (state_of a) (state_of b)
   pub plain : ArePlain f ks → b.imports ≡ a.imports
   pub known : AreKnown f a ks → OnlyGrows f a b
   pub accounts : (at : Attempt) → IsTrial at f ks → IsAccounted at (state_of a) → AreNear at a near → StaysAccounted at (state_of a) (state_of b)
@@ -198,3 +201,11 @@ pub record MayPut (f : Collection) (a : Merging) (p : Id) (us : List (Text × Us
   pub taken : InterfaceIsTaken class_of f (state_of a) p content (record { id = None; uses = us; exports = es })
   pub used : AreMapped (IsTakenUse f (state_of a)) content.uses us
   pub absent : memo_of a.taken (interface_key p) ≡ None
+
+-- all that the foreign world uses and exports was taken in, as what these do; it was not itself
+pub record MayPutWorld (f : Collection) (a : Merging) (p : Id) (us : List (Text × UseContent)) (es : List (Text × ItemKind)) : Type 0 where
+  pub content : WorldContent
+  pub entry : slice_get f.worlds p.index ≡ Some content
+  pub used : AreMapped (IsTakenUse f (state_of a)) content.uses us
+  pub exported : AreMapped (IsTakenItem class_of f (state_of a)) content.exports es
+  pub absent : memo_of a.taken (world_key p) ≡ None

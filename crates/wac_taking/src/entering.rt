@@ -1,24 +1,25 @@
-//! Interfaces all of whose parts were taken in.
+//! Interfaces and worlds all of whose parts were taken in.
 
 ghost use Rattle.std.specs.Prelude.{◌≡◌, [], ◌∷◌, Some, None, MatchResult, string_bytes};
 ghost use Rattle.std.specs.Option.{option_map};
 ghost use Rattle.wac_component.specs.Content.{named, use_content};
 ghost use Rattle.wac_component.specs.Entries.{identifier_at};
 ghost use Rattle.wac_component.specs.Height.{height};
-ghost use Rattle.wac_component.specs.Key.{interface_key};
+ghost use Rattle.wac_component.specs.Key.{Stands, interface_key, world_key};
 ghost use Rattle.wac_names.specs.Class.{class_of};
 ghost use Rattle.wac_narrowing.specs.Taking.{IsTakenKey};
 ghost use Rattle.wac_call_lists.specs.Entries.{ReachesByUses};
 ghost use Rattle.wac_taking.specs.Members.{AnswersMembers};
 ghost use Rattle.wac_taking.specs.Refused.{IsRefused};
-ghost use Rattle.wac_taking.specs.Takes.{MayTake, MayPut, Takes, shared_in};
+ghost use Rattle.wac_taking.specs.Takes.{MayTake, MayPut, MayPutWorld, Takes, shared_in};
 
 use super::growing::merge_shared;
 use super::identity::identifier;
 use super::state::Merging;
 use indexmap::IndexMap;
 use wac_component::laws::names_in_an_interface_are_distinct;
-use wac_component::{Interface, InterfaceId, ItemKind, Types, UsedType};
+use wac_component::{Interface, InterfaceId, ItemKind, Types, UsedType, World, WorldId};
+use wac_copies::copy_externs;
 use wac_names::NameClass;
 use wac_refusals::AggregateError;
 
@@ -101,5 +102,32 @@ pub(crate) fn put_shared(
     let own = state.types.add_interface(entry)?;
     state.shared.insert(class, own)?;
     state.taken.put_interface(id, own)?;
+    Ok(own)
+}
+
+// Adds a world whose uses and exports were taken in, with copies of what it imports.
+pub(crate) fn put_world(
+    state: &mut Merging,
+    types: &Types,
+    id: WorldId,
+    uses: IndexMap<String, UsedType>,
+    exports: IndexMap<String, ItemKind>,
+) -> Result<WorldId, AggregateError>
+    requires stands { Stands types.now (world_key id) }
+    requires state { MayTake types.now state.old }
+    requires taken { MayPutWorld types.now state.old id (named use_content uses.entries) (named (λ k. k) exports.entries) }
+    ensures { MatchResult result (λ r. Takes types.now state.old state.new (height types.now (world_key id)) (world_key id ∷ []) (λ t. IsTakenKey class_of types.now t (world_key id) (world_key r))) (IsRefused types.now state.old (world_key id ∷ [])) }
+{
+    types.sound();
+    let world = &types[id];
+    let identifier = world.id.clone()?;
+    let imports = copy_externs(&mut state.types, &mut state.copies, types, &world.imports)?;
+    let own = state.types.add_world(World {
+        id: identifier,
+        uses,
+        imports,
+        exports,
+    })?;
+    state.taken.put_world(id, own)?;
     Ok(own)
 }

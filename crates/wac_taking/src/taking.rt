@@ -18,7 +18,7 @@ ghost use Rattle.wac_taking.specs.Members.{AnswersMembers, IsUsedBy};
 ghost use Rattle.wac_taking.specs.Refused.{IsRefusedBy, IsRefused, AreRefusedUses, SaysOfUse};
 ghost use Rattle.wac_taking.specs.Takes.{MayTake, IsOwnEntry, IsNear, near_keys, TakesBy, Takes, owners_keys, AreOwnersTaken, IsTakenAlias, IsTakenOwner, IsTakenUse, alias_at};
 
-use super::entering::put_interface;
+use super::entering::{put_interface, put_world};
 use super::identity::class_of_identifier;
 use super::near::{near_export, near_interface, nearest};
 use super::owners::{alias_of, import_owner, owner_of, resource_at};
@@ -28,9 +28,8 @@ use std::alloc::AllocError;
 use wac_alike::{alike_resources, alike_values};
 use wac_component::{
     DefinedType, DefinedTypeId, FuncType, FuncTypeId, InterfaceId, ItemKind, ModuleTypeId, Record,
-    Resource, ResourceAlias, ResourceId, Type, Types, UsedType, ValueType, Variant, World, WorldId,
+    Resource, ResourceAlias, ResourceId, Type, Types, UsedType, ValueType, Variant, WorldId,
 };
-use wac_copies::copy_externs;
 use wac_copies::places::{
     case_at, extern_at, field_at, set_case, set_extern, set_field, set_used, set_value, used_at,
     value_at,
@@ -610,18 +609,9 @@ fn take_world(state: &mut Merging, types: &Types, id: WorldId) -> Result<WorldId
     }
     types.sound();
     let world = &types[id];
-    let identifier = world.id.clone()?;
     let uses = take_uses(state, types, &world.uses)?;
-    let imports = copy_externs(&mut state.types, &mut state.copies, types, &world.imports)?;
     let exports = take_externs(state, types, &world.exports, &None)?;
-    let own = state.types.add_world(World {
-        id: identifier,
-        uses,
-        imports,
-        exports,
-    })?;
-    state.taken.put_world(id, own)?;
-    Ok(own)
+    put_world(state, types, id, uses, exports)
 }
 
 // Takes in a core module type, unless it was taken in.

@@ -30,7 +30,7 @@ use wac_component::{ExternKind, TargetError, Types, World, WorldId};
 ///
 /// A name is looked for by its track. What the target world says of a name is meant as an item of
 /// the type that it says there. `NoIdentifier` comes exactly where an interface that the target
-/// world uses has no identifier, and `Memory` is want of memory.
+/// world uses has no identifier, and `Memory` is a failed allocation.
 pub fn validate_target(
     alloc: Global,
     types: &Types,

@@ -85,6 +85,7 @@ pub use Rattle.wac_call_lists.specs.WitList
 pub use Rattle.wac_call_lists.specs.Compatible
 pub use Rattle.wac_call_lists.specs.Answer
 pub use Rattle.wac_call_lists.specs.Aggregated
+pub use Rattle.wac_call_lists.specs.Holding
 pub use Rattle.wac_call_lists.specs.Imported
 pub use Rattle.wac_call_lists.specs.Attempt
 pub use Rattle.wac_call_lists.specs.Reason

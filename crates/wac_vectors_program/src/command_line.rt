@@ -9,7 +9,7 @@ use wac_names::{are_semver_compatible, track_of};
 /// The status after a command that was carried out.
 const DONE: u8 = 0;
 
-/// The status where there was no memory, or a write failed.
+/// The status where an allocation or a write failed.
 pub const FAILED: u8 = 1;
 
 /// The status after words that are no command.
@@ -19,8 +19,8 @@ const NO_COMMAND: u8 = 2;
 ///
 /// `rows` prints the built-in rows to `out`, `track NAME` the track key of a name or `none`, and
 /// `compatible A B` whether two names are compatible, `yes` or `no`. Any other words give the usage
-/// line on `err` and the status 2. Where there is no memory or a write fails, nothing more is
-/// written, and the status is 1.
+/// line on `err` and the status 2. Where an allocation or a write fails, nothing more is written,
+/// and the status is 1.
 pub fn run<W: Write, E: Write>(alloc: Global, words: &[&str], out: &mut W, err: &mut E) -> u8 {
     match words {
         ["rows"] => status_of(DONE, print_rows(alloc, out)),

@@ -24,7 +24,7 @@ use wac_core::ModuleType;
 pub enum ReplaceError<T> {
     /// The content leads back to the entry.
     Cycle(T),
-    /// There is no memory to look for a cycle.
+    /// An allocation failed while a cycle was looked for.
     Memory(T),
 }
 

@@ -13,7 +13,7 @@ pub enum BenchError {
     Input,
     /// The clock could not be read.
     Clock,
-    /// There was no memory.
+    /// An allocation failed.
     Memory,
 }
 

@@ -54,8 +54,8 @@ fn carry_out<'a>(
     Ok(Some(Outcome::Answer(answer_in(alloc, &text)?)))
 }
 
-/// Carries out a line, and tells what became of it; none where it holds no
-/// command. The error is want of memory.
+/// Carries out a line, and tells what became of it; none where it holds no command. The error is a
+/// failed allocation.
 pub(crate) fn outcome_of<'a>(
     alloc: Global,
     session: &mut Session,

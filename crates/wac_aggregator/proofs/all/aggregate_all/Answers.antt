@@ -5,6 +5,7 @@ use Rattle.wac_component.specs.Collection.{Collection}
 use Rattle.wac_call_lists.specs.Aggregated.{track_imports}
 use Rattle.wac_call_lists.specs.Answer.{accepted, refused}
 use Rattle.wac_call_lists.specs.Call.{Call}
+use Rattle.wac_call_lists.specs.Holding.{HoldsReached}
 use Rattle.wac_call_lists.specs.PlainList.{IsPlain}
 use Rattle.wac_call_lists.proofs.PlainRuns.{plain_runs_answer}
 use Rattle.wac_aggregator.specs.After.{HasReasonAfter}
@@ -15,9 +16,11 @@ use Rattle.wac_imports.specs.Import.{ImportsContent, import_of}
 use Rattle.wac_aggregator.specs.HandedIn.{called, handed_in}
 use Rattle.wac_aggregator.specs.Served.{AreServed}
 use Rattle.wac_aggregator.proofs.Advancing.{by_track}
+use Rattle.wac_aggregator.proofs.Beginning.{none_held}
 use Rattle.wac_aggregator.proofs.Front.{none_served, all_aggregated}
+use Rattle.wac_aggregator.proofs.Held.{reached_after}
 use Rattle.wac_aggregator.proofs.Handing.{refused_reason}
-use Rattle.wac_aggregator.proofs.Listing.{Contains-at, called_at, may_try, advances_in_order, advances_number, may_take, one_more}
+use Rattle.wac_aggregator.proofs.Listing.{Contains-at, take-next, called_at, may_try, advances_in_order, advances_number, may_take, one_more}
 use Rattle.std.proofs.lemmas.List.Elements.{All-nil}
 use Rattle.wac_call_lists.specs.Call.{IsSoundCall, AreSoundCalls}
 use Rattle.wac_aggregator.specs.Wit.{IsWitAfter}
@@ -33,6 +36,7 @@ loop-at-init c =
       number = ap (λ (t : Collection). t.number) start.empty;
       runs = λ p. run_starts (handed_in c.args.calls.now) c.no_imports-state.result start.imports;
       served = none_served (handed_in c.args.calls.now) c.no_imports-state.result start.taken start.copies (λ q. ap (λ (is : ImportsContent). import_of is q) start.imports) start.shared;
+      held = none_held c.no_imports-state.result c.args.number start;
       sound = All-nil IsSoundCall;
       wit = λ w. wit_start (handed_in c.args.calls.now) c.no_imports-state.result c.args.number start;
     }
@@ -58,10 +62,11 @@ loop-at-preserved c =
     let before = c.loop-at.invariant in
     let may = may_take calls c.args.number c.requires.one c.requires.apart (take c.loop-at.at calls) call c.loop-at.state among before.number before.order before.served in
     record {
-      order = advances_in_order call c.loop-at.state c.advance.new.state may (may_try call c.loop-at.state c.sound.ensures (c.requires.source call among) before.order) before.order.imports c.filed.ensures c.in_default.ensures.advances;
+      order = advances_in_order call c.loop-at.state c.advance.new.state may (may_try call c.loop-at.state c.sound.ensures (c.requires.source call among) before.order) before.order.identified before.order.imports c.filed.ensures c.in_default.ensures.advances;
       number = advances_number call c.loop-at.state c.advance.new.state may before.order.imports c.filed.ensures c.in_default.ensures.advances ∙ before.number;
       runs = λ p. rw add-one (run_on calls c.loop-at.at call at (track_imports (shown (content_of c.loop-at.state))) (track_imports (shown (content_of c.advance.new.state))) (plain_step call c.loop-at.state c.advance.new.state may before.order.imports c.filed.ensures c.in_default.ensures.advances (All-contains (λ (d : Call). IsPlain d.types d.kind) calls call p among)) (before.runs p));
       served = rw add-one (one_more calls c.args.number c.requires.one c.requires.apart c.loop-at.at call c.loop-at.state c.advance.new.state at (c.requires.source call among) c.filed.ensures before.number before.order before.served c.in_default.ensures.advances);
+      held = rw add-one (subst (λ front. HoldsReached front c.advance.new.state.types) (sym (take-next calls c.loop-at.at call at)) (reached_after call c.loop-at.state c.advance.new.state may before.order.imports c.filed.ensures c.in_default.ensures.advances (take c.loop-at.at calls) before.order.held before.order.identified before.held));
       sound = rw add-one (one_more_sound calls c.loop-at.at call at before.sound (record { sound = c.sound.ensures; stands = c.requires.source call among }));
       wit = λ w. rw add-one (one_more_wit calls c.loop-at.at call at w c.loop-at.state c.advance.new.state (λ d m. c.requires.one call d among m) may (record { sound = c.sound.ensures; stands = c.requires.source call among }) before.order.imports c.filed.ensures before.served c.in_default.ensures.advances c.in_default.ensures.members (before.wit w));
     }
@@ -107,6 +112,7 @@ returns-in-Err-clause-reason c = λ d is.
       number_is = before.number;
       aggregated = all_aggregated calls (take c.loop-at.at calls) c.loop-at.state before.order.imports before.served;
       by_track = by_track c.loop-at.state before.order.imports;
+      held = before.held;
       reason = refused_reason call c.loop-at.state before.order.imports (may_try call c.loop-at.state c.sound.ensures (c.requires.source call (Contains-at calls c.loop-at.at call at)) before.order) c.in-Err.error c.in-Err.ensures.advances;
     }
 

@@ -2,6 +2,7 @@ use Rattle.std.proofs.Common.{◌≡◌, drop, take}
 use Rattle.wac_call_lists.specs.Aggregated.{track_imports}
 use Rattle.wac_call_lists.specs.Answer.{Answer}
 use Rattle.wac_call_lists.specs.Call.{AreSoundCalls}
+use Rattle.wac_call_lists.specs.Holding.{HoldsReached}
 use Rattle.wac_call_lists.specs.PlainList.{IsPlainList}
 use Rattle.wac_call_lists.specs.PlainRun.{IsPlainRun, no_imports}
 use Rattle.wac_aggregator.specs.Content.{shown, content_of}
@@ -18,6 +19,7 @@ invariant-loop-at l = record {
   number : l.state.types.number ≡ l.number;
   runs : IsPlainList (handed_in l.calls) → (x : Answer) → IsPlainRun l.at (track_imports (shown (content_of l.state))) (drop l.at (handed_in l.calls)) x → IsPlainRun 0 no_imports (handed_in l.calls) x;
   served : AreServed (handed_in l.calls) (take l.at (handed_in l.calls)) l.state;
+  held : HoldsReached (take l.at (handed_in l.calls)) l.state.types;
   sound : AreSoundCalls (take l.at (handed_in l.calls));
   wit : IsWitList (handed_in l.calls) → IsWitAfter (handed_in l.calls) (take l.at (handed_in l.calls)) l.state;
 }

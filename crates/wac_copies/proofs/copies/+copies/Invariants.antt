@@ -67,29 +67,29 @@ decreases-copy_world l = 6 * height l.types.now (world_key l.id)
 abbrev pub invariant-copy_values-loop-i : goal.invariant-copy_values-loop-i
 invariant-copy_values-loop-i l = record {
   count : length l.copied.items ≡ length l.values.items;
-  copies : Copies l.types l.initial.own l.initial.copies l.own l.copies (keys_height l.types (flat_map value_keys l.values.items)) (λ t. ArePlaced (IsCopiedValue l.types t) l.i l.values.items l.copied.items);
+  copies : Copies l.types l.initial.own l.initial.copies l.own l.copies (flat_map value_keys l.values.items) (λ t. ArePlaced (IsCopiedValue l.types t) l.i l.values.items l.copied.items);
 }
 
 abbrev pub invariant-copy_fields-loop-i : goal.invariant-copy_fields-loop-i
 invariant-copy_fields-loop-i l = record {
   count : length l.copied.entries ≡ length l.fields.entries;
-  copies : Copies l.types l.initial.own l.initial.copies l.own l.copies (keys_height l.types (flat_map value_keys (types_of l.fields.entries))) (λ t. AreSet (IsCopiedValue l.types t) l.i (named (λ v. v) l.fields.entries) (named (λ v. v) l.copied.entries));
+  copies : Copies l.types l.initial.own l.initial.copies l.own l.copies (flat_map value_keys (types_of l.fields.entries)) (λ t. AreSet (IsCopiedValue l.types t) l.i (named (λ v. v) l.fields.entries) (named (λ v. v) l.copied.entries));
 }
 
 abbrev pub invariant-copy_cases-loop-i : goal.invariant-copy_cases-loop-i
 invariant-copy_cases-loop-i l = record {
   count : length l.copied.entries ≡ length l.cases.entries;
-  copies : Copies l.types l.initial.own l.initial.copies l.own l.copies (keys_height l.types (flat_map (optional_keys value_keys) (types_of l.cases.entries))) (λ t. AreSet (IfAny (IsCopiedValue l.types t)) l.i (named (λ o. o) l.cases.entries) (named (λ o. o) l.copied.entries));
+  copies : Copies l.types l.initial.own l.initial.copies l.own l.copies (flat_map (optional_keys value_keys) (types_of l.cases.entries)) (λ t. AreSet (IfAny (IsCopiedValue l.types t)) l.i (named (λ o. o) l.cases.entries) (named (λ o. o) l.copied.entries));
 }
 
 abbrev pub invariant-copy_uses-loop-i : goal.invariant-copy_uses-loop-i
 invariant-copy_uses-loop-i l = record {
   count : length l.copied.entries ≡ length l.uses.entries;
-  copies : Copies l.types l.initial.own l.initial.copies l.own l.copies (keys_height l.types (named_keys use_keys (named use_content l.uses.entries))) (λ t. AreSet (IsCopiedUse l.types t) l.i (named use_content l.uses.entries) (named use_content l.copied.entries));
+  copies : Copies l.types l.initial.own l.initial.copies l.own l.copies (named_keys use_keys (named use_content l.uses.entries)) (λ t. AreSet (IsCopiedUse l.types t) l.i (named use_content l.uses.entries) (named use_content l.copied.entries));
 }
 
 abbrev pub invariant-copy_externs-loop-i : goal.invariant-copy_externs-loop-i
 invariant-copy_externs-loop-i l = record {
   count : length l.copied.entries ≡ length l.externs.entries;
-  copies : Copies l.types l.initial.own l.initial.copies l.own l.copies (keys_height l.types (named_keys item_keys (named (λ k. k) l.externs.entries))) (λ t. AreSet (IsCopiedItem l.types t) l.i (named (λ k. k) l.externs.entries) (named (λ k. k) l.copied.entries));
+  copies : Copies l.types l.initial.own l.initial.copies l.own l.copies (named_keys item_keys (named (λ k. k) l.externs.entries)) (λ t. AreSet (IsCopiedItem l.types t) l.i (named (λ k. k) l.externs.entries) (named (λ k. k) l.copied.entries));
 }

@@ -23,6 +23,7 @@ returns c =
     (interface_entry (interface_content (record { id = None; uses = c.args.uses; exports = c.args.exports }))) (height f theirs) (theirs ∷ []) (λ t. Unit {0}) c.requires.state taken.sound taken.stands (omega arith) (within_all f (theirs ∷ []))
     (Takes-none f a (height f theirs) (theirs ∷ []) (λ t. Unit {0}) c.requires.state tt) refl c.in_ok-own.ensures.added (ap interface_key c.in_ok-own.ensures.id) (c.in_ok-put_interface.ensures c.requires.taken.absent)
     (λ t kept q adds same. record {
+      plain = refl;
       entered = interface_enters class_of f (state_of a) kept c.args.id c.requires.taken.content _ taken t (sym (content_identifier f c.args.id c.requires.taken.content taken.entry) ∙ c.requires.plain) refl adds same;
       owners = interface_owners f (state_of a) taken.sound kept c.args.id c.requires.taken.content _ taken;
       made = interface_made f (state_of a) taken.sound kept c.args.id c.requires.taken.content _ taken c.requires.taken.used;

@@ -3,7 +3,7 @@ use Rattle.std.specs.Option.{option_map_or}
 use Rattle.indexmap.proofs.CallerLemmas.{insert_entry-new}
 use Rattle.wac_component.specs.Content.{interface_content}
 use Rattle.wac_component.specs.Entries.{entry_identifier, identifier_at}
-use Rattle.wac_component.specs.Key.{interface_entry, interface_key}
+use Rattle.wac_component.specs.Key.{Stands, interface_entry, interface_key}
 use Rattle.wac_names.specs.Class.{class_eq, class_of}
 use Rattle.wac_narrowing.specs.Entering.{AddsEntry, IsEntered}
 use Rattle.wac_narrowing.specs.Last.{last_key}
@@ -15,7 +15,7 @@ use Rattle.wac_copies.specs.Memo.{memo_of}
 use Rattle.wac_taking.specs.Takes.{state_of}
 use Rattle.wac_taking.proofs.TakeLemmas.{content_identifier, taken_as, Takes-entered, AreFiledIn-put, not_known}
 use Rattle.wac_component.specs.Open.{stay}
-use Rattle.wac_component.specs.Reach.{here}
+use Rattle.wac_component.specs.Reach.{IsAmong, here}
 use Rattle.wac_taking.proofs.Enters.{interface_owners}
 use Rattle.wac_taking.proofs.GrowAccounts.{shared_accounted}
 use Rattle.wac_taking.proofs.MemberPuts.{shares_last, TakesMembers-added}
@@ -45,6 +45,10 @@ returns-clause-taken c =
     (λ e among. elim (shares.only e among) [
       | inl is ↦ inr (record { theirs = theirs; name = string_bytes c.args.name; walk = (theirs, here, stay); identified = c.requires.identified; own_identified = ap (identifier_at now.types) (is ∙ sym last) ∙ identified })
       | inr stood ↦ inl stood
+    ])
+    (λ k n stands is. elim ((last_at was.types (interface_entry z)).others k (subst (λ d. Stands d k) c.in_ok-own.ensures.added stands)) [
+      | inl stood ↦ inl stood
+      | inr same ↦ inr (inl (subst (λ j. IsAmong j (state_of now).shared) (sym same) shares.is))
     ])
     (λ all. absurd (not_known f was theirs (string_bytes c.args.name) c.requires.identified c.requires.taken.absent all))
     (interface_owners f (state_of was) taken.sound c.requires.state.kept c.args.id c.requires.taken.content _ taken)

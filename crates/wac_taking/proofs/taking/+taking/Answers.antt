@@ -7,10 +7,10 @@ use Rattle.wac_model.specs.ItemTree.{item, type_item}
 use Rattle.wac_model.specs.ValueTree.{list, fixed_size_list, map_of, option, flags, enum, stream, future}
 use Rattle.wac_component.proofs.CloneLemmas.{named-clones, option-clone}
 use Rattle.wac_component.proofs.Keys.{Each-flat_map_at, Each-left, Each-right, largest-append, largest-flat_map_at}
-use Rattle.wac_component.proofs.Members.{uses_stand, exports_stand, exports_lower, world_uses_stand, world_imports_stand, world_exports_stand, world_imports_lower, world_exports_lower}
+use Rattle.wac_component.proofs.Members.{uses_stand, exports_stand, exports_lower, world_uses_stand, world_exports_stand, world_exports_lower}
 use Rattle.wac_component.specs.Content.{alias_content, defined_content, resource_content, func_content, interface_content, world_content, named, use_content, types_of, case_types}
 use Rattle.wac_component.specs.Height.{height, keys_height}
-use Rattle.wac_component.specs.Key.{other_keys, Stands, AllStand, defined_entry, resource_entry, func_entry, world_entry, item_keys, type_keys, value_keys, alias_keys, optional_keys, named_keys, use_keys, defined_keys, func_keys, interface_keys, world_keys, defined_key, resource_key, func_key, interface_key, world_key, module_key}
+use Rattle.wac_component.specs.Key.{other_keys, Stands, AllStand, defined_entry, resource_entry, func_entry, item_keys, type_keys, value_keys, alias_keys, optional_keys, named_keys, use_keys, defined_keys, func_keys, interface_keys, world_keys, defined_key, resource_key, func_key, interface_key, world_key, module_key}
 use Rattle.wac_component.specs.declared.defined.DefinedType.TheVariants.{Tuple, Alias as AliasOf, List as ListOf, FixedSizeList, Map as MapOf, Option as OptionOf, Result, Variant, Record, Flags, Enum, Stream, Future}
 use Rattle.wac_component.specs.declared.interfaces.UsedType.{UsedType}
 use Rattle.wac_component.specs.declared.items.ItemKind.TheVariants.{«Type» as OfType, Func, Instance, Component, Module, Value}
@@ -21,12 +21,11 @@ use Rattle.wac_narrowing.proofs.Mapped.{taken_key_still, taken_item_still}
 use Rattle.wac_narrowing.proofs.Values.{taken_value_still}
 use Rattle.wac_narrowing.specs.Remembers.{RemembersTruly}
 use Rattle.wac_narrowing.specs.State.{State}
-use Rattle.wac_narrowing.specs.Taking.{no_keys, AreMapped, IsTakenKey, IsTakenItem, IsCopiedItem}
+use Rattle.wac_narrowing.specs.Taking.{no_keys, AreMapped, IsTakenKey, IsTakenItem}
 use Rattle.wac_narrowing.specs.Values.{IsTakenValue, IfAny, neither, both, AreDefined, AreListed}
 use Rattle.wac_narrowing.specs.Values as listed
 use Rattle.wac_copies.proofs.Arms.{named_stands, named_lower, used_there, used_stands, used_lower, types-named, one_lower, last_lower, first_lower, others_lower, cases_flat, params_stand, result_stands, params_lower, result_lower, uses_lower, world_uses_lower}
 use Rattle.wac_copies.proofs.Contents.{content_one, content_two, content_option, content_result, content_record, content_variant}
-use Rattle.wac_copies.proofs.Parts.{items_still as copies_still}
 use Rattle.wac_copies.proofs.Placed.{ArePlaced, set_start, set_whole, set_count, named_count, length-named, placed_start, placed_whole}
 use Rattle.wac_taking.specs.Takes.{AreWithin, state_of, near_keys, TakesBy, Takes, LeadsToOwner, IsTakenAlias, IsTakenOwner, IsTakenUse, alias_at}
 use Rattle.wac_taking.proofs.Within.{within_all, within_same, within_left, within_right, within_trans, within_first, within_others, within_option, within_params, within_at, within_named, within_used, within_parts, alias_within, alias_owner, alias_stands as alias_named, owned_within}
@@ -53,9 +52,9 @@ use Rattle.wac_narrowing.proofs.Running.{Runs-trans}
 use Rattle.wac_component.specs.Implicit.{identifier, HasIdentifier}
 use Rattle.wac_call_lists.specs.Reason.{no_identifier, owner_without_identifier}
 use Rattle.wac_refusals.specs.declared.error.AggregateError.TheVariants.{OwnerWithoutIdentifier}
-use Rattle.wac_taking.proofs.Enters.{defined_stands, func_stands, alias_stands, world_stands, interface_is_taken, world_is_taken, defined_enters, func_enters, resource_enters, world_enters}
+use Rattle.wac_taking.proofs.Enters.{defined_stands, func_stands, alias_stands, interface_is_taken, defined_enters, func_enters, resource_enters}
 use Rattle.wac_taking.proofs.Parts.{item_of_value, type_of_value, borrow_of_taken, own_of_taken, defined_of_taken, alias_of_taken, owner_still, owner_taken, uses_still, values_still, option_still}
-use Rattle.wac_taking.proofs.TakeLemmas.{content_identifier, known_still, no_name, some_name, MayTake-Takes, MayTake-copies, Takes-copied, Takes-near, Takes-apart, Takes-after, Takes-none, Takes-more, Takes-then, Takes-hit, Takes-enter}
+use Rattle.wac_taking.proofs.TakeLemmas.{content_identifier, known_still, no_name, some_name, MayTake-Takes, Takes-near, Takes-apart, Takes-after, Takes-none, Takes-more, Takes-then, Takes-hit, Takes-enter}
 use Rattle.wac_taking.proofs.taking.+taking.Goals as goal
 
 pub take_defined-returns-in-Some : goal.take_defined-returns-in-Some
@@ -491,56 +490,57 @@ pub take_world-take_uses-requires : goal.take_world-take_uses-requires
 take_world-take_uses-requires t c =
     (omega (arith, world_uses_lower c.args.types.now (world_content c.index-world.result.now), c.index-world.ensures.lower), (world_uses_stand c.args.types.now (world_content c.index-world.result.now) c.index-world.ensures.standing, c.requires.state))
 
-pub take_world-copy_externs-requires-clause-source : goal.take_world-copy_externs-requires-clause-source
-take_world-copy_externs-requires-clause-source t c = world_imports_stand c.args.types.now (world_content c.index-world.result.now) c.index-world.ensures.standing
-
-pub take_world-copy_externs-requires-clause-state : goal.take_world-copy_externs-requires-clause-state
-take_world-copy_externs-requires-clause-state t c = MayTake-copies c.args.types.now c.take_uses.new.state (MayTake-Takes c.args.types.now c.args.state.now c.take_uses.new.state _ _ _ c.requires.state c.in_ok-uses.ensures.taken)
-
 pub take_world-take_externs-requires : goal.take_world-take_externs-requires
 take_world-take_externs-requires t c =
     let f = c.args.types.now in
     let b = c.take_uses.new.state in
     let x = world_content c.index-world.result.now in
-    let may = MayTake-Takes f c.args.state.now b _ _ _ c.requires.state c.in_ok-uses.ensures.taken in
-    let now = record b { types = c.copy_externs.new.own; copies = c.copy_externs.new.copies } in
-    (omega (arith, world_exports_lower f x, c.index-world.ensures.lower), (world_exports_stand f x c.index-world.ensures.standing, (MayTake-Takes f b now _ _ _ may (Takes-copied f b c.copy_externs.new.own c.copy_externs.new.copies _ (named_keys use_keys x.uses) _ may c.in_ok-imports.ensures), IsNear-none now)))
+    (omega (arith, world_exports_lower f x, c.index-world.ensures.lower), (world_exports_stand f x c.index-world.ensures.standing, (MayTake-Takes f c.args.state.now b _ _ _ c.requires.state c.in_ok-uses.ensures.taken, IsNear-none b)))
 
-pub take_world-add_world-requires : goal.take_world-add_world-requires
-take_world-add_world-requires t c =
+pub take_world-put_world-requires-clause-state : goal.take_world-put_world-requires-clause-state
+take_world-put_world-requires-clause-state t c =
     let f = c.args.types.now in
     let a = c.args.state.now in
     let b = c.take_uses.new.state in
-    let now = record b { types = c.copy_externs.new.own; copies = c.copy_externs.new.copies } in
     let e = c.take_externs.new.state in
     let x = world_content c.index-world.result.now in
-    let z = world_content (record { id = c.in_ok-identifier.identifier; uses = c.in_ok-uses.uses; imports = c.in_ok-imports.imports; exports = c.in_ok-exports.exports }) in
-    let used : State → Type 0 = λ s. AreMapped (IsTakenUse f s) x.uses z.uses in
-    let imported : State → Type 0 = λ s. AreMapped (IsCopiedItem f s) x.imports z.imports in
-    let exported : State → Type 0 = λ s. AreMapped (IsTakenItem class_of f s) x.exports z.exports in
-    let may = MayTake-Takes f a b _ _ _ c.requires.state c.in_ok-uses.ensures.taken in
-    let first = Takes-then f a b now _ _ (keys_height f (world_keys x)) _ _ (named_keys use_keys x.uses) used imported (world_uses_lower f x) (world_imports_lower f x) (within_all f _) (within_all f _) c.requires.state (λ s u kept run h. uses_still f s u kept (RemembersTruly class_of) f run x.uses z.uses h) c.in_ok-uses.ensures.taken (Takes-copied f b c.copy_externs.new.own c.copy_externs.new.copies _ (named_keys use_keys x.uses) _ may c.in_ok-imports.ensures) in
-    let parts = Takes-then f a now e _ _ (keys_height f (world_keys x)) _ _ (named_keys use_keys x.uses ++ named_keys item_keys x.exports) (λ s. used s × imported s) exported (omega arith) (world_exports_lower f x) (within_left f (named_keys use_keys x.uses) (named_keys item_keys x.exports)) (within_right f (named_keys use_keys x.uses) (named_keys item_keys x.exports)) c.requires.state (λ s u kept run h. (uses_still f s u kept (RemembersTruly class_of) f run x.uses z.uses h.0, copies_still f s u kept (RemembersTruly class_of) f run x.imports z.imports h.1)) first c.in_ok-exports.ensures in
-    world_stands f (state_of e) c.sound.ensures (parts.run.kept c.requires.state.kept) c.args.id x z (world_is_taken f (state_of e) c.sound.ensures c.args.id x z c.requires.source c.index-world.ensures.entry parts.holds.0.0 parts.holds.0.1 parts.holds.1)
+    let us = named use_content c.in_ok-uses.uses.entries in
+    let es = named (λ k. k) c.in_ok-exports.exports.entries in
+    let used : State → Type 0 = λ s. AreMapped (IsTakenUse f s) x.uses us in
+    let exported : State → Type 0 = λ s. AreMapped (IsTakenItem class_of f s) x.exports es in
+    let parts = Takes-then f a b e _ _ (keys_height f (world_keys x)) _ _ (named_keys use_keys x.uses ++ named_keys item_keys x.exports) used exported (world_uses_lower f x) (world_exports_lower f x) (within_left f (named_keys use_keys x.uses) (named_keys item_keys x.exports)) (within_right f (named_keys use_keys x.uses) (named_keys item_keys x.exports)) c.requires.state (λ s u kept run h. uses_still f s u kept (RemembersTruly class_of) f run x.uses us h) c.in_ok-uses.ensures.taken c.in_ok-exports.ensures in
+    MayTake-Takes f a e _ _ _ c.requires.state parts
+
+pub take_world-put_world-requires-clause-taken : goal.take_world-put_world-requires-clause-taken
+take_world-put_world-requires-clause-taken t c =
+    let f = c.args.types.now in
+    let a = c.args.state.now in
+    let b = c.take_uses.new.state in
+    let e = c.take_externs.new.state in
+    let x = world_content c.index-world.result.now in
+    let us = named use_content c.in_ok-uses.uses.entries in
+    let es = named (λ k. k) c.in_ok-exports.exports.entries in
+    let used : State → Type 0 = λ s. AreMapped (IsTakenUse f s) x.uses us in
+    let exported : State → Type 0 = λ s. AreMapped (IsTakenItem class_of f s) x.exports es in
+    let parts = Takes-then f a b e _ _ (keys_height f (world_keys x)) _ _ (named_keys use_keys x.uses ++ named_keys item_keys x.exports) used exported (world_uses_lower f x) (world_exports_lower f x) (within_left f (named_keys use_keys x.uses) (named_keys item_keys x.exports)) (within_right f (named_keys use_keys x.uses) (named_keys item_keys x.exports)) c.requires.state (λ s u kept run h. uses_still f s u kept (RemembersTruly class_of) f run x.uses us h) c.in_ok-uses.ensures.taken c.in_ok-exports.ensures in
+    record { content = x; entry = c.index-world.ensures.entry; used = parts.holds.0; exported = parts.holds.1; absent = parts.low (world_key c.args.id) c.index-world.ensures.lower (sym c.in_default.ensures) }
 
 pub take_world-returns : goal.take_world-returns
 take_world-returns t c =
     let f = c.args.types.now in
     let a = c.args.state.now in
     let b = c.take_uses.new.state in
-    let now = record b { types = c.copy_externs.new.own; copies = c.copy_externs.new.copies } in
     let e = c.take_externs.new.state in
     let x = world_content c.index-world.result.now in
-    let z = world_content (record { id = c.in_ok-identifier.identifier; uses = c.in_ok-uses.uses; imports = c.in_ok-imports.imports; exports = c.in_ok-exports.exports }) in
-    let used : State → Type 0 = λ s. AreMapped (IsTakenUse f s) x.uses z.uses in
-    let imported : State → Type 0 = λ s. AreMapped (IsCopiedItem f s) x.imports z.imports in
-    let exported : State → Type 0 = λ s. AreMapped (IsTakenItem class_of f s) x.exports z.exports in
-    let may = MayTake-Takes f a b _ _ _ c.requires.state c.in_ok-uses.ensures.taken in
-    let first = Takes-then f a b now _ _ (keys_height f (world_keys x)) _ _ (named_keys use_keys x.uses) used imported (world_uses_lower f x) (world_imports_lower f x) (within_all f _) (within_all f _) c.requires.state (λ s u kept run h. uses_still f s u kept (RemembersTruly class_of) f run x.uses z.uses h) c.in_ok-uses.ensures.taken (Takes-copied f b c.copy_externs.new.own c.copy_externs.new.copies _ (named_keys use_keys x.uses) _ may c.in_ok-imports.ensures) in
-    let parts = Takes-then f a now e _ _ (keys_height f (world_keys x)) _ _ (named_keys use_keys x.uses ++ named_keys item_keys x.exports) (λ s. used s × imported s) exported (omega arith) (world_exports_lower f x) (within_left f (named_keys use_keys x.uses) (named_keys item_keys x.exports)) (within_right f (named_keys use_keys x.uses) (named_keys item_keys x.exports)) c.requires.state (λ s u kept run h. (uses_still f s u kept (RemembersTruly class_of) f run x.uses z.uses h.0, copies_still f s u kept (RemembersTruly class_of) f run x.imports z.imports h.1)) first c.in_ok-exports.ensures in
-    Takes-enter f a e (record e { types = c.add_world.new.self; taken = c.put_world.new.self }) (world_key c.args.id) (world_key c.in_ok-own.own) (world_entry z) (keys_height f (world_keys x)) _ (λ s. (used s × imported s) × exported s) c.requires.state c.sound.ensures c.requires.source (omega (arith, c.index-world.ensures.lower)) (within_parts f (world_key c.args.id) (named_keys use_keys x.uses ++ named_keys item_keys x.exports) (ap (optional_keys other_keys) (world_at f c.args.id x c.index-world.ensures.entry)))
-    parts refl c.in_ok-own.ensures.added (ap world_key c.in_ok-own.ensures.id) (c.in_ok-put_world.ensures (parts.low (world_key c.args.id) c.index-world.ensures.lower (sym c.in_default.ensures)))
-    (λ u kept q adds same. world_enters f (state_of e) c.sound.ensures kept u c.args.id x z (world_is_taken f (state_of e) c.sound.ensures c.args.id x z c.requires.source c.index-world.ensures.entry q.0.0 q.0.1 q.1) q.0.0 adds same)
+    let us = named use_content c.in_ok-uses.uses.entries in
+    let es = named (λ k. k) c.in_ok-exports.exports.entries in
+    let used : State → Type 0 = λ s. AreMapped (IsTakenUse f s) x.uses us in
+    let exported : State → Type 0 = λ s. AreMapped (IsTakenItem class_of f s) x.exports es in
+    let parts = Takes-then f a b e _ _ (keys_height f (world_keys x)) _ _ (named_keys use_keys x.uses ++ named_keys item_keys x.exports) used exported (world_uses_lower f x) (world_exports_lower f x) (within_left f (named_keys use_keys x.uses) (named_keys item_keys x.exports)) (within_right f (named_keys use_keys x.uses) (named_keys item_keys x.exports)) c.requires.state (λ s u kept run h. uses_still f s u kept (RemembersTruly class_of) f run x.uses us h) c.in_ok-uses.ensures.taken c.in_ok-exports.ensures in
+    let within = within_parts f (world_key c.args.id) (named_keys use_keys x.uses ++ named_keys item_keys x.exports) (ap (optional_keys other_keys) (world_at f c.args.id x c.index-world.ensures.entry)) in
+    MatchResult-weaker c.put_world.result c.put_world.ensures
+    (λ r h. Takes-after f a e c.put_world.new.state (keys_height f (world_keys x)) (height f (world_key c.args.id)) (named_keys use_keys x.uses ++ named_keys item_keys x.exports) (world_key c.args.id ∷ []) (λ s. used s × exported s) (λ s. IsTakenKey class_of f s (world_key c.args.id) (world_key r)) (omega (arith, c.index-world.ensures.lower)) within c.requires.state parts h)
+    (λ r h. refused_later f a e _ (named_keys use_keys x.uses ++ named_keys item_keys x.exports) (world_key c.args.id ∷ []) (world_key c.args.id ∷ []) _ r within (within_all f (world_key c.args.id ∷ [])) c.requires.state parts h)
 
 pub take_source-returns-in-None : goal.take_source-returns-in-None
 take_source-returns-in-None t c =
@@ -886,17 +886,17 @@ pub take_world-returns-in_err-exports : goal.take_world-returns-in_err-exports
 take_world-returns-in_err-exports t c =
     let f = c.args.types.now in
     let x = world_content c.index-world.result.now in
-    let b = c.take_uses.new.state in
-    let now = record b { types = c.copy_externs.new.own; copies = c.copy_externs.new.copies } in
-    let may = MayTake-Takes f c.args.state.now b _ _ _ c.requires.state c.in_ok-uses.ensures.taken in
-    let first = Takes-then f c.args.state.now b now _ _ (keys_height f (world_keys x)) _ _ (named_keys use_keys x.uses) _ _ (world_uses_lower f x) (world_imports_lower f x) (within_all f _) (within_all f _) c.requires.state (λ s u kept run h. uses_still f s u kept (RemembersTruly class_of) f run x.uses (named use_content c.in_ok-uses.uses.entries) h) c.in_ok-uses.ensures.taken (Takes-copied f b c.copy_externs.new.own c.copy_externs.new.copies _ (named_keys use_keys x.uses) _ may c.in_ok-imports.ensures) in
-    refused_then f c.args.state.now now _ (named_keys use_keys x.uses) (named_keys item_keys x.exports) (world_key c.args.id ∷ []) _ c.from_residual-in_err-exports.result _ c.in_err-exports.field-0.0 (within_trans f (named_keys use_keys x.uses) (named_keys use_keys x.uses ++ named_keys item_keys x.exports) (world_key c.args.id ∷ []) (within_left f (named_keys use_keys x.uses) (named_keys item_keys x.exports)) (within_parts f (world_key c.args.id) (named_keys use_keys x.uses ++ named_keys item_keys x.exports) (ap (optional_keys other_keys) (world_at f c.args.id x c.index-world.ensures.entry)))) (within_trans f (named_keys item_keys x.exports) (named_keys use_keys x.uses ++ named_keys item_keys x.exports) (world_key c.args.id ∷ []) (within_right f (named_keys use_keys x.uses) (named_keys item_keys x.exports)) (within_parts f (world_key c.args.id) (named_keys use_keys x.uses ++ named_keys item_keys x.exports) (ap (optional_keys other_keys) (world_at f c.args.id x c.index-world.ensures.entry)))) c.requires.state first c.in_err-exports.ensures c.from_residual-in_err-exports.ensures
+    let within = within_parts f (world_key c.args.id) (named_keys use_keys x.uses ++ named_keys item_keys x.exports) (ap (optional_keys other_keys) (world_at f c.args.id x c.index-world.ensures.entry)) in
+    refused_then f c.args.state.now c.take_uses.new.state _ (named_keys use_keys x.uses) (named_keys item_keys x.exports) (world_key c.args.id ∷ []) _ c.from_residual-in_err-exports.result _ c.in_err-exports.field-0.0
+    (within_trans f (named_keys use_keys x.uses) (named_keys use_keys x.uses ++ named_keys item_keys x.exports) (world_key c.args.id ∷ []) (within_left f (named_keys use_keys x.uses) (named_keys item_keys x.exports)) within)
+    (within_trans f (named_keys item_keys x.exports) (named_keys use_keys x.uses ++ named_keys item_keys x.exports) (world_key c.args.id ∷ []) (within_right f (named_keys use_keys x.uses) (named_keys item_keys x.exports)) within)
+    c.requires.state c.in_ok-uses.ensures.taken c.in_err-exports.ensures c.from_residual-in_err-exports.ensures
 
 pub take_world-returns-in_err-uses : goal.take_world-returns-in_err-uses
 take_world-returns-in_err-uses t c =
     let f = c.args.types.now in
     let x = world_content c.index-world.result.now in
-    refused_uses [] f c.args.state.now (world_key c.args.id) x.uses c.from_residual-in_err-uses.result _ c.in_err-uses.field-0.0 (ap (λ o. option_map_or entry_uses o []) (world_at f c.args.id x c.index-world.ensures.entry)) c.in_err-uses.ensures.taken c.from_residual-in_err-uses.ensures
+    refused_uses [] f c.args.state.now (world_key c.args.id) x.uses c.from_residual.result _ c.in_err-uses.field-0.0 (ap (λ o. option_map_or entry_uses o []) (world_at f c.args.id x c.index-world.ensures.entry)) c.in_err-uses.ensures.taken c.from_residual.ensures
 
 pub take_owner-returns-then-is_none : goal.take_owner-returns-then-is_none
 take_owner-returns-then-is_none t c =

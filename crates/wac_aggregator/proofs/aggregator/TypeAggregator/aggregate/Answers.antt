@@ -5,7 +5,7 @@ use Rattle.wac_call_lists.specs.Call.{Call}
 use Rattle.wac_refusals.proofs.Passing.{error_passed_on, passed_on}
 use Rattle.wac_aggregator.specs.Content.{AggregatorContent}
 use Rattle.wac_aggregator.proofs.Advancing.{by_track}
-use Rattle.wac_aggregator.proofs.Handing.{call_may, call_in_order, call_number, call_step, call_truly, call_imports, call_due, call_owners, call_plain, call_reason, call_refused}
+use Rattle.wac_aggregator.proofs.Handing.{call_may, call_in_order, call_number, call_step, call_truly, call_imports, call_held, call_due, call_owners, call_plain, call_reason, call_refused}
 use Rattle.wac_aggregator.proofs.aggregator.TypeAggregator.aggregate.Goals as goal
 
 pub advance-requires-clause-state : goal.advance-requires-clause-state
@@ -38,6 +38,11 @@ pub returns-clause-imports : goal.returns-clause-imports
 returns-clause-imports c =
     let call : Call = record { name = c.args.name.now; types = c.args.types.now; kind = c.args.kind } in
     call_imports call c.self.inside.state c.direction-state.result c.args.self c.self.view_is c.self.invariant c.requires.apart c.requires.remembered c.advance.new.state c.filed.ensures c.in_ok-advance.ensures.advances
+
+pub returns-clause-held : goal.returns-clause-held
+returns-clause-held c =
+    let call : Call = record { name = c.args.name.now; types = c.args.types.now; kind = c.args.kind } in
+    call_held call c.self.inside.state c.direction-state.result c.args.self c.self.view_is c.self.invariant c.requires.apart c.requires.remembered c.advance.new.state c.filed.ensures c.in_ok-advance.ensures.advances
 
 pub returns-clause-due : goal.returns-clause-due
 returns-clause-due c =
