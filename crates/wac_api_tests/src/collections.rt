@@ -1,10 +1,11 @@
 //! What collections hold, in order, and what the entries and their clones show.
 
-use super::showing::debugs;
+use std::alloc::AllocError;
 use std::fmt::Debug;
 use std::slice;
 use std::test::Fail;
 use wac_script_entries::built;
+use wac_test_tools::debugs;
 
 // An entry of each sort, others that name those, and defined types of each kind.
 const LINES: &str = "def list u8
@@ -61,29 +62,27 @@ const MODULES: &str = "ModuleType { imports: {}, exports: {} }
 ModuleType { imports: {(\"e\", \"t\"): Table { element_type: CoreRefType { nullable: true, heap_type: Concrete(3) }, initial: 1, maximum: Some(4), table64: true, shared: false }}, exports: {\"x\": Tag(CoreFuncType { params: [I32], results: [] })} }";
 
 // Whether the entries of a list and their clones have these debug texts, in order.
-fn lists<T: Clone + Debug>(entries: slice::Iter<'_, T>, wanted: &str) -> bool {
+fn lists<T: Clone + Debug>(entries: slice::Iter<'_, T>, wanted: &str) -> Result<bool, AllocError> {
     if entries.len() != wanted.lines().count() {
-        return false;
+        return Ok(false);
     }
     for (entry, text) in entries.zip(wanted.lines()) {
-        let Ok(copy) = entry.clone() else {
-            return false;
-        };
+        let copy = entry.clone()?;
         if !debugs(entry, text) || !debugs(&copy, text) {
-            return false;
+            return Ok(false);
         }
     }
-    true
+    Ok(true)
 }
 
 #[test]
 fn entries_are_listed_in_order_and_cloned(rt: HostRuntime) -> Result<(), Fail> {
     let types = built(rt.alloc(), 7, LINES)?;
-    assert!(&rt; lists(types.defined_types(), DEFINED));
-    assert!(&rt; lists(types.resources(), RESOURCES));
-    assert!(&rt; lists(types.func_types(), FUNCS));
-    assert!(&rt; lists(types.interfaces(), INTERFACES));
-    assert!(&rt; lists(types.worlds(), WORLDS));
-    assert!(&rt; lists(types.modules(), MODULES));
+    assert!(&rt; lists(types.defined_types(), DEFINED)?);
+    assert!(&rt; lists(types.resources(), RESOURCES)?);
+    assert!(&rt; lists(types.func_types(), FUNCS)?);
+    assert!(&rt; lists(types.interfaces(), INTERFACES)?);
+    assert!(&rt; lists(types.worlds(), WORLDS)?);
+    assert!(&rt; lists(types.modules(), MODULES)?);
     Ok(())
 }

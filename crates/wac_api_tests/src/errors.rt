@@ -1,11 +1,10 @@
 //! A refusal as a value: its frames, its fault, and its texts.
 
-use super::finding::defined;
-use super::showing::{debugs, shows};
-use std::alloc::Global;
+use std::alloc::{AllocError, Global};
 use std::collections::HashSet;
 use std::test::Fail;
 use wac_script_entries::built;
+use wac_test_tools::{debugs, defined, shows};
 use wac_types::{ItemKind, SubtypeChecker, SubtypeError, Types, ValueType};
 
 const LISTS: &str = "def option u8
@@ -22,6 +21,7 @@ fn refusal(alloc: Global, types: &Types) -> Result<SubtypeError, Fail> {
     let mut cache = HashSet::new(alloc);
     match SubtypeChecker::new(&mut cache).is_subtype(alloc, a, types, b, types) {
         Ok(()) => Err(Fail::new("the item fits")),
+        Err(SubtypeError::Memory) => Err(Fail::from(AllocError)),
         Err(error) => Ok(error),
     }
 }

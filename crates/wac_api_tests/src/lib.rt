@@ -7,9 +7,9 @@ mod aggregated;
 #[cfg(test)]
 mod collections;
 #[cfg(test)]
-mod errors;
+mod endings;
 #[cfg(test)]
-mod finding;
+mod errors;
 #[cfg(test)]
 mod first_use;
 #[cfg(test)]
@@ -31,8 +31,4 @@ mod reports;
 #[cfg(test)]
 mod sharing;
 #[cfg(test)]
-mod showing;
-#[cfg(test)]
 mod visits;
-#[cfg(test)]
-mod writers;

@@ -1,11 +1,13 @@
 //! What an aggregator makes of entries that share others, thirty levels deep.
 
-use super::finding::interface;
 use std::alloc::Global;
 use std::collections::HashSet;
 use std::test::Fail;
 use wac_script_entries::built;
-use wac_types::{Call, ItemKind, SubtypeChecker, SubtypeError, TypeAggregator, Types, aggregate_all};
+use wac_test_tools::interface;
+use wac_types::{
+    Call, ItemKind, SubtypeChecker, SubtypeError, TypeAggregator, Types, aggregate_all,
+};
 
 // An interface that exports the last of thirty tuples of two, each of the one before.
 fn tuples(alloc: Global, number: u64) -> Result<Types, Fail> {
@@ -46,7 +48,10 @@ fn merged(alloc: Global, a: &Types, b: &Types, index: usize) -> Result<TypeAggre
     ];
     let mut cache = HashSet::new(alloc);
     let mut checker = SubtypeChecker::new(&mut cache);
-    Ok(aggregate_all(alloc, 9, &calls, &mut checker)?)
+    match aggregate_all(alloc, 9, &calls, &mut checker) {
+        Ok(merged) => Ok(merged),
+        Err(refused) => Err(refused.error.into()),
+    }
 }
 
 // Whether an item fits where another is asked for.

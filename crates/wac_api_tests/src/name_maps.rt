@@ -10,68 +10,73 @@ use wac_types::{NameError, NameMap, NameMapIntern, version_cmp};
 
 type Map = NameMap<usize, u32>;
 
-// The value under a name, 99 where it can't be told.
-fn value<I: NameMapIntern<Key = usize>>(map: &Map, cx: &I, name: &str) -> Option<u32> {
-    match map.get(name, cx) {
-        Ok(value) => value.copied(),
-        Err(_) => Some(99),
-    }
+// The value under a name.
+fn value<I: NameMapIntern<Key = usize>>(
+    map: &Map,
+    cx: &I,
+    name: &str,
+) -> Result<Option<u32>, NameError> {
+    Ok(map.get(name, cx)?.copied())
 }
 
-// The key under which a name is put, 0 where it can't be.
-fn put(map: &mut Map, cx: &mut Countdown, name: &str, value: u32) -> usize {
-    match map.insert(name, cx, false, value) {
-        Ok(key) => key,
-        Err(_) => 0,
-    }
+// The key under which a name is put.
+fn put(map: &mut Map, cx: &mut Countdown, name: &str, value: u32) -> Result<usize, NameError> {
+    map.insert(name, cx, false, value)
 }
 
 // Whether in a new map a name that is on the track of another, and has the other's track key
 // as its own name, stands alone.
-fn stands_alone(alloc: Global, cx: &mut Countdown) -> bool {
+fn stands_alone(alloc: Global, cx: &mut Countdown) -> Result<bool, NameError> {
     let mut map: Map = NameMap::new(alloc);
-    let before = value(&map, cx, "a:b/c@1.0.0");
-    let alone = put(&mut map, cx, "a:b/c@1", 5);
-    let between = value(&map, cx, "a:b/c@1.0.0");
-    let tracked = put(&mut map, cx, "a:b/c@1.2.0", 6);
-    let after = value(&map, cx, "a:b/c@1.0.0");
-    let itself = value(&map, cx, "a:b/c@1");
-    (alone, tracked) == (1000, 999)
-        && [before, between, after, itself] == [None, None, Some(6), Some(5)]
+    let before = value(&map, cx, "a:b/c@1.0.0")?;
+    let alone = put(&mut map, cx, "a:b/c@1", 5)?;
+    let between = value(&map, cx, "a:b/c@1.0.0")?;
+    let tracked = put(&mut map, cx, "a:b/c@1.2.0", 6)?;
+    let after = value(&map, cx, "a:b/c@1.0.0")?;
+    let itself = value(&map, cx, "a:b/c@1")?;
+    Ok(
+        (alone, tracked) == (1000, 999)
+            && [before, between, after, itself] == [None, None, Some(6), Some(5)],
+    )
 }
 
 #[test]
 fn two_maps_of_one_interner_know_nothing_of_each_other(rt: HostRuntime) -> Result<(), Fail> {
     let mut cx = Countdown::new(rt.alloc());
     assert_eq!(&rt; cx.intern(rt.alloc(), "a:b/c@1")?, 1000);
-    assert!(&rt; stands_alone(rt.alloc(), &mut cx));
-    assert!(&rt; stands_alone(rt.alloc(), &mut cx));
+    assert!(&rt; stands_alone(rt.alloc(), &mut cx)?);
+    assert!(&rt; stands_alone(rt.alloc(), &mut cx)?);
     Ok(())
 }
 
 // Puts two names, refuses one of them again, and puts two versions on a track.
-fn fill_versions(map: &mut Map, cx: &mut Countdown) -> bool {
-    put(map, cx, "a", 0);
-    put(map, cx, "b", 1);
-    let again = map.insert("a", cx, false, 7);
-    put(map, cx, "a:b/c@1.0.0", 2);
-    put(map, cx, "a:b/c@1.0.1", 3);
-    matches!(again, Err(NameError::Twice { .. }))
+fn fill_versions(map: &mut Map, cx: &mut Countdown) -> Result<bool, NameError> {
+    put(map, cx, "a", 0)?;
+    put(map, cx, "b", 1)?;
+    let is_refused = match put(map, cx, "a", 7) {
+        Ok(_key) => false,
+        Err(NameError::Twice { name: _ }) => true,
+        Err(NameError::Memory) => return Err(NameError::Memory),
+    };
+    put(map, cx, "a:b/c@1.0.0", 2)?;
+    put(map, cx, "a:b/c@1.0.1", 3)?;
+    Ok(is_refused)
 }
 
 // Whether a map that was filled so keeps the first value, and finds the greatest version.
-fn finds_versions(map: &Map, cx: &Countdown) -> bool {
-    let kept = value(map, cx, "a");
-    let same = value(map, cx, "a:b/c@1.0.0");
-    let greatest = value(map, cx, "a:b/c@1.1.0");
-    let other = value(map, cx, "c");
-    [kept, same, greatest, other] == [Some(0), Some(2), Some(3), None]
+fn finds_versions(map: &Map, cx: &Countdown) -> Result<bool, NameError> {
+    let kept = value(map, cx, "a")?;
+    let same = value(map, cx, "a:b/c@1.0.0")?;
+    let greatest = value(map, cx, "a:b/c@1.1.0")?;
+    let other = value(map, cx, "c")?;
+    Ok([kept, same, greatest, other] == [Some(0), Some(2), Some(3), None])
 }
 
 // Puts two names whose versions differ in build metadata alone.
-fn fill_builds(map: &mut Map, cx: &mut Countdown) {
-    put(map, cx, "a:b/c@1.0.0+a", 1);
-    put(map, cx, "a:b/c@1.0.0+b", 2);
+fn fill_builds(map: &mut Map, cx: &mut Countdown) -> Result<(), NameError> {
+    put(map, cx, "a:b/c@1.0.0+a", 1)?;
+    put(map, cx, "a:b/c@1.0.0+b", 2)?;
+    Ok(())
 }
 
 // Both maps are filled before either is asked.
@@ -81,10 +86,10 @@ fn two_maps_of_one_interner_find_their_own_versions(rt: HostRuntime) -> Result<(
     assert_eq!(&rt; cx.intern(rt.alloc(), "a:b/c@1")?, 1000);
     let mut versions: Map = NameMap::new(rt.alloc());
     let mut builds: Map = NameMap::new(rt.alloc());
-    assert!(&rt; fill_versions(&mut versions, &mut cx));
-    fill_builds(&mut builds, &mut cx);
-    assert!(&rt; finds_versions(&versions, &cx));
-    assert_eq!(&rt; value(&builds, &cx, "a:b/c@1.0.5"), Some(2));
+    assert!(&rt; fill_versions(&mut versions, &mut cx)?);
+    fill_builds(&mut builds, &mut cx)?;
+    assert!(&rt; finds_versions(&versions, &cx)?);
+    assert_eq!(&rt; value(&builds, &cx, "a:b/c@1.0.5")?, Some(2));
     Ok(())
 }
 

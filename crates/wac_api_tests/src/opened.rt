@@ -1,11 +1,13 @@
 //! How many pairs of entries a checker compares.
 
-use super::finding::defined;
 use std::alloc::Global;
 use std::collections::HashSet;
 use std::test::Fail;
 use wac_script_entries::built;
-use wac_types::{DefinedType, ItemKind, PrimitiveType, SubtypeChecker, Types, ValueType};
+use wac_test_tools::defined;
+use wac_types::{
+    DefinedType, ItemKind, PrimitiveType, SubtypeChecker, SubtypeError, Types, ValueType,
+};
 
 // The first tuple is a pair of bytes, and each of the 29 next ones a pair of the one before.
 fn tuples(alloc: Global, number: u64) -> Result<Types, Fail> {
@@ -27,15 +29,11 @@ fn opened(alloc: Global, at: &Types, bt: &Types, index: usize) -> Result<(usize,
     let mut checker = SubtypeChecker::new(&mut cache);
     let a = ItemKind::Value(ValueType::Defined(given));
     let b = ItemKind::Value(ValueType::Defined(wanted));
-    if checker.is_subtype(alloc, a, at, b, bt).is_err() {
-        return Err(Fail::new("the type doesn't fit"));
-    }
+    checker.is_subtype(alloc, a, at, b, bt)?;
     let first = checker.opened();
     let a = ItemKind::Value(ValueType::Defined(given));
     let b = ItemKind::Value(ValueType::Defined(wanted));
-    if checker.is_subtype(alloc, a, at, b, bt).is_err() {
-        return Err(Fail::new("the type doesn't fit any more"));
-    }
+    checker.is_subtype(alloc, a, at, b, bt)?;
     Ok((first, checker.opened()))
 }
 
@@ -98,6 +96,7 @@ fn frames_to_fault(alloc: Global, at: &Types, bt: &Types, index: usize) -> Resul
     let mut cache = HashSet::new(alloc);
     match SubtypeChecker::new(&mut cache).is_subtype(alloc, a, at, b, bt) {
         Ok(()) => Err(Fail::new("the type fits")),
+        Err(SubtypeError::Memory) => Err(SubtypeError::Memory.into()),
         Err(error) => Ok(error.frames().len()),
     }
 }
@@ -144,9 +143,7 @@ fn opened_by_aliases(alloc: Global, types: &Types) -> Result<usize, Fail> {
     let byte = ItemKind::Value(ValueType::Primitive(PrimitiveType::U8));
     let mut cache = HashSet::new(alloc);
     let mut checker = SubtypeChecker::new(&mut cache);
-    if checker.is_subtype(alloc, last, types, byte, types).is_err() {
-        return Err(Fail::new("the alias doesn't fit"));
-    }
+    checker.is_subtype(alloc, last, types, byte, types)?;
     Ok(checker.opened())
 }
 

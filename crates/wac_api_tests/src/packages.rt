@@ -1,11 +1,10 @@
 //! What a package and its key hold and show, and their clones.
 
-use super::finding::world;
-use super::showing::debugs;
 use semver::Version;
-use std::alloc::Global;
+use std::alloc::{AllocError, Global};
 use std::test::Fail;
 use wac_script_entries::built;
+use wac_test_tools::{debugs, world};
 use wac_types::{BorrowedKey, BorrowedPackageKey, Package, PackageKey, same_key};
 
 // A world that imports an instance as `in` and exports it as `out`, and exports the type of a world
@@ -39,18 +38,16 @@ fn holds(package: &Package) -> bool {
         && debugs(package.definitions(), defined)
 }
 
-fn clone_holds(package: &Package) -> bool {
-    match package.clone() {
-        Ok(copy) => holds(&copy),
-        Err(_) => false,
-    }
+fn clone_holds(package: &Package) -> Result<bool, AllocError> {
+    let copy = package.clone()?;
+    Ok(holds(&copy))
 }
 
 #[test]
 fn a_package_holds_what_it_is_made_of_and_its_clone_does(rt: HostRuntime) -> Result<(), Fail> {
     let package = package_of_two(rt.alloc())?;
     assert!(&rt; holds(&package));
-    assert!(&rt; clone_holds(&package));
+    assert!(&rt; clone_holds(&package)?);
     Ok(())
 }
 

@@ -1,8 +1,10 @@
 //! The command lines of `wac-vectors`, over writers in memory and over writers that fail.
 
-use super::writers::Expecting;
-use std::alloc::Global;
+use super::endings::is_whole;
+use std::alloc::{AllocError, Global};
 use std::process::Abort;
+use std::test::Fail;
+use wac_test_tools::Expecting;
 use wac_vectors_program::run;
 
 const USAGE: &str = "usage: wac-vectors rows | track NAME | compatible A B\n";
@@ -51,35 +53,42 @@ static LINES: [Line; 12] = [
 
 // Runs a command line over writers whose writes of this number fail; whether one did. Then the
 // status is 1, nothing more is written, and what was written is the front of what the line prints.
-fn fails<R: Abort>(rt: &R, alloc: Global, line: &Line, number: u32) -> bool {
+fn fails<R: Abort>(rt: &R, alloc: Global, line: &Line, number: u32) -> Result<bool, AllocError> {
     let (words, text, error, status) = line;
     let mut out = Expecting::failing_at(text, number);
     let mut err = Expecting::failing_at(error, number);
     let answer = run(alloc, words, &mut out, &mut err);
     if !out.has_failed() && !err.has_failed() {
-        assert!(rt;
-            answer == *status && out.has_all() && err.has_all(),
-            "{number}"
-        );
-        return false;
+        assert!(rt; is_whole(answer, *status, &out, &err)?, "{number}");
+        return Ok(false);
     }
     assert!(rt;
         answer == 1 && out.has_front() && err.has_front(),
         "{number}"
     );
-    true
+    Ok(true)
+}
+
+// How many writes a command line makes.
+fn writes<R: Abort>(rt: &R, alloc: Global, line: &Line) -> Result<usize, AllocError> {
+    let mut failed = 0usize;
+    for number in 1..200 {
+        if !fails(rt, alloc, line, number)? {
+            return Ok(failed);
+        }
+        failed = failed.saturating_add(1);
+    }
+    Ok(failed)
 }
 
 #[test]
-fn each_command_line_has_its_output_and_each_failed_write_ends_it(rt: HostRuntime) {
+fn each_command_line_has_its_output_and_each_failed_write_ends_it(
+    rt: HostRuntime,
+) -> Result<(), Fail> {
     for line in &LINES {
-        let mut failed = 0usize;
-        for number in 1..200 {
-            if fails(&rt, rt.alloc(), line, number) {
-                failed = failed.saturating_add(1);
-            }
-        }
+        let failed = writes(&rt, rt.alloc(), line)?;
         // each line that is printed is one write at least
         assert!(&rt; failed >= line.1.lines().count() && failed >= 1);
     }
+    Ok(())
 }

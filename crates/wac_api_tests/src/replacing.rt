@@ -1,12 +1,12 @@
 //! What replacing an entry answers where that would close a cycle: the content is
 //! handed back, and nothing changes.
 
-use super::finding::defined;
-use super::showing::debugs;
+use std::alloc::AllocError;
 use std::process::Abort;
 use std::test::Fail;
 use wac_script_entries::built;
-use wac_types::{DefinedType, Types, ValueType};
+use wac_test_tools::{debugs, defined};
+use wac_types::{DefinedType, ReplaceError, Types, ValueType};
 
 // Replaces the first defined type by an option of itself.
 fn close_over_type<R: Abort>(rt: &R, types: &mut Types) -> Result<(), Fail> {
@@ -14,6 +14,9 @@ fn close_over_type<R: Abort>(rt: &R, types: &mut Types) -> Result<(), Fail> {
     let content = DefinedType::Option(ValueType::Defined(list));
     assert!(rt; types.can_add_defined_type(&content));
     let answer = types.replace_defined_type(list, content);
+    if matches!(&answer, Err(ReplaceError::Memory(_))) {
+        return Err(Fail::from(AllocError));
+    }
     let handed = "Err(Cycle(Option(Defined(DefinedTypeId { number: 1, index: 0 }))))";
     assert!(rt; debugs(&answer, handed));
     Ok(())

@@ -1,11 +1,12 @@
 //! The command lines of `wac-replay`, scripts that are checked, and the numbers of questions.
 
-use super::writers::Expecting;
-use std::alloc::Global;
+use super::endings::is_whole;
+use std::alloc::{AllocError, Global};
 use std::test::Fail;
 use wac_script_program::{check_script, run};
 use wac_script_session::Session;
-use wac_script_syntax::read_line;
+use wac_script_syntax::{ScriptError, read_line};
+use wac_test_tools::Expecting;
 
 // Scripts, what they print, what they print on the error output, and their statuses.
 static REPLAYS: [(&str, &str, &str, u8); 3] = [
@@ -25,16 +26,14 @@ static REPLAYS: [(&str, &str, &str, u8); 3] = [
 ];
 
 #[test]
-fn scripts_are_answered_up_to_a_line_that_is_malformed(rt: HostRuntime) {
+fn scripts_are_answered_up_to_a_line_that_is_malformed(rt: HostRuntime) -> Result<(), Fail> {
     for (script, text, error, status) in &REPLAYS {
         let mut out = Expecting::of(text);
         let mut err = Expecting::of(error);
         let answer = run(&rt, &[], script.as_bytes(), &mut out, &mut err);
-        assert!(&rt;
-            answer == *status && out.has_all() && err.has_all(),
-            "{script}"
-        );
+        assert!(&rt; is_whole(answer, *status, &out, &err)?, "{script}");
     }
+    Ok(())
 }
 
 // Scripts that are checked to their ends, what they print, and their statuses.
@@ -43,7 +42,7 @@ static CHECKED: [(&str, &str, u8); 4] = [
     (
         "coll 1\ncount 1\n= 1 0 0 0 0 0\nkinds\n= none\n= at all\n",
         "a:2: count 1\nexpected: 1 0 0 0 0 0\nfound: 0 0 0 0 0 0\na:4: kinds\nexpected: none\nat all\nfound: function | method | static method | constructor | import | export\na: 2 questions, 2 differ\n",
-        1,
+        3,
     ),
     // lines that are refused as is said beside them
     (
@@ -55,21 +54,21 @@ static CHECKED: [(&str, &str, u8); 4] = [
     (
         "count 1\n! there is no collection 2\ncoll 1\n! there\ncount 1\n! is no\ncount 1\n= 0 0 0 0 0 0\n",
         "a:1: count 1\nexpected: ! there is no collection 2\nfound: ! there is no collection 1\na:3: coll 1\nexpected: ! there\nfound: no refusal\na:5: count 1\nexpected: ! is no\nfound: = 0 0 0 0 0 0\na: 4 questions, 3 differ\n",
-        1,
+        3,
     ),
 ];
 
 #[test]
-fn answers_and_refusals_are_compared_with_those_beside_the_lines(rt: HostRuntime) {
+fn answers_and_refusals_are_compared_with_those_beside_the_lines(
+    rt: HostRuntime,
+) -> Result<(), Fail> {
     for (script, text, status) in &CHECKED {
         let mut out = Expecting::of(text);
         let mut err = Expecting::of("");
         let answer = check_script(rt.alloc(), "a", script, &mut out, &mut err);
-        assert!(&rt;
-            answer == *status && out.has_all() && err.has_all(),
-            "{script}"
-        );
+        assert!(&rt; is_whole(answer, *status, &out, &err)?, "{script}");
     }
+    Ok(())
 }
 
 const NO_ANSWER: &str = "a:1: expected an answer after the question\n";
@@ -96,13 +95,16 @@ static ENDED: [(&str, &str); 8] = [
 ];
 
 #[test]
-fn a_line_that_is_neither_answered_nor_expected_to_be_refused_ends_a_check(rt: HostRuntime) {
+fn a_line_that_is_neither_answered_nor_expected_to_be_refused_ends_a_check(
+    rt: HostRuntime,
+) -> Result<(), Fail> {
     for (script, error) in &ENDED {
         let mut out = Expecting::of("");
         let mut err = Expecting::of(error);
         let answer = check_script(rt.alloc(), "a", script, &mut out, &mut err);
-        assert!(&rt; answer == 2 && out.has_all() && err.has_all(), "{script}");
+        assert!(&rt; is_whole(answer, 2, &out, &err)?, "{script}");
     }
+    Ok(())
 }
 
 #[test]
@@ -123,7 +125,7 @@ fn a_benchmark_that_is_not_there_is_refused(rt: HostRuntime) {
 fn a_benchmark_of_no_size_is_refused(rt: HostRuntime) {
     let mut out = Expecting::of("");
     let mut err = Expecting::of(
-        "usage: wac-replay < SCRIPT | wac-replay check FILE.. | wac-replay bench NAME N\n",
+        "usage: wac-replay < SCRIPT | wac-replay check FILE.. | wac-replay bench NAME N\nstatus: 0 done, 1 no memory or a failed read or write, 2 refused, 3 an answer that differs\n",
     );
     let answer = run(
         &rt,
@@ -158,28 +160,38 @@ fn each_benchmark_runs(rt: HostRuntime) -> Result<(), Fail> {
         let mut err = Expecting::of("");
         let words = ["bench", *name, "3"];
         let answer = run(&rt, &words, "".as_bytes(), &mut out, &mut err);
+        if answer == 1 {
+            return Err(Fail::from(AllocError));
+        }
         assert!(&rt; answer == 0 && out.starts_with(front.as_bytes()), "{name}");
     }
     Ok(())
 }
 
 // Whether a question prints this, or is refused where it is to print nothing.
-fn prints(alloc: Global, session: &mut Session, line: &str, wanted: Option<&str>) -> bool {
-    let Ok(Some(command)) = read_line(alloc, line) else {
-        return false;
+fn prints(
+    alloc: Global,
+    session: &mut Session,
+    line: &str,
+    wanted: Option<&str>,
+) -> Result<bool, Fail> {
+    let Some(command) = read_line(alloc, line)? else {
+        return Ok(false);
     };
     match session.run(alloc, command) {
-        Ok(Some(text)) => wanted == Some(text.as_str()),
-        Ok(None) => false,
-        Err(_) => wanted.is_none(),
+        Ok(Some(text)) => Ok(wanted == Some(text.as_str())),
+        Ok(None) => Ok(false),
+        Err(ScriptError::Memory) => Err(Fail::from(AllocError)),
+        Err(_) => Ok(wanted.is_none()),
     }
 }
 
 #[test]
-fn a_question_that_is_refused_takes_no_number(rt: HostRuntime) {
+fn a_question_that_is_refused_takes_no_number(rt: HostRuntime) -> Result<(), Fail> {
     let mut session = Session::new(rt.alloc());
-    assert!(&rt; prints(rt.alloc(), &mut session, "track x@1.0.0", Some("1 x@1")));
-    assert!(&rt; prints(rt.alloc(), &mut session, "track x@1.0.0 y", None));
-    assert!(&rt; prints(rt.alloc(), &mut session, "count 1", None));
-    assert!(&rt; prints(rt.alloc(), &mut session, "track x@2.0.0", Some("2 x@2")));
+    assert!(&rt; prints(rt.alloc(), &mut session, "track x@1.0.0", Some("1 x@1"))?);
+    assert!(&rt; prints(rt.alloc(), &mut session, "track x@1.0.0 y", None)?);
+    assert!(&rt; prints(rt.alloc(), &mut session, "count 1", None)?);
+    assert!(&rt; prints(rt.alloc(), &mut session, "track x@2.0.0", Some("2 x@2"))?);
+    Ok(())
 }

@@ -1,7 +1,7 @@
 //! A report of nothing.
 
-use super::showing::shows;
 use std::test::Fail;
+use wac_test_tools::shows;
 use wac_types::{TargetValidationReport, TargetValidationResult};
 
 #[test]

@@ -1,10 +1,10 @@
 //! Entries that share others, thirty levels deep: what is made once for each pair of
 //! them, and not once for each use.
 
-use super::finding::interface;
-use std::alloc::{AllocError, Global};
+use std::alloc::Global;
 use std::test::Fail;
 use wac_script_entries::built;
+use wac_test_tools::interface;
 use wac_types::{ItemKind, Types, join, meet};
 
 // Two chains of interfaces, whose first ones have an export each: every next one exports the
@@ -18,25 +18,20 @@ fn chains(alloc: Global) -> Result<Types, Fail> {
     Ok(built(alloc, 1, &lines)?)
 }
 
-// Whether the answer is an instance.
-fn is_instance(answer: &Result<Option<ItemKind>, AllocError>) -> bool {
-    matches!(answer, Ok(Some(ItemKind::Instance(_))))
-}
-
 // Whether the ends of two such chains have a meet.
 fn ends_meet(alloc: Global, types: &mut Types) -> Result<bool, Fail> {
     let a = ItemKind::Instance(interface(types, 60)?);
     let b = ItemKind::Instance(interface(types, 61)?);
-    let answer = meet(alloc, types, a, b);
-    Ok(is_instance(&answer))
+    let bound = meet(alloc, types, a, b)?;
+    Ok(matches!(bound, Some(ItemKind::Instance(_))))
 }
 
 // Whether they have a join.
 fn ends_join(alloc: Global, types: &mut Types) -> Result<bool, Fail> {
     let a = ItemKind::Instance(interface(types, 60)?);
     let b = ItemKind::Instance(interface(types, 61)?);
-    let answer = join(alloc, types, a, b);
-    Ok(is_instance(&answer))
+    let bound = join(alloc, types, a, b)?;
+    Ok(matches!(bound, Some(ItemKind::Instance(_))))
 }
 
 #[test]

@@ -7,7 +7,7 @@ use super::graph::Graph;
 use super::merging::{import_named, remaining};
 use super::orders::push_other_orders;
 use super::targets::push_targets;
-use std::alloc::{AllocError, Global};
+use std::alloc::Global;
 use std::collections::HashSet;
 use wac_types::{
     AggregateAllError, AggregateError, ItemKind, PrimitiveType, SubtypeChecker, Type,
@@ -76,13 +76,12 @@ fn push_links(
 }
 
 // Which call was refused, the steps to the two items that have no common lower
-// bound, and the path from there.
-fn push_refusal(
-    text: &mut String,
-    name: &str,
-    refusal: &AggregateAllError,
-) -> Result<(), AllocError> {
+// bound, and the path from there. A failed allocation says nothing of the call.
+fn push_refusal(text: &mut String, name: &str, refusal: &AggregateAllError) -> Result<(), Failure> {
     let at = refusal.at;
+    if matches!(&refusal.error, AggregateError::Memory) {
+        return Err(Failure::Memory);
+    }
     write!(text, "  call {at}, {name}, isn't merged: ")?;
     match &refusal.error {
         AggregateError::Mismatch { frames, error } => {
@@ -90,10 +89,11 @@ fn push_refusal(
                 write!(text, "{frame} / ")?;
             }
             let path = error.path();
-            writeln!(text, "{path}")
+            writeln!(text, "{path}")?;
         }
-        error => writeln!(text, "{error}"),
+        error => writeln!(text, "{error}")?,
     }
+    Ok(())
 }
 
 // A merged import, and the names of what it exports.

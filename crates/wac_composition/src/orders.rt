@@ -79,13 +79,23 @@ fn push_reversed(alloc: Global, text: &mut String, calls: &[Call<'_>]) -> Result
     let reversed = reversed(alloc, calls)?;
     let mut cache = HashSet::new(alloc);
     let mut checker = SubtypeChecker::new(&mut cache);
-    let said = match aggregate_in_two_orders(alloc, 4, calls, &reversed, &mut checker) {
-        (Ok(_), Ok(_)) => "merged as well",
-        (Err(_), Err(_)) => "refused as well",
+    let (given, other) = aggregate_in_two_orders(alloc, 4, calls, &reversed, &mut checker);
+    let said = match (is_merged(&given)?, is_merged(&other)?) {
+        (true, true) => "merged as well",
+        (false, false) => "refused as well",
         _ => "answered otherwise",
     };
     writeln!(text, "  the same calls in reverse order: {said}")?;
     Ok(())
+}
+
+// Whether calls were merged. A failed allocation says nothing of them.
+fn is_merged(answer: &Result<TypeAggregator, AggregateAllError>) -> Result<bool, Failure> {
+    match answer {
+        Ok(_) => Ok(true),
+        Err(refusal) if matches!(&refusal.error, AggregateError::Memory) => Err(Failure::Memory),
+        Err(_) => Ok(false),
+    }
 }
 
 // The same calls, the last first.
@@ -112,6 +122,7 @@ fn push_last(
     let name = last.name;
     let said = match aggregate_all_and_one(alloc, 4, calls, last, &mut checker) {
         Ok(_) => "merged",
+        Err(AggregateError::Memory) => return Err(Failure::Memory),
         Err(_) => "refused",
     };
     writeln!(

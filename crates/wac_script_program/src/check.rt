@@ -4,7 +4,7 @@ mod outcome;
 mod progress;
 
 use super::failure::Failure;
-use super::status::{DONE, FAILED, MALFORMED, status_of};
+use super::status::{DIFFERING, DONE, FAILED, MALFORMED, status_of};
 use progress::{Line, Progress};
 use std::alloc::Global;
 use std::io::Write;
@@ -39,7 +39,7 @@ fn end<W: Write>(name: &str, progress: &Progress<'_>, out: &mut W) -> u8 {
     let status = if progress.differing == 0 {
         DONE
     } else {
-        FAILED
+        DIFFERING
     };
     status_of(status, print_counts(name, progress, out))
 }
@@ -56,7 +56,7 @@ fn refuse<E: Write>(err: &mut E, name: &str, line: usize, failure: &Failure<'_>)
 ///
 /// Each line that is answered otherwise, or not refused as is said beside it, is printed to `out`,
 /// after the name of the script and its number, from 1, with what is expected and what is found;
-/// then one line has the number of questions. The status is 1 where one differs. A line that is
+/// then one line has the number of questions. The status is 3 where one differs. A line that is
 /// refused with no refusal beside it, a question without an answer, and an answer or a refusal with
 /// nothing before it end the check: `err` gets a line that says so, and the status is 2. Where an
 /// allocation or a write fails, nothing more is written, and the status is 1.
@@ -83,6 +83,7 @@ fn check_file<H: Files + AllocGlobal, W: Write, E: Write>(
 ) -> u8 {
     match fs::read_to_string(rt, name) {
         Ok(text) => check_script(rt.alloc(), name, &text, out, err),
+        Err(e) if e.kind() == io::ErrorKind::OutOfMemory => FAILED,
         Err(_) => status_of(
             MALFORMED,
             writeln!(err, "{name}: expected a file of text in UTF-8"),
@@ -90,9 +91,9 @@ fn check_file<H: Files + AllocGlobal, W: Write, E: Write>(
     }
 }
 
-/// Checks the scripts in files, each as [`check_script`] does, and answers the status: 2 where one
-/// is refused, and then no other is looked at, else 1 where one answers 1, else 0. A file that
-/// can't be read as text is refused.
+/// Checks the scripts in files, each as [`check_script`] does, and answers the status: 1 where there
+/// is no memory or a write fails, and 2 where a script is refused, and then no other is looked at;
+/// else 3 where an answer of one differs, else 0. A file that can't be read as text is refused.
 pub(crate) fn check_files<H: Files + AllocGlobal, W: Write, E: Write>(
     rt: &H,
     names: &[&str],
@@ -102,9 +103,9 @@ pub(crate) fn check_files<H: Files + AllocGlobal, W: Write, E: Write>(
     let mut status = DONE;
     for name in names {
         match check_file(rt, name, out, err) {
-            MALFORMED => return MALFORMED,
-            FAILED => status = FAILED,
-            _ => {}
+            DONE => {}
+            DIFFERING => status = DIFFERING,
+            ended => return ended,
         }
     }
     status

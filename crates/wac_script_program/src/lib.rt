@@ -32,4 +32,4 @@ pub use benchmarks::{BenchError, Benchmark, bench};
 pub use check::check_script;
 pub use command_line::run;
 pub use replaying::replay;
-pub use status::{DONE, FAILED, MALFORMED, usage};
+pub use status::{DIFFERING, DONE, FAILED, MALFORMED, usage};

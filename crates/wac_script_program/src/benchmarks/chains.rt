@@ -106,7 +106,8 @@ impl Work for Refusals {
             let mut cache = HashSet::new(alloc);
             match ask(alloc, &mut cache, &self.left, &self.right) {
                 Err(BenchError::Answer) => {}
-                _ => return Err(BenchError::Answer),
+                Err(error) => return Err(error),
+                Ok(()) => return Err(BenchError::Answer),
             }
         }
         Ok(())

@@ -5,7 +5,7 @@ use super::measuring::Work;
 use std::alloc::Global;
 use wac_script_session::Session;
 use wac_script_syntax::read_line;
-use wac_types::TypeAggregator;
+use wac_types::{AggregateError, TypeAggregator};
 
 /// Instances in two versions, which are handed to a new aggregator each time.
 #[derive(Drop)]
@@ -68,8 +68,11 @@ impl TwoVersions {
     fn aggregate(&self, alloc: Global) -> Result<(), BenchError> {
         match self.session.aggregate_calls(alloc) {
             Ok(Ok(aggregator)) => self.look_at(&aggregator),
+            Ok(Err(refusal)) if matches!(&refusal.error, AggregateError::Memory) => Err(
+                BenchError::Memory,
+            ),
             Ok(Err(_)) => Err(BenchError::Answer),
-            Err(_) => Err(BenchError::Input),
+            Err(error) => Err(BenchError::from(error)),
         }
     }
 

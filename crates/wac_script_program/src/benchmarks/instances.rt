@@ -8,7 +8,7 @@ use super::measuring::Work;
 use std::alloc::Global;
 use std::collections::HashSet;
 use wac_script_entries::add_line;
-use wac_types::{ItemKind, SubtypeChecker, Types};
+use wac_types::{ItemKind, SubtypeChecker, SubtypeError, Types};
 
 /// A function of a byte, a string and a value of the first defined type.
 const FUNC_LINE: &str = "func sync - a=u8 b=string c=d0";
@@ -41,7 +41,8 @@ fn instance_side(alloc: Global, number: u64, n: u32) -> Result<Side, BenchError>
     }
 }
 
-/// Whether the left item fits where the right one is asked for: `Answer` where it doesn't.
+/// Whether the left item fits where the right one is asked for: `Answer` where it doesn't, and
+/// `Memory` where there is none to tell.
 pub(crate) fn ask(
     alloc: Global,
     cache: &mut HashSet<(ItemKind, ItemKind)>,
@@ -53,6 +54,7 @@ pub(crate) fn ask(
     let mut checker = SubtypeChecker::new(cache);
     match checker.is_subtype(alloc, left.item, &left.types, right.item, &right.types) {
         Ok(()) => Ok(()),
+        Err(SubtypeError::Memory) => Err(BenchError::Memory),
         Err(_) => Err(BenchError::Answer),
     }
 }

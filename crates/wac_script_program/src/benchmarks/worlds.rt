@@ -4,7 +4,7 @@ use super::error::BenchError;
 use super::measuring::Work;
 use std::alloc::Global;
 use wac_script_entries::add_line;
-use wac_types::{Type, Types, WorldId, validate_target};
+use wac_types::{TargetError, Type, Types, WorldId, validate_target};
 
 /// A target world and the world of a component, in one collection.
 #[derive(Drop)]
@@ -124,9 +124,10 @@ impl Work for Worlds {
             return Err(BenchError::Input);
         }
         for _ in 0..times {
-            let answer = validate_target(alloc, &self.types, self.target, self.component);
-            if !matches!(&answer, Ok(Ok(()))) {
-                return Err(BenchError::Answer);
+            match validate_target(alloc, &self.types, self.target, self.component) {
+                Ok(Ok(())) => {}
+                Err(TargetError::Memory) => return Err(BenchError::Memory),
+                _ => return Err(BenchError::Answer),
             }
         }
         Ok(())

@@ -2,9 +2,9 @@
 
 use std::{fmt, io};
 
-// A writer that compares what it is given with a text, and whose write of one number fails.
+/// A writer that compares what it is given with a text, and whose write of one number fails.
 #[derive(Drop)]
-pub(crate) struct Expecting<'a> {
+pub struct Expecting<'a> {
     // What is still to come of the text.
     rest: &'a [u8],
     // Whether all was as in the text so far.
@@ -14,13 +14,13 @@ pub(crate) struct Expecting<'a> {
 }
 
 impl<'a> Expecting<'a> {
-    // None of whose writes fails.
-    pub(crate) fn of(text: &'a str) -> Self {
+    /// None of whose writes fails.
+    pub fn of(text: &'a str) -> Self {
         Expecting::failing_at(text, 0)
     }
 
-    // Whose write of this number fails, from 1.
-    pub(crate) fn failing_at(text: &'a str, failing: u32) -> Self {
+    /// Whose write of this number fails, from 1.
+    pub fn failing_at(text: &'a str, failing: u32) -> Self {
         Expecting {
             rest: text.as_bytes(),
             is_right: true,
@@ -29,18 +29,18 @@ impl<'a> Expecting<'a> {
         }
     }
 
-    // Whether the write that fails came, and none after it.
-    pub(crate) fn has_failed(&self) -> bool {
+    /// Whether the write that fails came, and none after it.
+    pub fn has_failed(&self) -> bool {
         self.failing != 0 && self.writes == self.failing
     }
 
-    // Whether it was given the front of the text.
-    pub(crate) fn has_front(&self) -> bool {
+    /// Whether it was given the front of the text.
+    pub fn has_front(&self) -> bool {
         self.is_right
     }
 
-    // Whether it was given the text.
-    pub(crate) fn has_all(&self) -> bool {
+    /// Whether it was given the text.
+    pub fn has_all(&self) -> bool {
         self.is_right && self.rest.is_empty()
     }
 

@@ -7,7 +7,7 @@ use Rattle.wac_types.specs.Key.{Stands, AllStand, defined_key}
 use Rattle.wac_types.specs.Visits.{MayVisit, visits}
 use Rattle.wac_types.specs.declared.Type.TheVariants.{Value as TypeValue}
 use Rattle.wac_types.specs.declared.ValueType.TheVariants.{Defined}
-use Rattle.wac_api_tests.proofs.visits.lists_seen.Goals as goal
+use Rattle.wac_test_tools.proofs.visiting.lists_seen.Goals as goal
 
 -- a visitor that may be called on each id that stands may be called on these, if they stand
 MayVisit-standing : {F E : Type 0} (calls : Mut F (Bor Collection × (Id × Unit {0})) (Result (Unit {0}) E)) (c : Collection)

@@ -1,0 +1,135 @@
+//! Clones: a clone is like its original, and where it is refused the original is as before.
+
+use super::entries::entries;
+use super::trial::{Trial, demand, is_shown, refused, text_of};
+use std::alloc::Global;
+use std::fmt::Debug;
+use std::slice;
+use wac_script_entries::built;
+use wac_test_tools::debugs;
+use wac_types::{CoreExtern, DefinedType, Interface, ModuleType, NameClass, Types};
+
+// Clones a value.
+fn clones<T: Clone + Debug>(alloc: Global, value: &T) -> Trial {
+    let text = text_of(alloc, value)?;
+    match value.clone() {
+        Ok(copy) => demand(debugs(&copy, &text) && debugs(value, &text)),
+        Err(_) => refused(debugs(value, &text)),
+    }
+}
+
+// Clones each value of a list.
+fn clones_each<T: Clone + Debug>(alloc: Global, values: slice::Iter<'_, T>) -> Trial {
+    for value in values {
+        clones(alloc, value)?;
+    }
+    Ok(())
+}
+
+// Clones the part of a defined type that has a type of its own.
+fn clones_part(alloc: Global, ty: &DefinedType) -> Trial {
+    match ty {
+        DefinedType::Variant(part) => clones(alloc, part),
+        DefinedType::Record(part) => clones(alloc, part),
+        DefinedType::Flags(part) => clones(alloc, part),
+        DefinedType::Enum(part) => clones(alloc, part),
+        _ => Ok(()),
+    }
+}
+
+// Defined types of each kind.
+const DEFINED: &str = "def list u8
+def tuple d0 u8
+def fixed u8 4
+def map u8 d0
+def option d0
+def result u8 -
+def alias d0
+def stream u8
+def future -
+def variant a=- b=u8
+def record a=u8
+def flags a b
+def enum a b";
+
+fn clones_defined_types(alloc: Global) -> Trial {
+    let types = built(alloc, 1, DEFINED)?;
+    for ty in types.defined_types() {
+        clones(alloc, ty)?;
+        clones_part(alloc, ty)?;
+    }
+    Ok(())
+}
+
+#[test]
+fn defined_types_are_as_before_where_their_clones_are_refused(rt: HostRuntime) {
+    assert!(&rt;
+        is_shown(
+            clones_defined_types(rt.alloc()),
+            clones_defined_types(rt.alloc())
+        )
+    );
+}
+
+// Clones what an interface uses.
+fn clones_uses(alloc: Global, interface: &Interface) -> Trial {
+    for used in interface.uses.values() {
+        clones(alloc, used)?;
+    }
+    Ok(())
+}
+
+// Clones what is imported or exported, and of a function its type.
+fn clones_extern(alloc: Global, item: &CoreExtern) -> Trial {
+    clones(alloc, item)?;
+    match item {
+        CoreExtern::Func(ty) | CoreExtern::Tag(ty) => clones(alloc, ty),
+        _ => Ok(()),
+    }
+}
+
+fn clones_externs(alloc: Global, module: &ModuleType) -> Trial {
+    for item in module.imports.values() {
+        clones_extern(alloc, item)?;
+    }
+    for item in module.exports.values() {
+        clones_extern(alloc, item)?;
+    }
+    Ok(())
+}
+
+// Clones the contents of the other sorts, and their parts.
+fn clones_contents(alloc: Global, types: &Types) -> Trial {
+    clones_each(alloc, types.resources())?;
+    clones_each(alloc, types.func_types())?;
+    clones_each(alloc, types.interfaces())?;
+    clones_each(alloc, types.worlds())?;
+    clones_each(alloc, types.modules())?;
+    for interface in types.interfaces() {
+        clones_uses(alloc, interface)?;
+    }
+    for module in types.modules() {
+        clones_externs(alloc, module)?;
+    }
+    Ok(())
+}
+
+fn clones_entries(alloc: Global) -> Trial {
+    let types = entries(alloc)?;
+    clones_contents(alloc, &types)
+}
+
+#[test]
+fn entries_are_as_before_where_their_clones_are_refused(rt: HostRuntime) {
+    assert!(&rt; is_shown(clones_entries(rt.alloc()), clones_entries(rt.alloc())));
+}
+
+fn clones_class(alloc: Global) -> Trial {
+    let class = NameClass::of(alloc, "a:b/c@1.2.3")?;
+    clones(alloc, &class)
+}
+
+#[test]
+fn a_class_of_names_is_as_before_where_its_clone_is_refused(rt: HostRuntime) {
+    assert!(&rt; is_shown(clones_class(rt.alloc()), clones_class(rt.alloc())));
+}
