@@ -3,8 +3,8 @@
 use std::alloc::AllocError;
 use wac_test_tools::Expecting;
 
-// Whether a program ended with this status, after all that it prints. Where it ended with the status
-// 1 after a front of that, there was no memory.
+// Whether a program ended with this status, after all that it prints. Where it ended with the
+// status 1 after a front of that, an allocation failed.
 pub(crate) fn is_whole(
     answer: u8,
     status: u8,

@@ -125,7 +125,7 @@ fn a_benchmark_that_is_not_there_is_refused(rt: HostRuntime) {
 fn a_benchmark_of_no_size_is_refused(rt: HostRuntime) {
     let mut out = Expecting::of("");
     let mut err = Expecting::of(
-        "usage: wac-replay < SCRIPT | wac-replay check FILE.. | wac-replay bench NAME N\nstatus: 0 done, 1 no memory or a failed read or write, 2 refused, 3 an answer that differs\n",
+        "usage: wac-replay < SCRIPT | wac-replay check FILE.. | wac-replay bench NAME N\nstatus: 0 done, 1 a failed allocation, read or write, 2 refused, 3 an answer that differs\n",
     );
     let answer = run(
         &rt,

@@ -91,8 +91,8 @@ fn check_file<H: Files + AllocGlobal, W: Write, E: Write>(
     }
 }
 
-/// Checks the scripts in files, each as [`check_script`] does, and answers the status: 1 where there
-/// is no memory or a write fails, and 2 where a script is refused, and then no other is looked at;
+/// Checks the scripts in files, each as [`check_script`] does, and answers the status: 1 where
+/// an allocation or a write fails, and 2 where a script is refused, and then no other is looked at;
 /// else 3 where an answer of one differs, else 0. A file that can't be read as text is refused.
 pub(crate) fn check_files<H: Files + AllocGlobal, W: Write, E: Write>(
     rt: &H,

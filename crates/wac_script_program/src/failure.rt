@@ -50,7 +50,7 @@ impl fmt::Display for Failure<'_> {
             Failure::NoQuestion => write!(f, "expected a question before an answer"),
             Failure::NoAnswer => write!(f, "expected an answer after the question"),
             Failure::NoCommand => write!(f, "expected a command before a refusal"),
-            Failure::Other => write!(f, "no memory, or a read or a write failed"),
+            Failure::Other => write!(f, "an allocation, a read or a write failed"),
         }
     }
 }

@@ -7,7 +7,7 @@ use std::io::Write;
 /// right, and after a benchmark.
 pub const DONE: u8 = 0;
 
-/// The status where there was no memory, and where a read or a write failed.
+/// The status where an allocation, a read or a write failed.
 pub const FAILED: u8 = 1;
 
 /// The status after a line that is malformed and isn't said to be refused,
@@ -19,7 +19,7 @@ pub const DIFFERING: u8 = 3;
 
 // Which words are commands, and which statuses tell what became of them.
 const USAGE: &str = "usage: wac-replay < SCRIPT | wac-replay check FILE.. | wac-replay bench NAME N
-status: 0 done, 1 no memory or a failed read or write, 2 refused, 3 an answer that differs";
+status: 0 done, 1 a failed allocation, read or write, 2 refused, 3 an answer that differs";
 
 /// Prints the usage, and answers the status.
 pub fn usage<E: Write>(err: &mut E) -> u8 {

@@ -42,7 +42,7 @@ fn instance_side(alloc: Global, number: u64, n: u32) -> Result<Side, BenchError>
 }
 
 /// Whether the left item fits where the right one is asked for: `Answer` where it doesn't, and
-/// `Memory` where there is none to tell.
+/// `Memory` where an allocation fails.
 pub(crate) fn ask(
     alloc: Global,
     cache: &mut HashSet<(ItemKind, ItemKind)>,
