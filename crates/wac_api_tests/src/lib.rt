@@ -13,6 +13,8 @@ mod errors;
 #[cfg(test)]
 mod first_use;
 #[cfg(test)]
+mod limits;
+#[cfg(test)]
 mod merged_sharing;
 #[cfg(test)]
 mod name_maps;

@@ -88,17 +88,18 @@ module _ {K V M : Type 0} (R : V → V → Type 0) (f : V → V → Option V) (l
   meet_or_is None y h = h
   meet_or_is (Some v) y h = h
 
-  pub meet_by_name : ((v : V) → R v v) → ((k : K) (v : V) → a k ≡ Some v → (w : V) → IsMeetIn R v w (f v w))
+  pub meet_by_name : ((k : K) (v : V) → a k ≡ Some v → R v v) → ((k : K) (w : V) → b k ≡ Some w → R w w)
+      → ((k : K) (v : V) → a k ≡ Some v → (w : V) → b k ≡ Some w → IsMeetIn R v w (f v w))
       → (o : Option M) → IsTable look (λ k. meet_or f (a k) (b k) (b k)) o → IsMeetByName R look a b o
-  meet_by_name r h = go
+  meet_by_name r s h = go
     where
       at : (k : K) → IsMeetIn (Serves R) (a k) (b k) (meet_or f (a k) (b k) (b k))
-      at k = meet_or_is (a k) (b k) (opt_meet_is R f r (a k) (b k) (h k))
+      at k = meet_or_is (a k) (b k) (opt_meet_is R f (a k) (b k) (r k) (s k) (h k))
 
       go : (o : Option M) → IsTable look (λ k. meet_or f (a k) (b k) (b k)) o → IsMeetByName R look a b o
       go None p = (p.0, subst (IsMeetIn (Serves R) (a p.0) (b p.0)) p.1 (at p.0))
       go (Some m) p = λ k. subst (IsMeetIn (Serves R) (a k) (b k)) (p k) (at k)
 
-  pub join_by_name : ((k : K) (v : V) → a k ≡ Some v → (w : V) → IsJoinIn R v w (f v w))
+  pub join_by_name : ((k : K) (v : V) → a k ≡ Some v → (w : V) → b k ≡ Some w → IsJoinIn R v w (f v w))
       → (m : M) → ((k : K) → look m k ≡ opt_join f (a k) (b k)) → (k : K) → IsJoinIn (Serves R) (a k) (b k) (Some (look m k))
   join_by_name h m p k = subst (λ o. IsJoinIn (Serves R) (a k) (b k) (Some o)) (sym (p k)) (opt_join_is R f (a k) (b k) (h k))

@@ -59,15 +59,15 @@ module _ {V : Type 0} (R : V → V → Type 0) where
       above None p q = tt
       above (Some c) p q = h.2 c p q
 
-  pub opt_meet_is : (f : V → V → Option V) → ((v : V) → R v v) → (a b : Option V) → ((v : V) → a ≡ Some v → (w : V) → IsMeetIn R v w (f v w))
-      → IsMeetIn (Serves R) a b (opt_meet f a b)
-  opt_meet_is f r None None h = (tt, tt, λ c p q. tt)
-  opt_meet_is f r None (Some w) h = (tt, r w, λ c p q. q)
-  opt_meet_is f r (Some v) None h = (r v, tt, λ c p q. p)
-  opt_meet_is f r (Some v) (Some w) h = meet_both v w (f v w) (h v refl w)
+  pub opt_meet_is : (f : V → V → Option V) (a b : Option V) → ((v : V) → a ≡ Some v → R v v) → ((w : V) → b ≡ Some w → R w w)
+      → ((v : V) → a ≡ Some v → (w : V) → b ≡ Some w → IsMeetIn R v w (f v w)) → IsMeetIn (Serves R) a b (opt_meet f a b)
+  opt_meet_is f None None r s h = (tt, tt, λ c p q. tt)
+  opt_meet_is f None (Some w) r s h = (tt, s w refl, λ c p q. q)
+  opt_meet_is f (Some v) None r s h = (r v refl, tt, λ c p q. p)
+  opt_meet_is f (Some v) (Some w) r s h = meet_both v w (f v w) (h v refl w refl)
 
-  pub opt_join_is : (f : V → V → Option V) (a b : Option V) → ((v : V) → a ≡ Some v → (w : V) → IsJoinIn R v w (f v w))
+  pub opt_join_is : (f : V → V → Option V) (a b : Option V) → ((v : V) → a ≡ Some v → (w : V) → b ≡ Some w → IsJoinIn R v w (f v w))
       → IsJoinIn (Serves R) a b (Some (opt_join f a b))
   opt_join_is f None b h = (tt, tt, λ c p q. p)
   opt_join_is f (Some v) None h = (tt, tt, λ c p q. q)
-  opt_join_is f (Some v) (Some w) h = join_both v w (f v w) (h v refl w)
+  opt_join_is f (Some v) (Some w) h = join_both v w (f v w) (h v refl w refl)

@@ -51,17 +51,20 @@ leaves_within k l l' = (
 
 modules_within : (k : Kind) (a b : ModuleTree) → HaveBoundsWithin (core_module k a) (core_module k b)
 unfolding meet_within
-modules_within k a b = (modules_meet k a b (module_meet a b) (module_meet_is a b), modules_join k a b (module_join a b) (module_join_is a b))
+modules_within k a b = (
+  modules_meet k a b (module_meet a.content b.content) (module_meet_is a.content b.content a.valid b.valid),
+  modules_join k a b (module_join a.content b.content) (module_join_is a.content b.content a.valid b.valid),
+)
 
 -- what stands at each name of a meet and of a join of items
 module _ (es ts : Items) (h : (n : Text) (t : ItemTree) → item_at es n ≡ Some t → HasBounds t) where
   items_meet : IsMeetByName Fits item_at (item_at es) (item_at ts) (meet_items es (item_at ts) ts)
   unfolding HasBounds
-  items_meet = meet_by_name Fits tree_meet item_at (item_at es) (item_at ts) Fits-refl (λ n t e w. (h n t e w).0) (meet_items es (item_at ts) ts) (meet_items_at es (item_at ts) ts)
+  items_meet = meet_by_name Fits tree_meet item_at (item_at es) (item_at ts) (λ n t _. Fits-refl t) (λ n t _. Fits-refl t) (λ n t e w _. (h n t e w).0) (meet_items es (item_at ts) ts) (meet_items_at es (item_at ts) ts)
 
   items_join : (n : Text) → IsJoinIn (Serves Fits) (item_at es n) (item_at ts n) (Some (item_at (join_items es (item_at ts)) n))
   unfolding HasBounds
-  items_join = join_by_name Fits tree_join item_at (item_at es) (item_at ts) (λ n t e w. (h n t e w).1) (join_items es (item_at ts)) (join_items_at es (item_at ts))
+  items_join = join_by_name Fits tree_join item_at (item_at es) (item_at ts) (λ n t e w _. (h n t e w).1) (join_items es (item_at ts)) (join_items_at es (item_at ts))
 
 module _ (k : Kind) (s : Shape) (i e i' e' : Items)
     (hi : (n : Text) (t : ItemTree) → item_at i n ≡ Some t → HasBounds t)

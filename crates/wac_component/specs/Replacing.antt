@@ -7,7 +7,7 @@ use Rattle.wac_component.specs.Reach.{IsAmong, Reaches}
 use Rattle.wac_component.specs.Tree.{item_tree}
 use Rattle.wac_component.specs.declared.items.ItemKind.{ItemKind}
 use Rattle.wac_component.specs.declared.collection.replace.ReplaceError.{ReplaceError}
-use Rattle.wac_component.specs.declared.collection.replace.ReplaceError.TheVariants.{Cycle, Memory}
+use Rattle.wac_component.specs.declared.collection.replace.ReplaceError.TheVariants.{Cycle, Memory, Limits}
 
 -- the collection with another entry at this index in the list of its sort
 abbrev pub replaced : Collection → ℕ → Entry → Collection
@@ -37,3 +37,11 @@ abbrev pub AnswersReplace : {T : Type 0} → Result Unit (ReplaceError T) → T 
 AnswersReplace (Ok done) content IsCycle = ¬ IsCycle
 AnswersReplace (Err (Cycle back)) content IsCycle = (back ≡ content) × IsCycle
 AnswersReplace (Err (Memory back)) content IsCycle = back ≡ content
+AnswersReplace (Err (Limits back)) content IsCycle = ⊥
+
+-- the same of a core module, which names no ids and takes no memory: refused
+-- exactly where something in it isn't valid
+abbrev pub AnswersReplaceModule : {T : Type 0} → Result Unit (ReplaceError T) → T → Type 0 → Type 0
+AnswersReplaceModule (Ok done) content IsValid = IsValid
+AnswersReplaceModule (Err (Limits back)) content IsValid = (back ≡ content) × ¬ IsValid
+AnswersReplaceModule (Err refused) content IsValid = ⊥

@@ -4,7 +4,7 @@ use Rattle.std.specs.Prelude.{◌≡◌, ◌≢◌, List, [], ◌∷◌, Some, N
 use Rattle.std.specs.Option.{option_map_or}
 use Rattle.wac_model.specs.Text.{Text}
 use Rattle.wac_model.specs.ValueTree.{ValueTree, FuncTree, node, no_parts, parts_of, primitive, borrow, own, tuple}
-use Rattle.wac_model.specs.CoreTree.{ModuleTree}
+use Rattle.wac_model.specs.CoreTree.{ModuleTree, module_of}
 use Rattle.wac_model.specs.ItemTree.{ItemTree, Items, item, type_item, leaf, core_module, composite, interface, world, no_items, named, resource, func, value}
 use Rattle.wac_component.specs.Id.{Id}
 use Rattle.wac_component.specs.Collection.{Collection, DefinedContent, alias_of, composed, ResourceContent, FuncContent, InterfaceContent, WorldContent}
@@ -63,7 +63,7 @@ func_tree c f = option_map_or (func_content_tree c) (slice_get c.funcs f.index) 
 
 -- the tree of a core module
 abbrev pub module_tree : Collection → Id → ModuleTree
-module_tree c m = option_map_or (λ t. t) (slice_get c.modules m.index) (record { imports = []; exports = [] })
+module_tree c m = option_map_or (λ t. t) (slice_get c.modules m.index) (module_of (record { imports = []; exports = [] }))
 
 -- what an interface or a world imports and exports; an interface imports nothing
 pub record Externs : Type 0 where

@@ -1,6 +1,6 @@
 //! Collections of types.
 
-ghost use Rattle.std.specs.Prelude.{◌≡◌, ◌<◌, ◌≤◌, ◌++◌, ◌↔◌, [], ◌∷◌, length, map, slice_get, IsTrue, OnOk, OnErr, IfOk};
+ghost use Rattle.std.specs.Prelude.{◌≡◌, ◌<◌, ◌≤◌, ◌++◌, ◌↔◌, [], ◌∷◌, length, map, slice_get, All, IsTrue, OnOk, OnErr, IfOk};
 ghost use Rattle.std.specs.Slice.Iter.{iter_rest};
 
 use super::defined::DefinedType;
@@ -13,21 +13,23 @@ use super::worlds::World;
 use std::alloc::{AllocError, Global};
 use std::marker::Model;
 use std::slice;
-use wac_core::ModuleType;
+use wac_core::{ModuleType, has_valid_limits};
 
 mod index;
+mod module_error;
 mod naming;
 mod places;
 mod replace;
 mod search;
 mod standing;
 
+pub use module_error::ModuleError;
 pub use replace::ReplaceError;
 
 /// A collection of types.
 ///
-/// Each id in an entry leads to an entry of the collection, and no walk along ids leads back to its
-/// start.
+/// Each id in an entry leads to an entry of the collection, no walk along ids leads back to its
+/// start, and each table or memory of a core module starts within its maximum.
 #[derive(Debug)]
 pub struct Types {
     number: u64,
@@ -60,16 +62,16 @@ impl Model for Types {
 
     ghost Value = { Collection };
 
-    ghost use Rattle.wac_component.specs.Sound.{IsSound};
-    ghost use Rattle.wac_component.specs.View.{collection_of};
+    ghost use Rattle.wac_component.specs.View.{collection_of, IsKept};
 
     ghost view = { collection_of };
 
-    ghost invariant = { λ a. IsSound (collection_of a) };
+    ghost invariant = { IsKept };
 }
 
 impl Types {
-    ghost use Rattle.wac_core.specs.Content.{module_content};
+    ghost use Rattle.wac_model.specs.CoreTree.{is_valid_module};
+    ghost use Rattle.wac_core.specs.Content.{module_content, core_module_of};
     ghost use Rattle.wac_component.specs.Content.{defined_content, resource_content, func_content, interface_content, world_content};
     ghost use Rattle.wac_component.specs.Key.{Stands, AllStand, value_keys, type_keys, defined_key, resource_key, func_key, interface_key, world_key, module_key, defined_keys, resource_keys, func_keys, interface_keys, world_keys};
     ghost use Rattle.wac_component.specs.Sound.{IsSound};
@@ -77,6 +79,7 @@ impl Types {
     ghost use Rattle.wac_component.specs.Tree.{value_tree, content_tree, root_name, content_name, func_tree, func_content_tree, module_tree, item_tree, externs, interface_externs, world_externs, IsResolved, IsRoot};
     ghost use Rattle.wac_component.specs.Aliases.{IsMeantBy, IsSourceOf};
     ghost use Rattle.wac_component.specs.Growth.{Extends};
+    ghost use Rattle.wac_component.specs.Adding.{AnswersAddModule};
     ghost use Rattle.wac_component.specs.declared.items.ValueType.TheVariants.{Defined};
 
     /// An empty collection of this number.
@@ -136,9 +139,10 @@ impl Types {
         self.worlds.iter()
     }
 
-    /// The core module types in order.
+    /// The core module types in order, whose externs are valid.
     pub fn modules(&self) -> slice::Iter<'_, ModuleType>
-        ensures { map module_content (iter_rest result) ≡ self.now.modules }
+        ensures entries { map core_module_of (iter_rest result) ≡ self.now.modules }
+        ensures valid { All (λ m. IsTrue (is_valid_module (module_content m))) (iter_rest result) }
     {
         self.modules.iter()
     }
@@ -218,17 +222,24 @@ impl Types {
         Ok(WorldId::at(self.number, index))
     }
 
-    /// Puts a core module type last; where an allocation fails the collection is unchanged.
-    pub fn add_module_type(&mut self, ty: ModuleType) -> Result<ModuleTypeId, AllocError>
-        ensures added { OnOk result (self.new ≡ record self.old { modules = self.old.modules ++ module_content ty ∷ [] }) }
+    /// Puts a core module type last. `Limits` exactly where a table or a memory in it starts above
+    /// its maximum. Refused, also where an allocation fails, the collection is unchanged.
+    pub fn add_module_type(&mut self, ty: ModuleType) -> Result<ModuleTypeId, ModuleError>
+        ensures added { OnOk result (self.new ≡ record self.old { modules = self.old.modules ++ core_module_of ty ∷ [] }) }
+        ensures answer { AnswersAddModule result (IsTrue (is_valid_module (module_content ty))) }
         ensures id { IfOk result (λ id. id ≡ record { number = self.old.number; index = length self.old.modules }) }
         ensures stands { IfOk result (λ id. Stands self.new (module_key id)) }
-        ensures tree { IfOk result (λ id. module_tree self.new id ≡ module_content ty) }
+        ensures tree { IfOk result (λ id. (module_tree self.new id).content ≡ module_content ty) }
         ensures grows { Extends self.old self.new }
         ensures err { OnErr result (self.new ≡ self.old) }
     {
+        if !has_valid_limits(&ty) {
+            return Err(ModuleError::Limits);
+        }
         let index = self.modules.len();
-        self.modules.push(ty)?;
+        let Ok(()) = self.modules.push(ty) else {
+            return Err(ModuleError::Memory);
+        };
         Ok(ModuleTypeId::at(self.number, index))
     }
 
@@ -345,7 +356,8 @@ impl Types {
 
     fn module_entry(&self, id: ModuleTypeId) -> &ModuleType
         requires { Stands self.now (module_key id) }
-        ensures { slice_get self.now.modules id.index ≡ Some (module_content result.now) }
+        ensures entry { slice_get self.now.modules id.index ≡ Some (core_module_of result.now) }
+        ensures valid { IsTrue (is_valid_module (module_content result.now)) }
     {
         &self.modules[id.index()]
     }

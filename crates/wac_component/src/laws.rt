@@ -2,7 +2,7 @@
 //! function that changes nothing.
 
 ghost use Rattle.wac_component.specs.Laws.{IsReflexive, IsTransitive, TreesFollowEntries, ImportsAreApart, LeavesDependOnLeaves, OneSourceHasOneName, WalksStand, NoWalkReturns, VisitsStand};
-ghost use Rattle.wac_core.specs.Content.{module_content};
+ghost use Rattle.wac_core.specs.Content.{core_module_of};
 ghost use Rattle.wac_component.specs.Content.{defined_content, func_content, interface_content, world_content};
 ghost use Rattle.wac_component.specs.Distinct.{HasDistinctNames, HasDistinctNamesAt};
 ghost use Rattle.wac_component.specs.Key.{defined_entry, func_entry, interface_entry, world_entry, module_entry, Each, Stands, AllStand, defined_key, func_key, interface_key, world_key, module_key, type_keys, value_keys};
@@ -88,7 +88,7 @@ pub fn names_in_a_world_are_distinct(world: &World)
 /// The names of a core module's imports are distinct, each of them with the module that it is from,
 /// and so are the names of its exports.
 pub fn names_in_a_module_are_distinct(ty: &ModuleType)
-    ensures { HasDistinctNames (module_entry (module_content ty.now)) }
+    ensures { HasDistinctNames (module_entry (core_module_of ty.now)) }
 {
     let _ = ty.imports.len();
     let _ = ty.exports.len();

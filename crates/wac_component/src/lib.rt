@@ -14,10 +14,11 @@ pub mod items;
 pub mod laws;
 mod parts;
 pub mod resources;
+pub mod valid;
 pub mod visits;
 pub mod worlds;
 
-pub use collection::{ReplaceError, Types};
+pub use collection::{ModuleError, ReplaceError, Types};
 pub use defined::{DefinedType, Enum, Flags, Record, Variant};
 pub use functions::{FuncKind, FuncType};
 pub use ids::{DefinedTypeId, FuncTypeId, InterfaceId, ModuleTypeId, ResourceId, WorldId};

@@ -18,6 +18,7 @@ use super::places::{
 };
 use indexmap::IndexMap;
 use std::alloc::AllocError;
+use wac_component::valid::add_valid_module_type;
 use wac_component::{
     DefinedType, DefinedTypeId, FuncType, FuncTypeId, Interface, InterfaceId, ItemKind,
     ModuleTypeId, Record, Resource, ResourceAlias, ResourceId, Type, Types, UsedType, ValueType,
@@ -474,7 +475,7 @@ fn copy_module(
         return Ok(copy);
     }
     types.sound();
-    let copy = own.add_module_type(types[id].clone()?)?;
+    let copy = add_valid_module_type(own, types[id].clone()?)?;
     copies.put_module(id, copy)?;
     Ok(copy)
 }

@@ -1,8 +1,9 @@
--- Core externs that are equal but for limits have the bounds that their limits have.
-use Rattle.std.proofs.Common.{◌≡◌, ◌↔◌, Bool, true, subst, sym, ◌∙◌, Some}
+-- Core externs that are equal but for limits have the bounds that their
+-- limits have, if these are valid.
+use Rattle.std.proofs.Common.{◌≡◌, ◌↔◌, refl, Bool, true, false, subst, sym, ◌∙◌, Some, None}
 use Rattle.std.specs.Bool.{beq}
 use Rattle.std.specs.Cmp.{booleans_Decides}
-use Rattle.wac_model.specs.CoreTree.{Limits, CoreTree, plain, limited, func, tag, table, global, LimitsFit, CoreFits}
+use Rattle.wac_model.specs.CoreTree.{Limits, CoreTree, plain, limited, func, tag, table, global, LimitsFit, CoreFits, is_within, is_valid_extern}
 use Rattle.wac_core.specs.Content.{ref_tree, core_type_tree, func_content}
 use Rattle.wac_core.specs.declared.values.CoreRefType.{CoreRefType}
 use Rattle.wac_core.specs.declared.values.CoreType.{CoreType}
@@ -12,7 +13,8 @@ use Rattle.wac_core.specs.contracts.values.CoreFuncTypePartialEq.TheImpl.{ghosts
 use Rattle.wac_core.specs.declared.values.CoreFuncType.{CoreFuncType}
 use Rattle.wac_core.proofs.TypeLemmas.{ref_exact, type_exact, func_decides}
 use Rattle.wac_bounds.specs.MeetIn.{IsMeetIn, IsJoinIn}
-use Rattle.wac_bounds.proofs.CoreMeet.{limited_meet, limited_join}
+use Rattle.wac_bounds.specs.Valid.{ValidFits}
+use Rattle.wac_bounds.proofs.CoreMeet.{limited_meet, limited_join, valid_if, meet_among_valid}
 use Rattle.wac_core_merge.specs.Limits.{of_plain, of_limited, label_of, limits_of, with_limits}
 
 pub meet_by_limits : (a b m : CoreTree) (x y l : Limits) → label_of a ≡ label_of b → Some x ≡ limits_of a → Some y ≡ limits_of b → IsMeetIn LimitsFit x y (Some l) → m ≡ with_limits a l → IsMeetIn CoreFits a b (Some m)
@@ -30,6 +32,45 @@ join_by_limits (limited k p) (limited j q) m x y l same at_a at_b join is =
     rw is (limited_join k j (cc) p q l (subst (λ z. IsJoinIn LimitsFit p z (Some l)) f (subst (λ z. IsJoinIn LimitsFit z y (Some l)) e join)))
 join_by_limits (limited k p) (plain j) m x y l same at_a at_b join is = absurd (cc)
 join_by_limits (plain k) b m x y l same at_a at_b join is = absurd (cc)
+
+-- the meet among all externs is the one among valid ones if it is valid, and else there is none
+met_if : (a b m : CoreTree) (valid : Bool) → IsMeetIn CoreFits a b (Some m) → is_valid_extern m ≡ valid → IsMeetIn ValidFits a b (valid_if valid m)
+met_if a b m valid h is = subst (λ t. IsMeetIn ValidFits a b (valid_if t m)) is (meet_among_valid a b (Some m) h)
+
+valid_with : (a : CoreTree) (x l : Limits) → Some x ≡ limits_of a → is_valid_extern (with_limits a l) ≡ is_within l.initial l.maximum
+valid_with (limited k p) x l at = refl
+valid_with (plain k) x l at = absurd (cc)
+
+module _ (a b : CoreTree) (x y l : Limits) (same : label_of a ≡ label_of b) (at_a : Some x ≡ limits_of a) (at_b : Some y ≡ limits_of b) (meet : IsMeetIn LimitsFit x y (Some l)) where
+  pub valid_meet_by_limits : (m : CoreTree) → m ≡ with_limits a l → is_within l.initial l.maximum ≡ true → IsMeetIn ValidFits a b (Some m)
+  valid_meet_by_limits m is valid = met_if a b m true (meet_by_limits a b m x y l same at_a at_b meet is) (rw is (valid_with a x l at_a ∙ valid))
+
+  pub no_valid_meet_by_limits : is_within l.initial l.maximum ≡ false → IsMeetIn ValidFits a b None
+  no_valid_meet_by_limits invalid = met_if a b (with_limits a l) false (meet_by_limits a b (with_limits a l) x y l same at_a at_b meet refl) (valid_with a x l at_a ∙ invalid)
+
+-- externs without limits
+pub plain_meet : (a b m : CoreTree) → label_of a ≡ label_of b → limits_of a ≡ None → m ≡ a → IsMeetIn ValidFits a b (Some m)
+plain_meet (plain k) (plain l) m same none is = rw is ((refl, refl, refl), (refl, refl, cc), λ c p q. p)
+plain_meet (plain k) (limited l q) m same none is = absurd (cc)
+plain_meet (limited k p) b m same none is = absurd (cc)
+
+pub labels_of_plain : (a b : CoreTree) → label_of a ≡ label_of b → limits_of b ≡ None → limits_of a ≡ None
+labels_of_plain (plain k) b same none = refl
+labels_of_plain (limited k p) (plain l) same none = absurd (cc)
+labels_of_plain (limited k p) (limited l q) same none = absurd (cc)
+
+-- externs of different labels
+pub no_meet_of_labels : (a b : CoreTree) → (label_of a ≡ label_of b → ⊥) → IsMeetIn ValidFits a b None
+no_meet_of_labels a b apart = λ c p q. apart (below a c p.2 ∙ sym (below b c q.2))
+  where
+    below : (a c : CoreTree) → CoreFits c a → label_of a ≡ label_of c
+    below (limited k x) (limited l y) p = let e = p.0 in cc
+    below (plain k) (limited l y) p = absurd (cc)
+    below a (plain l) p = let e : plain l ≡ a = go a p in cc
+      where
+        go : (a : CoreTree) → CoreFits (plain l) a → plain l ≡ a
+        go (plain k) p = p
+        go (limited k x) p = p
 
 -- what `==` says of the parts of two labels
 module _ (x_flag y_flag x_shared y_shared : Bool) where

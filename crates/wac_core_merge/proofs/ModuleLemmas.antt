@@ -1,31 +1,36 @@
 -- Lists of named core externs, met and joined: what stands at each name there,
--- and where each entry comes from.
-use Rattle.std.proofs.Common.{◌≡◌, refl, sym, ap, subst, ◌∙◌, Bool, List, [], ◌∷◌, ◌++◌, map, Option, None, Some, option_map, All, String, Global, string_bytes}
+-- and where each entry comes from. What comes from valid externs is valid.
+use Rattle.std.proofs.Common.{◌≡◌, true, refl, sym, ap, subst, ◌∙◌, Bool, List, [], ◌∷◌, ◌++◌, map, Option, None, Some, option_map, All, String, Global, string_bytes}
 use Rattle.std.specs.Bool.{Decides}
 use Rattle.std.specs.Cmp.{IsEquivalence}
 use Rattle.std.specs.Option.{option_or}
-use Rattle.std.specs.List.{IsDistinct}
+use Rattle.std.specs.List.{IsDistinct, list_all}
 use Rattle.std.specs.Map.{keys_of, lookup as lookup_by}
-use Rattle.std.proofs.lemmas.List.Elements.{All-weaker}
-use Rattle.wac_model.specs.Text.{Text, ImportName, lookup}
-use Rattle.wac_model.specs.CoreTree.{CoreTree, CoreFits, Serves}
+use Rattle.std.proofs.lemmas.List.Elements.{All-head, All-tail, All-weaker}
+use Rattle.std.proofs.lemmas.List.Folds.{list_all-append}
+use Rattle.std.specs.Str.{bytes_eq}
+use Rattle.wac_model.specs.Text.{Text, ImportName, lookup, import_name_eq}
+use Rattle.wac_model.specs.CoreTree.{CoreTree, Serves, is_valid_extern, ModuleContent, is_valid_module}
 use Rattle.wac_model.proofs.CoreOrder.{CoreFits-refl, CoreFits-antisym}
 use Rattle.wac_model.proofs.Lookups.{lookup-shown, IsDistinct-shown}
 use Rattle.wac_model.proofs.Serves.{Serves-refl}
 use Rattle.wac_bounds.specs.MeetIn.{IsMeetIn}
+use Rattle.wac_bounds.specs.Valid.{ValidFits}
+use Rattle.wac_bounds.proofs.CoreMeet.{valid_above}
+use Rattle.wac_bounds.proofs.ValidLemmas.{and_first, and_second, and_both, are_valid, IsValidAt, found_valid, valid_refl, export_valid, import_valid}
 use Rattle.indexmap.specs.IndexMap.{IndexMap, IsClone}
 use Rattle.wac_core.specs.Content.{core_tree, import_name}
 use Rattle.wac_core.proofs.CloneLemmas.{entries-clones, import_name-same}
 use Rattle.wac_core.specs.declared.externs.CoreExtern.{CoreExtern}
 use Rattle.wac_core_merge.specs.Names.{put, with_new}
-use Rattle.wac_core_merge.specs.Entries.{IsMeetAt, IsJoinAt, Replaces, extern_at, IsEachMet, IsEachJoined, HasNoMeet, AreAllMet}
+use Rattle.wac_core_merge.specs.Entries.{AreValid, IsMeetAt, IsJoinAt, Replaces, extern_at, IsEachMet, IsEachJoined, HasNoMeet, AreAllMet}
 use Rattle.wac_core_merge.specs.NameOrder.{HasAllNames, HasSomeNames}
-use Rattle.wac_core_merge.specs.Origin.{IsFrom, from_first, from_second, from_meet, from_join}
+use Rattle.wac_core_merge.specs.Origin.{IsFrom, from_first, from_second, from_meet, from_join, IsModuleFrom}
 use Rattle.wac_core_merge.proofs.NameLemmas.{lookup-by_test, lookup_at_turn, All-with_new, lookup-with_new, with_new-shown, keys-with_new}
 use Rattle.wac_core_merge.proofs.EntryLemmas.{Replaces-turn, Replaces-absent, Replaces-All, Replaces-at, Replaces-names, Replaces-some_names, All-found, Replaces-shown}
 
 met_from : (a b : Option CoreTree) (v w : CoreTree) → a ≡ Some v → IsMeetAt (Some v) b (Some w) → IsFrom a b w
-met_from a None v w at m = from_first (at ∙ ap Some (CoreFits-antisym v w (m.2 (Some v) (CoreFits-refl v) tt) m.0))
+met_from a None v w at m = from_first (at ∙ ap Some (CoreFits-antisym v w (m.2 (Some v) (m.0.1, m.0.1, CoreFits-refl v) tt).2 m.0.2))
 met_from a (Some u) v w at m = from_meet v u at refl (m.0, m.1, λ c. m.2 (Some c))
 
 joined_from : (a b : Option CoreTree) (v w : CoreTree) → a ≡ Some v → IsJoinAt (Some v) b (Some w) → IsFrom a b w
@@ -42,8 +47,8 @@ module _ {K : Type 0} (is_same : K → K → Bool) (decides : (m n : K) → Deci
   abbrev ComesFrom : K × CoreTree → Type 0
   ComesFrom e = IsFrom (lookup is_same es e.0) (lookup is_same ts e.0) e.1
 
-  meets_at : (each : List (K × CoreTree)) → Replaces MeetHere es each → (n : K) → IsMeetAt (lookup is_same es n) (lookup is_same ts n) (lookup is_same (with_new is_same each ts) n)
-  meets_at each h n = subst (IsMeetAt (lookup is_same es n) (lookup is_same ts n)) (sym (lookup-with_new is_same decides each ts n)) (go (lookup is_same es n) refl)
+  meets_at : are_valid ts ≡ true → (each : List (K × CoreTree)) → Replaces MeetHere es each → (n : K) → IsMeetAt (lookup is_same es n) (lookup is_same ts n) (lookup is_same (with_new is_same each ts) n)
+  meets_at valid each h n = subst (IsMeetAt (lookup is_same es n) (lookup is_same ts n)) (sym (lookup-with_new is_same decides each ts n)) (go (lookup is_same es n) refl)
     where
       kept : (v : CoreTree) (o : Option CoreTree) → IsMeetAt (Some v) (lookup is_same ts n) o → IsMeetAt (Some v) (lookup is_same ts n) (option_or o (lookup is_same ts n))
       kept v None r = absurd r.0
@@ -51,7 +56,7 @@ module _ {K : Type 0} (is_same : K → K → Bool) (decides : (m n : K) → Deci
 
       go : (o : Option CoreTree) → lookup is_same es n ≡ o → IsMeetAt o (lookup is_same ts n) (option_or (lookup is_same each n) (lookup is_same ts n))
       go (Some v) p = kept v (lookup is_same each n) (Replaces-at is_same decides MeetHere es each distinct h n v p)
-      go None p = rw (Replaces-absent is_same MeetHere es each n h p) (tt, Serves-refl CoreFits (lookup is_same ts n) (λ v _. CoreFits-refl v), λ c p q. q)
+      go None p = rw (Replaces-absent is_same MeetHere es each n h p) (tt, Serves-refl ValidFits (lookup is_same ts n) (valid_refl (lookup is_same ts n) (found_valid is_same ts valid n)), λ c p q. q)
 
   joins_at : (ms : List (K × CoreTree)) → Replaces JoinHere es ms → (n : K) → IsJoinAt (lookup is_same es n) (lookup is_same ts n) (lookup is_same ms n)
   joins_at ms h n = go (lookup is_same es n) refl
@@ -75,25 +80,58 @@ module _ {K : Type 0} (is_same : K → K → Bool) (decides : (m n : K) → Deci
       Replaces-All is_same JoinHere ComesFrom es ms h
       (All-weaker (λ e. lookup is_same es e.0 ≡ Some e.1) (λ e. (v : CoreTree) → JoinHere e.0 e.1 (Some v) → ComesFrom (e.0, v)) (λ e at v m. joined_from _ _ e.1 v at m) es (All-found is_same decides es distinct))
 
+-- what comes from valid externs is valid
+origin_valid : (a b : Option CoreTree) (v : CoreTree) → IsValidAt a → IsValidAt b → IsFrom a b v → is_valid_extern v ≡ true
+origin_valid a b v va vb (from_first e) = va v e
+origin_valid a b v va vb (from_second e) = vb v e
+origin_valid a b v va vb (from_meet x y e f m) = m.0.0
+origin_valid a b v va vb (from_join x y e f m) = valid_above x v m.0 (va x e)
+
+module _ {K : Type 0} (a b : K → Option CoreTree) (va : (n : K) → IsValidAt (a n)) (vb : (n : K) → IsValidAt (b n)) where
+  all_valid : (es : List (K × CoreTree)) → All (λ e. IsFrom (a e.0) (b e.0) e.1) es → are_valid es ≡ true
+  all_valid [] h = refl
+  all_valid (e ∷ es) h =
+      and_both (is_valid_extern e.1) (are_valid es) (origin_valid (a e.0) (b e.0) e.1 (va e.0) (vb e.0) (All-head (λ e. IsFrom (a e.0) (b e.0) e.1) e es h))
+      (all_valid es (All-tail (λ e. IsFrom (a e.0) (b e.0) e.1) e es h))
+
+pub module_from_valid : (a b m : ModuleContent) → is_valid_module a ≡ true → is_valid_module b ≡ true → IsModuleFrom a b m → is_valid_module m ≡ true
+module_from_valid a b m va vb h =
+    and_both (are_valid m.imports) (are_valid m.exports)
+    (all_valid (lookup import_name_eq a.imports) (lookup import_name_eq b.imports) (import_valid a va) (import_valid b vb) m.imports h.imports)
+    (all_valid (lookup bytes_eq a.exports) (lookup bytes_eq b.exports) (export_valid a va) (export_valid b vb) m.exports h.exports)
+
+-- the extern whose turn it is, of a list of valid ones
+pub valid_turn : {K : Type 0} (all done rest left : List (K × CoreExtern)) (n : K) (v : CoreExtern) → AreValid all → all ≡ done ++ rest → rest ≡ (n, v) ∷ left → is_valid_extern (core_tree v) ≡ true
+valid_turn {K} all done rest left n v valid split here =
+    let test : K × CoreExtern → Bool = λ e. is_valid_extern (core_tree e.1) in
+    let whole : list_all test (done ++ (n, v) ∷ left) ≡ true = subst (λ l. list_all test l ≡ true) (split ∙ ap (λ l. done ++ l) here) valid in
+    and_first (is_valid_extern (core_tree v)) (list_all test left) (and_second (list_all test done) (list_all test ((n, v) ∷ left)) (sym (list_all-append test done ((n, v) ∷ left)) ∙ whole))
+
+-- what is shown of externs is valid where they are
+pub shown_are_valid : {K L : Type 0} (show_key : K → L) (es : List (K × CoreExtern)) → are_valid (map {A = K × CoreExtern} {B = L × CoreTree} (λ e. (show_key e.0, core_tree e.1)) es) ≡ true → AreValid es
+shown_are_valid show_key [] h = refl
+shown_are_valid show_key (e ∷ es) h =
+    and_both (is_valid_extern (core_tree e.1)) _ (and_first (is_valid_extern (core_tree e.1)) _ h) (shown_are_valid show_key es (and_second (is_valid_extern (core_tree e.1)) _ h))
+
 -- one more extern of a list that is taken entry by entry
 module _ {K : Type 0} {eq : K → K → Bool} (laws : IsEquivalence eq) (all done rest left ts : List (K × CoreExtern)) (n : K) (v : CoreExtern)
     (distinct : IsDistinct eq (keys_of all)) (split : all ≡ done ++ rest) (here : rest ≡ (n, v) ∷ left) (there : Option CoreExtern) (found : there ≡ lookup_by (eq n) ts) (o : Option CoreExtern) where
   at : option_map core_tree there ≡ extern_at eq ts n
   at = ap (option_map core_tree) found
 
-  module _ (met : IsMeetIn (Serves CoreFits) (Some (core_tree v)) (option_map core_tree there) (option_map Some (option_map core_tree o))) where
+  module _ (met : IsMeetIn (Serves ValidFits) (Some (core_tree v)) (option_map core_tree there) (option_map Some (option_map core_tree o))) where
     pub meet_turn : (w : CoreExtern) → o ≡ Some w → (so_far new : List (K × CoreExtern)) → IsEachMet eq done ts so_far → new ≡ with_new eq so_far ((n, w) ∷ [])
         → (all ≡ (done ++ (n, v) ∷ []) ++ left) × IsEachMet eq (done ++ (n, v) ∷ []) ts new
     meet_turn w is so_far new h new_is =
         Replaces-turn laws (λ n v o. IsMeetAt (Some (core_tree v)) (extern_at eq ts n) (option_map core_tree o)) all done rest left so_far new (n, v) (Some w) distinct split here h
-        (subst (λ x. IsMeetAt (Some (core_tree v)) x (Some (core_tree w))) at (subst (λ p. IsMeetIn (Serves CoreFits) (Some (core_tree v)) (option_map core_tree there) (option_map Some (option_map core_tree p))) is met)) new_is
+        (subst (λ x. IsMeetAt (Some (core_tree v)) x (Some (core_tree w))) at (subst (λ p. IsMeetIn (Serves ValidFits) (Some (core_tree v)) (option_map core_tree there) (option_map Some (option_map core_tree p))) is met)) new_is
 
     pub no_meet_turn : o ≡ None → HasNoMeet eq all ts
     no_meet_turn is =
         let first : extern_at eq all n ≡ Some (core_tree v) = ap (option_map core_tree) (sym (lookup-by_test eq all n) ∙ lookup_at_turn laws all done rest left (n, v) distinct split here) in (
           n,
-          subst (λ x. IsMeetIn (Serves CoreFits) x (extern_at eq ts n) None) (sym first)
-              (subst (λ x. IsMeetIn (Serves CoreFits) (Some (core_tree v)) x None) at (subst (λ p. IsMeetIn (Serves CoreFits) (Some (core_tree v)) (option_map core_tree there) (option_map Some (option_map core_tree p))) is met)),
+          subst (λ x. IsMeetIn (Serves ValidFits) x (extern_at eq ts n) None) (sym first)
+              (subst (λ x. IsMeetIn (Serves ValidFits) (Some (core_tree v)) x None) at (subst (λ p. IsMeetIn (Serves ValidFits) (Some (core_tree v)) (option_map core_tree there) (option_map Some (option_map core_tree p))) is met)),
         )
 
   pub join_turn : IsJoinAt (Some (core_tree v)) (option_map core_tree there) (option_map core_tree o) → (so_far new : List (K × CoreExtern)) → IsEachJoined eq done ts so_far → new ≡ with_new eq so_far (put n o [])
@@ -118,24 +156,24 @@ module _ {K L : Type 0} (show_key : K → L) (eq : K → K → Bool) (is_same : 
     each_joined ms h = Replaces-shown show_key core_tree _ _ (λ k v o. subst (λ x. IsJoinAt (Some (core_tree v)) x (option_map core_tree o)) (same_at ts k)) es ms h
 
     module _ (xs ys : List (L × CoreTree)) (first : shown es ≡ xs) (second : shown ts ≡ ys) where
-      pub no_meet_at : HasNoMeet eq es ts → (n : L) × IsMeetIn (Serves CoreFits) (lookup is_same xs n) (lookup is_same ys n) None
+      pub no_meet_at : HasNoMeet eq es ts → (n : L) × IsMeetIn (Serves ValidFits) (lookup is_same xs n) (lookup is_same ys n) None
       no_meet_at h =
           let n = show_key h.0 in
           let at_first : extern_at eq es h.0 ≡ lookup is_same xs n = same_at es h.0 ∙ ap (λ l. lookup is_same l n) first in
           let at_second : extern_at eq ts h.0 ≡ lookup is_same ys n = same_at ts h.0 ∙ ap (λ l. lookup is_same l n) second in
-          (n, subst (λ x. IsMeetIn (Serves CoreFits) x (lookup is_same ys n) None) at_first (subst (λ y. IsMeetIn (Serves CoreFits) (extern_at eq es h.0) y None) at_second h.1))
+          (n, subst (λ x. IsMeetIn (Serves ValidFits) x (lookup is_same ys n) None) at_first (subst (λ y. IsMeetIn (Serves ValidFits) (extern_at eq es h.0) y None) at_second h.1))
 
       module _ (distinct : IsDistinct eq (keys_of es)) (ms : List (K × CoreExtern)) where
         distinct_names : IsDistinct is_same (keys_of (shown es))
         distinct_names = IsDistinct-shown show_key eq is_same agree core_tree es distinct
 
-        pub meet_at : AreAllMet eq es ts (Some ms) → (n : L) → IsMeetAt (lookup is_same xs n) (lookup is_same ys n) (lookup is_same (shown ms) n)
-        meet_at h n =
+        pub meet_at : are_valid ys ≡ true → AreAllMet eq es ts (Some ms) → (n : L) → IsMeetAt (lookup is_same xs n) (lookup is_same ys n) (lookup is_same (shown ms) n)
+        meet_at valid h n =
             let is : shown ms ≡ with_new is_same (shown h.0) (shown ts) = ap shown h.2 ∙ with_new-shown show_key core_tree eq is_same agree h.0 ts in
             subst (λ l. IsMeetAt (lookup is_same l n) (lookup is_same ys n) (lookup is_same (shown ms) n)) first
             (subst (λ l. IsMeetAt (lookup is_same (shown es) n) (lookup is_same l n) (lookup is_same (shown ms) n)) second
             (subst (λ l. IsMeetAt (lookup is_same (shown es) n) (lookup is_same (shown ts) n) (lookup is_same l n)) (sym is)
-            (meets_at is_same decides (shown es) (shown ts) distinct_names (shown h.0) (each_met h.0 h.1) n)))
+            (meets_at is_same decides (shown es) (shown ts) distinct_names (rw second valid) (shown h.0) (each_met h.0 h.1) n)))
 
         pub meet_from : IsDistinct eq (keys_of ts) → AreAllMet eq es ts (Some ms) → All (λ e. IsFrom (lookup is_same xs e.0) (lookup is_same ys e.0) e.1) (shown ms)
         meet_from distinct_too h =

@@ -1,16 +1,23 @@
 -- The core externs of a name in two lists, and lists of what they make.
-use Rattle.std.specs.Prelude.{◌≡◌, List, [], ◌∷◌, Bool, Option, None, Some}
+use Rattle.std.specs.Prelude.{◌≡◌, List, [], ◌∷◌, Bool, IsTrue, Option, None, Some}
+use Rattle.std.specs.List.{list_all}
 use Rattle.std.specs.Option.{option_map}
 use Rattle.std.specs.Map.{lookup}
-use Rattle.wac_model.specs.CoreTree.{CoreTree, CoreFits, Serves}
+use Rattle.wac_model.specs.CoreTree.{CoreTree, CoreFits, Serves, is_valid_extern}
 use Rattle.wac_bounds.specs.MeetIn.{IsMeetIn, IsJoinIn}
+use Rattle.wac_bounds.specs.Valid.{ValidFits}
 use Rattle.wac_core.specs.Content.{core_tree}
 use Rattle.wac_core.specs.declared.externs.CoreExtern.{CoreExtern}
 use Rattle.wac_core_merge.specs.Names.{put, with_new}
 
--- m is the meet of what two have at a name, where having nothing is above everything
+-- each of these is valid
+abbrev pub AreValid : {K : Type 0} → List (K × CoreExtern) → Type 0
+AreValid es = IsTrue (list_all (λ e. is_valid_extern (core_tree e.1)) es)
+
+-- m is the meet, among valid externs, of what two have at a name, where
+-- having nothing is above everything
 abbrev pub IsMeetAt : Option CoreTree → Option CoreTree → Option CoreTree → Type 0
-IsMeetAt a b m = IsMeetIn (Serves CoreFits) a b (Some m)
+IsMeetAt a b m = IsMeetIn (Serves ValidFits) a b (Some m)
 
 -- m is the join of what two have at a name
 abbrev pub IsJoinAt : Option CoreTree → Option CoreTree → Option CoreTree → Type 0
@@ -35,9 +42,9 @@ module _ {K : Type 0} (eq : K → K → Bool) where
   abbrev pub IsEachJoined : (es ts ms : List (K × CoreExtern)) → Type 0
   IsEachJoined es ts ms = Replaces (λ n v o. IsJoinAt (Some (core_tree v)) (extern_at ts n) (option_map core_tree o)) es ms
 
-  -- under some name nothing is below what es and ts have
+  -- under some name nothing valid is below what es and ts have
   abbrev pub HasNoMeet : (es ts : List (K × CoreExtern)) → Type 0
-  HasNoMeet es ts = (n : K) × IsMeetIn (Serves CoreFits) (extern_at es n) (extern_at ts n) None
+  HasNoMeet es ts = (n : K) × IsMeetIn (Serves ValidFits) (extern_at es n) (extern_at ts n) None
 
   -- the same, if it has a meet under each name
   abbrev pub IsEachMetIfAny : (es ts : List (K × CoreExtern)) → Option (List (K × CoreExtern)) → Type 0

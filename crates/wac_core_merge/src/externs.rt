@@ -4,10 +4,11 @@ ghost use Rattle.std.specs.Prelude.{◌≡◌, ◌↔◌, IsTrue, IfOk};
 ghost use Rattle.std.specs.Option.{option_map};
 ghost use Rattle.wac_model.specs.CoreTree.{CoreFits};
 ghost use Rattle.wac_bounds.specs.MeetIn.{IsMeetIn, IsJoinIn};
+ghost use Rattle.wac_bounds.specs.Valid.{ValidFits};
 ghost use Rattle.wac_core.specs.Content.{core_tree};
 ghost use Rattle.wac_core_merge.specs.Limits.{limits_tree, label_of, limits_of, with_limits};
 
-use crate::limits::{LimitsType, join_limits, meet_limits};
+use crate::limits::{LimitsType, join_limits, meet_limits, start_within};
 use std::alloc::AllocError;
 use wac_core::CoreExtern;
 
@@ -117,19 +118,23 @@ fn limited(of: &CoreExtern, limits: LimitsType) -> Result<CoreExtern, AllocError
     }
 }
 
-/// The greatest core extern that fits where either is asked for, if any does: both are equal but
-/// for limits, and it starts at the greater initial size and ends at the smaller maximum
-/// (WebAssembly core specification, "Import Subtyping").
+/// The greatest valid core extern that fits where either is asked for, if any does: both are equal
+/// but for limits, and it starts at the greater initial size, ends at the smaller maximum, and
+/// starts within that (WebAssembly core specification, "Import Subtyping").
 pub fn meet_externs(a: &CoreExtern, b: &CoreExtern) -> Result<Option<CoreExtern>, AllocError>
-    ensures { IfOk result (λ m. IsMeetIn CoreFits (core_tree a.now) (core_tree b.now) (option_map core_tree m)) }
+    ensures { IfOk result (λ m. IsMeetIn ValidFits (core_tree a.now) (core_tree b.now) (option_map core_tree m)) }
 {
     if !equal_but_for_limits(a, b) {
         return Ok(None);
     }
-    match (limits(a), limits(b)) {
-        (Some(x), Some(y)) => Ok(Some(limited(a, meet_limits(x, y))?)),
-        _ => Ok(Some(a.clone()?)),
+    let (Some(x), Some(y)) = (limits(a), limits(b)) else {
+        return Ok(Some(a.clone()?));
+    };
+    let met = meet_limits(x, y);
+    if !start_within(met) {
+        return Ok(None);
     }
+    Ok(Some(limited(a, met)?))
 }
 
 /// The least core extern where either fits, if there is one: both are equal but for limits, and it

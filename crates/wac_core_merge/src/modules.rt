@@ -1,12 +1,13 @@
 //! Meets and joins of core modules.
 
-ghost use Rattle.std.specs.Prelude.{Some, IfOk, IfSome};
+ghost use Rattle.std.specs.Prelude.{Some, IsTrue, IfOk, IfSome};
 ghost use Rattle.std.specs.Option.{option_map, option_copied};
-ghost use Rattle.wac_model.specs.CoreTree.{CoreFits, ModuleFits, Serves};
+ghost use Rattle.wac_model.specs.CoreTree.{Serves, is_valid_extern, is_valid_module};
 ghost use Rattle.wac_bounds.specs.MeetIn.{IsMeetIn, IsJoinIn};
+ghost use Rattle.wac_bounds.specs.Valid.{ValidFits, ValidModuleFits};
 ghost use Rattle.indexmap.specs.IndexMap.{IsUnique};
 ghost use Rattle.wac_core.specs.Content.{core_tree, module_content};
-ghost use Rattle.wac_core_merge.specs.Entries.{IsJoinAt, IsEachMetIfAny, IsEachJoined, AreAllMet};
+ghost use Rattle.wac_core_merge.specs.Entries.{AreValid, IsJoinAt, IsEachMetIfAny, IsEachJoined, AreAllMet};
 ghost use Rattle.wac_core_merge.specs.NameOrder.{IsMeetInOrder, IsJoinInOrder};
 ghost use Rattle.wac_core_merge.specs.Origin.{IsModuleFrom};
 
@@ -19,7 +20,8 @@ use wac_core::{CoreExtern, ModuleType};
 
 // An extern, met with what another module has under its name.
 fn meet_with(of: CoreExtern, other: Option<&CoreExtern>) -> Result<Option<CoreExtern>, AllocError>
-    ensures { IfOk result (λ m. IsMeetIn (Serves CoreFits) (Some (core_tree of)) (option_map core_tree (option_copied other.entry)) (option_map Some (option_map core_tree m))) }
+    requires { IsTrue (is_valid_extern (core_tree of)) }
+    ensures { IfOk result (λ m. IsMeetIn (Serves ValidFits) (Some (core_tree of)) (option_map core_tree (option_copied other.entry)) (option_map Some (option_map core_tree m))) }
 {
     match other {
         Some(other) => meet_externs(&of, other),
@@ -44,6 +46,7 @@ fn meet_each<K: Eq + Hash + Drop>(
     first: IndexMap<K, CoreExtern>,
     second: &IndexMap<K, CoreExtern>,
 ) -> Result<Option<IndexMap<K, CoreExtern>>, AllocError>
+    requires { AreValid first.entries }
     ensures met { IfOk result (λ m. IsEachMetIfAny K.eq first.entries second.now.entries (option_map (λ t. t.entries) m)) }
     ensures unique { IsUnique K.eq first }
 {
@@ -64,6 +67,7 @@ fn meet_all<K: Eq + Hash + Drop>(
     first: IndexMap<K, CoreExtern>,
     second: IndexMap<K, CoreExtern>,
 ) -> Result<Option<IndexMap<K, CoreExtern>>, AllocError>
+    requires { AreValid first.entries }
     ensures met { IfOk result (λ m. AreAllMet K.eq first.entries second.entries (option_map (λ t. t.entries) m)) }
     ensures unique { IsUnique K.eq first }
     ensures second_unique { IfOk result (λ m. IfSome m (λ _. IsUnique K.eq second)) }
@@ -93,16 +97,19 @@ fn join_each<K: Eq + Hash + Drop>(
     Ok(joined)
 }
 
-/// The greatest core module that fits where either is asked for, if any does. It exports what
-/// either does, where they export one name the meet of both exports, and imports what both do,
-/// joined (WebAssembly core specification, "Import Subtyping"). An import whose types have no join
-/// is left out. Exports have the first module's order, and then the second's; imports the first's.
+/// The greatest core module of valid externs that fits where either is asked for, if any does. It
+/// exports what either does, where they export one name the meet of both exports, and imports what
+/// both do, joined (WebAssembly core specification, "Import Subtyping"). An import whose types have
+/// no join is left out. Exports have the first module's order, and then the second's; imports the
+/// first's.
 pub fn meet_modules(
     alloc: Global,
     a: &ModuleType,
     b: &ModuleType,
 ) -> Result<Option<ModuleType>, AllocError>
-    ensures meet { IfOk result (λ m. IsMeetIn ModuleFits (module_content a.now) (module_content b.now) (option_map module_content m)) }
+    requires a { IsTrue (is_valid_module (module_content a.now)) }
+    requires b { IsTrue (is_valid_module (module_content b.now)) }
+    ensures meet { IfOk result (λ m. IsMeetIn ValidModuleFits (module_content a.now) (module_content b.now) (option_map module_content m)) }
     ensures names { IfOk result (λ m. IfSome m (λ t. IsModuleFrom (module_content a.now) (module_content b.now) (module_content t))) }
     ensures order { IfOk result (λ m. IfSome m (λ t. IsMeetInOrder (module_content a.now) (module_content b.now) (module_content t))) }
 {
@@ -113,8 +120,8 @@ pub fn meet_modules(
     Ok(Some(ModuleType { imports, exports }))
 }
 
-/// The least core module where either fits, if there is one. It exports what both do, joined, and
-/// imports what either does, where they import one name the meet of both imports
+/// The least core module of valid externs where either fits, if there is one. It exports what both
+/// do, joined, and imports what either does, where they import one name the meet of both imports
 /// (WebAssembly core specification, "Import Subtyping"). An export whose types have no join is left
 /// out. Imports have the first module's order, and then the second's; exports the first's.
 pub fn join_modules(
@@ -122,7 +129,9 @@ pub fn join_modules(
     a: &ModuleType,
     b: &ModuleType,
 ) -> Result<Option<ModuleType>, AllocError>
-    ensures join { IfOk result (λ m. IsJoinIn ModuleFits (module_content a.now) (module_content b.now) (option_map module_content m)) }
+    requires a { IsTrue (is_valid_module (module_content a.now)) }
+    requires b { IsTrue (is_valid_module (module_content b.now)) }
+    ensures join { IfOk result (λ m. IsJoinIn ValidModuleFits (module_content a.now) (module_content b.now) (option_map module_content m)) }
     ensures names { IfOk result (λ m. IfSome m (λ t. IsModuleFrom (module_content a.now) (module_content b.now) (module_content t))) }
     ensures order { IfOk result (λ m. IfSome m (λ t. IsJoinInOrder (module_content a.now) (module_content b.now) (module_content t))) }
 {

@@ -27,6 +27,7 @@ fn said<T: Debug>(
         Ok(()) => return Ok(Replacement::Done),
         Err(ReplaceError::Cycle(back)) => (back, Replacement::Cycle),
         Err(ReplaceError::Memory(back)) => (back, Replacement::Refused),
+        Err(ReplaceError::Limits(_)) => return Err(Stop::Wrong),
     };
     demand(debugs(back, content))?;
     Ok(said)

@@ -1,11 +1,13 @@
 -- The meets and the joins of interfaces, of worlds and of core modules,
 -- by what they import and export.
-use Rattle.std.proofs.Common.{◌≡◌, refl, ap, sym, subst, ◌∙◌, Option, Some, None}
+use Rattle.std.proofs.Common.{◌≡◌, refl, ap, sym, subst, subst₂, ◌∙◌, Option, Some, None}
 use Rattle.std.specs.Option.{option_map}
-use Rattle.wac_model.specs.CoreTree.{ModuleTree, ModuleFits}
+use Rattle.wac_model.specs.CoreTree.{ModuleContent, module_of}
+use Rattle.wac_model.proofs.Modules.{module_of-is}
 use Rattle.wac_model.specs.ItemTree.{ItemTree, Kind, item, type_item, interface, world, composite, core_module, no_items}
 use Rattle.wac_model.specs.Order.{Fits}
 use Rattle.wac_bounds.specs.MeetIn.{IsMeetIn, IsJoinIn}
+use Rattle.wac_bounds.specs.Valid.{ValidModuleFits}
 use Rattle.wac_bounds.proofs.CompositeBounds.{composite_meet, composite_no_meet, composite_join, composite_no_join}
 use Rattle.wac_bounds.proofs.ModuleBounds.{modules_meet, modules_join}
 use Rattle.wac_component.specs.Id.{Id}
@@ -133,22 +135,22 @@ module _ (c d f e : Collection) (sound : IsSound c) (grown : Extends c d) (more 
 
 -- core modules, which name no items
 
-pub modules_met : (c e : Collection) (x y : Id) (k : Kind) (s t : ModuleTree) (o : Option ModuleTree) (r : Option Id) → module_tree c x ≡ s → module_tree c y ≡ t
-    → option_map (module_tree e) r ≡ o → IsMeetIn ModuleFits s t o
-    → IsMetAs c e (entry_item k (module_key x)) (entry_item k (module_key y)) (option_map (λ p. entry_item k (module_key p)) r)
-modules_met c e x y k s t o r sx ty is h =
-    formed Fits (tree_of_module c k x ∙ ap (core_module k) sx) (tree_of_module c k y ∙ ap (core_module k) ty) (trees r ∙ ap (option_map (core_module k)) is) (modules_meet k s t o h)
-  where
-    trees : (r : Option Id) → option_map (item_tree e) (option_map (λ p. entry_item k (module_key p)) r) ≡ option_map (core_module k) (option_map (module_tree e) r)
-    trees None = refl
-    trees (Some p) = ap (λ (u : ItemTree). Some u) (tree_of_module e k p)
+-- the trees of modules that say this
+module _ (c e : Collection) (x y : Id) (k : Kind) (s t : ModuleContent) (o : Option ModuleContent) (r : Option Id)
+    (sx : (module_tree c x).content ≡ s) (ty : (module_tree c y).content ≡ t) (is : option_map (λ p. (module_tree e p).content) r ≡ o) where
+  trees_saying : (r : Option Id) → option_map (item_tree e) (option_map (λ p. entry_item k (module_key p)) r) ≡ option_map (λ m. core_module k (module_of m)) (option_map (λ p. (module_tree e p).content) r)
+  trees_saying None = refl
+  trees_saying (Some p) = ap (λ (u : ItemTree). Some u) (tree_of_module e k p ∙ ap (core_module k) (sym (module_of-is (module_tree e p))))
 
-pub modules_joined : (c e : Collection) (x y : Id) (k : Kind) (s t : ModuleTree) (o : Option ModuleTree) (r : Option Id) → module_tree c x ≡ s → module_tree c y ≡ t
-    → option_map (module_tree e) r ≡ o → IsJoinIn ModuleFits s t o
-    → IsJoinedAs c e (entry_item k (module_key x)) (entry_item k (module_key y)) (option_map (λ p. entry_item k (module_key p)) r)
-modules_joined c e x y k s t o r sx ty is h =
-    formed (λ u v. Fits v u) (tree_of_module c k x ∙ ap (core_module k) sx) (tree_of_module c k y ∙ ap (core_module k) ty) (trees r ∙ ap (option_map (core_module k)) is) (modules_join k s t o h)
-  where
-    trees : (r : Option Id) → option_map (item_tree e) (option_map (λ p. entry_item k (module_key p)) r) ≡ option_map (core_module k) (option_map (module_tree e) r)
-    trees None = refl
-    trees (Some p) = ap (λ (u : ItemTree). Some u) (tree_of_module e k p)
+  said : (P : ModuleContent → ModuleContent → Type 0) → P s t → P (module_tree c x).content (module_tree c y).content
+  said P h = subst₂ P (sym sx) (sym ty) h
+
+  pub modules_met : IsMeetIn ValidModuleFits s t o → IsMetAs c e (entry_item k (module_key x)) (entry_item k (module_key y)) (option_map (λ p. entry_item k (module_key p)) r)
+  modules_met h =
+      formed Fits (tree_of_module c k x) (tree_of_module c k y) (trees_saying r ∙ ap (option_map (λ m. core_module k (module_of m))) is)
+      (modules_meet k (module_tree c x) (module_tree c y) o (said (λ a b. IsMeetIn ValidModuleFits a b o) h))
+
+  pub modules_joined : IsJoinIn ValidModuleFits s t o → IsJoinedAs c e (entry_item k (module_key x)) (entry_item k (module_key y)) (option_map (λ p. entry_item k (module_key p)) r)
+  modules_joined h =
+      formed (λ u v. Fits v u) (tree_of_module c k x) (tree_of_module c k y) (trees_saying r ∙ ap (option_map (λ m. core_module k (module_of m))) is)
+      (modules_join k (module_tree c x) (module_tree c y) o (said (λ a b. IsJoinIn ValidModuleFits a b o) h))

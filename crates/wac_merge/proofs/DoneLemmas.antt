@@ -1,7 +1,8 @@
 -- What is known of a meet or a join that was made before or is made now.
 use Rattle.std.proofs.Common.{◌≡◌, ap, sym, subst, ◌∙◌, suc, Some, None}
-use Rattle.wac_model.specs.CoreTree.{ModuleTree, ModuleFits}
+use Rattle.wac_model.specs.CoreTree.{ModuleContent, module_of}
 use Rattle.wac_bounds.specs.MeetIn.{IsMeetIn, IsJoinIn}
+use Rattle.wac_bounds.specs.Valid.{ValidModuleFits}
 use Rattle.wac_component.specs.Collection.{Collection}
 use Rattle.wac_component.specs.Growth.{Extends, with_entry}
 use Rattle.wac_component.specs.Id.{Id}
@@ -71,14 +72,14 @@ module _ (c d f : Collection) (m : Memo) (e : Collection) (n : Memo) (x y : Id) 
       (λ h. (world_counted fs gs h, (λ k. subst (λ z. IsJoinedAs c e (entry_item k (world_key x)) (entry_item k (world_key y)) (Some (entry_item k (entry_key z)))) (sym h.1) (worlds_joined_then c d f e sound grown joined x y sx sy k fs gs h.0 met standing are_joined h.2.tree)), world_stands fs gs h)) made
 
 -- two core modules
-module _ (c : Collection) (m : Memo) (e : Collection) (n : Memo) (x y : Id) (r : EntryId) (more : Extends c e) (sx : Stands c (module_key x)) (sy : Stands c (module_key y)) (known : IsTrueMemo c m) (s t mt : ModuleTree) (at_x : module_tree c x ≡ s) (at_y : module_tree c y ≡ t) where
+module _ (c : Collection) (m : Memo) (e : Collection) (n : Memo) (x y : Id) (r : EntryId) (more : Extends c e) (sx : Stands c (module_key x)) (sy : Stands c (module_key y)) (known : IsTrueMemo c m) (s t mt : ModuleContent) (at_x : (module_tree c x).content ≡ s) (at_y : (module_tree c y).content ≡ t) where
   abbrev IsModuleMade : Bound → Type 0
   IsModuleMade u = IsMade c m e n (record { bound = u; pair = Modules x y }) r ((q : Id) × (r ≡ Module q) × IsModuleAdded c e mt q)
 
-  pub module_met_done : IsMeetIn ModuleFits s t (Some mt) → IsModuleMade Meet → IsDone Meet (Modules x y) c c m e n r
+  pub module_met_done : IsMeetIn ValidModuleFits s t (Some mt) → IsModuleMade Meet → IsDone Meet (Modules x y) c c m e n r
   module_met_done met made = done Meet (Modules x y) c c m e n r (Extends-refl c) more sx sy known ((q : Id) × (r ≡ Module q) × IsModuleAdded c e mt q)
-      (λ h. (one_more c e (module_entry mt) h.2.added, (λ k. subst (λ z. IsMetAs c e (entry_item k (module_key x)) (entry_item k (module_key y)) (Some (entry_item k (entry_key z)))) (sym h.1) (modules_met c e x y k s t (Some mt) (Some h.0) at_x at_y (ap (λ (u : ModuleTree). Some u) h.2.tree) met)), subst (λ z. Stands e (entry_key z)) (sym h.1) h.2.stands)) made
+      (λ h. (one_more c e (module_entry (module_of mt)) h.2.added, (λ k. subst (λ z. IsMetAs c e (entry_item k (module_key x)) (entry_item k (module_key y)) (Some (entry_item k (entry_key z)))) (sym h.1) (modules_met c e x y k s t (Some mt) (Some h.0) at_x at_y (ap (λ (u : ModuleContent). Some u) h.2.tree) met)), subst (λ z. Stands e (entry_key z)) (sym h.1) h.2.stands)) made
 
-  pub module_joined_done : IsJoinIn ModuleFits s t (Some mt) → IsModuleMade Join → IsDone Join (Modules x y) c c m e n r
+  pub module_joined_done : IsJoinIn ValidModuleFits s t (Some mt) → IsModuleMade Join → IsDone Join (Modules x y) c c m e n r
   module_joined_done joined made = done Join (Modules x y) c c m e n r (Extends-refl c) more sx sy known ((q : Id) × (r ≡ Module q) × IsModuleAdded c e mt q)
-      (λ h. (one_more c e (module_entry mt) h.2.added, (λ k. subst (λ z. IsJoinedAs c e (entry_item k (module_key x)) (entry_item k (module_key y)) (Some (entry_item k (entry_key z)))) (sym h.1) (modules_joined c e x y k s t (Some mt) (Some h.0) at_x at_y (ap (λ (u : ModuleTree). Some u) h.2.tree) joined)), subst (λ z. Stands e (entry_key z)) (sym h.1) h.2.stands)) made
+      (λ h. (one_more c e (module_entry (module_of mt)) h.2.added, (λ k. subst (λ z. IsJoinedAs c e (entry_item k (module_key x)) (entry_item k (module_key y)) (Some (entry_item k (entry_key z)))) (sym h.1) (modules_joined c e x y k s t (Some mt) (Some h.0) at_x at_y (ap (λ (u : ModuleContent). Some u) h.2.tree) joined)), subst (λ z. Stands e (entry_key z)) (sym h.1) h.2.stands)) made

@@ -1,7 +1,8 @@
 -- Runs that end with an entry that was made of two.
-use Rattle.std.proofs.Common.{◌≡◌, refl, ap, sym, subst, ◌∙◌, ◌⊎◌, inl, inr, ◌∷◌, [], ◌++◌, List, Some, None, slice_get}
-use Rattle.wac_model.specs.CoreTree.{ModuleTree}
+use Rattle.std.proofs.Common.{◌≡◌, refl, ap, sym, subst, ◌∙◌, ◌⊎◌, inl, inr, ◌∷◌, [], ◌++◌, List, Some, None, slice_get, IsTrue}
+use Rattle.wac_model.specs.CoreTree.{ModuleContent, ModuleTree, module_of, is_valid_module}
 use Rattle.wac_model.specs.ItemTree.{Kind}
+use Rattle.wac_model.proofs.Modules.{module_of-content}
 use Rattle.std.specs.Str.{bytes_eq}
 use Rattle.wac_core_merge.specs.NameOrder.{HasAllNames, HasSomeNames}
 use Rattle.wac_component.specs.Id.{Id}
@@ -53,14 +54,18 @@ made_in {ms = ms} ks b d e m n a r A IsAdded (before there here same) run f =
 made_in {ms = ms} ks b d e m n a r A IsAdded (now new added put same) run f =
     subst (λ (l : Made). Runs ks b ms e l (λ c o. IsMadeOf c e o (first_key a.pair) (second_key a.pair) (entry_key r))) (sym put) (f added)
 
-pub module_made : (c d : Collection) (m n : Memo) (u : Bound) (x y : Id) (r : EntryId) (s t mt : ModuleTree) → slice_get c.modules x.index ≡ Some s → slice_get c.modules y.index ≡ Some t → IsModuleBuilt s t mt
+-- what is built of what valid module types say is built of their modules
+pub built_of : (s t m : ModuleContent) → IsTrue (is_valid_module s) → IsTrue (is_valid_module t) → IsTrue (is_valid_module m) → IsModuleBuilt s t m → IsModuleBuilt (module_of s).content (module_of t).content (module_of m).content
+built_of s t m p q r h = rw (module_of-content s p, module_of-content t q, module_of-content m r) h
+
+pub module_made : (c d : Collection) (m n : Memo) (u : Bound) (x y : Id) (r : EntryId) (s t : ModuleTree) (mt : ModuleContent) → slice_get c.modules x.index ≡ Some s → slice_get c.modules y.index ≡ Some t → IsModuleBuilt s.content t.content (module_of mt).content
     → Extends c d → IsMade c m d n (record { bound = u; pair = Modules x y }) r ((q : Id) × (r ≡ Module q) × IsModuleAdded c d mt q)
     → IsBound c d (λ k. entry_item k (module_key x)) (λ k. entry_item k (module_key y)) (λ k. entry_item k (entry_key r))
     → Runs (module_key x ∷ module_key y ∷ []) c (made_of m) d (made_of n) (λ b o. IsMadeOf b d o (module_key x) (module_key y) (entry_key r))
 module_made c d m n u x y r s t mt at_x at_y is_built grown made bound =
     made_in (module_key x ∷ module_key y ∷ []) c c d m n (record { bound = u; pair = Modules x y }) r (λ b o. Unit {0}) ((q : Id) × (r ≡ Module q) × IsModuleAdded c d mt q) made none
-    (λ h. Runs-made c c d (record { bound = u; pair = Modules x y }) r (module_entry s) (module_entry t) (module_entry mt) (λ b o. Unit {0}) (Extends-refl c) grown (leaves_of_module c d mt h.2.added)
-    (subst (λ z. IsLast c d (module_entry mt) (entry_key z)) (sym h.1) (module_last c d h.0 mt h.2.added h.2.placed)) (module_at c x s at_x) (module_at c y t at_y) (λ b o g. of_modules is_built) bound none)
+    (λ h. Runs-made c c d (record { bound = u; pair = Modules x y }) r (module_entry s) (module_entry t) (module_entry (module_of mt)) (λ b o. Unit {0}) (Extends-refl c) grown (leaves_of_module c d (module_of mt) h.2.added)
+    (subst (λ z. IsLast c d (module_entry (module_of mt)) (entry_key z)) (sym h.1) (module_last c d h.0 (module_of mt) h.2.added h.2.placed)) (module_at c x s at_x) (module_at c y t at_y) (λ b o g. of_modules is_built) bound none)
   where
     none : Runs (module_key x ∷ module_key y ∷ []) c (made_of m) c (made_of m) (λ b o. Unit {0})
     none = Runs-none (module_key x ∷ module_key y ∷ []) c c (λ b o. Unit {0}) refl (λ b o. tt)

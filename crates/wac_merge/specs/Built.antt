@@ -3,7 +3,7 @@ use Rattle.std.specs.Prelude.{◌≡◌, ◌⊎◌, List, All, Option, Some, Non
 use Rattle.std.specs.Str.{bytes_eq}
 use Rattle.std.specs.declared.alloc.AllocError.{AllocError}
 use Rattle.wac_model.specs.Text.{Text, lookup}
-use Rattle.wac_model.specs.CoreTree.{ModuleTree}
+use Rattle.wac_model.specs.CoreTree.{ModuleContent, ModuleTree}
 use Rattle.wac_model.specs.ItemTree.{Kind}
 use Rattle.wac_core_merge.specs.Names.{with_new}
 use Rattle.wac_core_merge.specs.NameOrder.{HasAllNames, HasSomeNames, IsMeetInOrder, IsJoinInOrder}
@@ -65,7 +65,7 @@ pub record IsWorldFrom (c d : Collection) (o : Origins) (a b e : WorldContent) :
   pub names : (HasAllNames bytes_eq a.exports b.exports e.exports × HasSomeNames bytes_eq a.imports e.imports) ⊎ (HasSomeNames bytes_eq a.exports e.exports × HasAllNames bytes_eq a.imports b.imports e.imports)
 
 -- of a meet all exports and some imports, of a join some exports and all imports
-pub record IsModuleBuilt (a b e : ModuleTree) : Type 0 where
+pub record IsModuleBuilt (a b e : ModuleContent) : Type 0 where
   pub from : IsModuleFrom a b e
   pub order : IsMeetInOrder a b e ⊎ IsJoinInOrder a b e
 
@@ -73,7 +73,7 @@ pub record IsModuleBuilt (a b e : ModuleTree) : Type 0 where
 pub data IsEntryFrom (c d : Collection) (o : Origins) : Entry → Entry → Entry → Type 0 where
   of_interfaces : {a b e : InterfaceContent} → IsInterfaceFrom c d o a b e → IsEntryFrom c d o (interface_entry a) (interface_entry b) (interface_entry e)
   of_worlds : {a b e : WorldContent} → IsWorldFrom c d o a b e → IsEntryFrom c d o (world_entry a) (world_entry b) (world_entry e)
-  of_modules : {a b e : ModuleTree} → IsModuleBuilt a b e → IsEntryFrom c d o (module_entry a) (module_entry b) (module_entry e)
+  of_modules : {a b e : ModuleTree} → IsModuleBuilt a.content b.content e.content → IsEntryFrom c d o (module_entry a) (module_entry b) (module_entry e)
 
 -- the entry is new, and was made of the two
 abbrev pub IsMadeOf : Collection → Collection → Origins → Key → Key → Key → Type 0

@@ -1,7 +1,7 @@
 -- What is read of the entries that a meet or a join is made of.
 use Rattle.std.specs.Prelude.{◌≡◌, ◌<◌, [], Some, None, length}
 use Rattle.std.specs.Option.{option_map_or}
-use Rattle.wac_model.specs.CoreTree.{ModuleTree}
+use Rattle.wac_model.specs.CoreTree.{ModuleContent, module_of}
 use Rattle.wac_model.specs.ItemTree.{no_items}
 use Rattle.wac_component.specs.Id.{Id}
 use Rattle.wac_component.specs.Collection.{Collection, InterfaceContent, WorldContent}
@@ -69,8 +69,8 @@ pub record IsWorldOfBoth (c d : Collection) (x y : Id) (is es : Externs) (p : Id
   pub tree : externs d (world_key p) ≡ record { imports = items_of (item_tree c) is; exports = items_of (item_tree c) es }
 
 -- the core module at p is all that d has more than c
-pub record IsModuleAdded (c d : Collection) (t : ModuleTree) (p : Id) : Type 0 where
-  pub added : d ≡ with_entry c (module_entry t)
+pub record IsModuleAdded (c d : Collection) (t : ModuleContent) (p : Id) : Type 0 where
+  pub added : d ≡ with_entry c (module_entry (module_of t))
   pub placed : p ≡ record { number = c.number; index = length c.modules }
   pub stands : Stands d (module_key p)
-  pub tree : module_tree d p ≡ t
+  pub tree : (module_tree d p).content ≡ t

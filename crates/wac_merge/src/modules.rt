@@ -1,6 +1,7 @@
 //! The meet and the join of two core module types.
 
-ghost use Rattle.std.specs.Prelude.{◌≡◌, ◌∷◌, [], IfOk, IfSome, OnErr};
+ghost use Rattle.std.specs.Prelude.{◌≡◌, ◌∷◌, [], IsTrue, IfOk, IfSome, OnErr};
+ghost use Rattle.wac_model.specs.CoreTree.{is_valid_module};
 ghost use Rattle.wac_core.specs.Content.{module_content};
 ghost use Rattle.wac_component.specs.Growth.{Extends};
 ghost use Rattle.wac_component.specs.Id.{Id};
@@ -12,6 +13,7 @@ ghost use Rattle.wac_merge.specs.Runs.{Runs};
 
 use crate::memo::{Asked, Bound, EntryId, Memo, Pair};
 use std::alloc::{AllocError, Global};
+use wac_component::valid::add_valid_module_type;
 use wac_component::{ModuleTypeId, Types};
 use wac_core::ModuleType;
 use wac_core_merge::{join_modules, meet_modules};
@@ -26,6 +28,7 @@ fn module_of(
     second: ModuleTypeId,
     ty: ModuleType,
 ) -> Result<EntryId, AllocError>
+    requires { IsTrue (is_valid_module (module_content ty)) }
     ensures made { IfOk result (λ p. IsMade types.old memo.old types.new memo.new (record { bound = bound; pair = Pair.Modules first second }) p ((q : Id) × (p ≡ EntryId.Module q) × IsModuleAdded types.old types.new (module_content ty) q)) }
     ensures grows { Extends types.old types.new }
     ensures err { OnErr result (types.new ≡ types.old) }
@@ -36,7 +39,7 @@ fn module_of(
         return Ok(made);
     }
     memo.reserve()?;
-    let made = EntryId::Module(types.add_module_type(ty)?);
+    let made = EntryId::Module(add_valid_module_type(types, ty)?);
     memo.put(bound, pair, made)?;
     Ok(made)
 }

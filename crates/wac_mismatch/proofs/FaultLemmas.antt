@@ -2,7 +2,7 @@
 use Rattle.std.proofs.Common.{◌≡◌, ◌≢◌, ℕ, List, [], Bool, Some, string_bytes, slice_get, length, map, refl, ap, sym, ◌∙◌, is_some, Option, None, inl, inr}
 use Rattle.wac_model.specs.Text.{Text, ImportName}
 use Rattle.wac_model.specs.ValueTree.{ValueTree, FuncTree, node, part_count, primitive, borrow, own, tuple, list, fixed_size_list, map_of, option, result_of, variant, record_of, flags, enum, stream, future}
-use Rattle.wac_model.specs.CoreTree.{CoreTree, RefTree, CoreTypeTree, CoreFits, Serves, plain, limited, func as core_func, tag, global, table, memory}
+use Rattle.wac_model.specs.CoreTree.{CoreTree, RefTree, CoreTypeTree, CoreFits, Serves, module_of, plain, limited, func as core_func, tag, global, table, memory}
 use Rattle.wac_model.specs.ItemTree.{ItemTree, Kind, Leaf, leaf, core_module, composite, no_items, item, type_item, resource, func, value, interface, world}
 use Rattle.wac_model.specs.Order.{Fits, FitsAt, leaves, modules, composites, not_asked, there}
 use Rattle.wac_mismatch.specs.Place.{Side, item_side, core_side, value_side, absent, SideFits, by_check}
@@ -92,7 +92,7 @@ leaves_differ f k x y h same = cc
 -- what an item is, but for what an interface, a world or a module imports and exports
 abbrev outline : ItemTree → ItemTree
 outline (leaf k l) = leaf k l
-outline (core_module k m) = core_module k (record { imports = []; exports = [] })
+outline (core_module k m) = core_module k (module_of (record { imports = []; exports = [] }))
 outline (composite k s is es) = composite k s no_items no_items
 
 outline-same : {a b : ItemTree} → Fits a b → outline a ≡ outline b

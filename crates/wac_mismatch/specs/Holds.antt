@@ -148,7 +148,7 @@ HoldsOfSides f x y = ⊥
 -- which is such a holder, doesn't
 abbrev pub LacksExport : Text → Text → Text → Side → Side → Type 0
 LacksExport h k n (item_side (composite i s is es)) (item_side (composite i' s' is' es')) = (i ≡ i') × (s ≡ s') × (h ≡ item_desc (composite item s is es)) × (item_at es n ≡ None) × ((t : ItemTree) × (item_at es' n ≡ Some t) × (k ≡ item_desc t))
-LacksExport h k n (item_side (core_module i m)) (item_side (core_module i' m')) = (i ≡ i') × (h ≡ item_desc (core_module item m)) × (lookup bytes_eq m.exports n ≡ None) × ((t : CoreTree) × (lookup bytes_eq m'.exports n ≡ Some t) × (k ≡ core_extern_text t))
+LacksExport h k n (item_side (core_module i m)) (item_side (core_module i' m')) = (i ≡ i') × (h ≡ item_desc (core_module item m)) × (lookup bytes_eq m.content.exports n ≡ None) × ((t : CoreTree) × (lookup bytes_eq m'.content.exports n ≡ Some t) × (k ≡ core_extern_text t))
 LacksExport h k n a b = ⊥
 
 -- what the left world imports under the name, with its description, and the right one doesn't
@@ -158,7 +158,7 @@ LacksImport k n a b = ⊥
 
 -- what the left core module imports under the name, of this sort, and the right one doesn't
 abbrev pub LacksCoreImport : Text → ImportName → Side → Side → Type 0
-LacksCoreImport k n (item_side (core_module i m)) (item_side (core_module i' m')) = (i ≡ i') × (lookup import_name_eq m'.imports n ≡ None) × ((t : CoreTree) × (lookup import_name_eq m.imports n ≡ Some t) × (k ≡ core_extern_text t))
+LacksCoreImport k n (item_side (core_module i m)) (item_side (core_module i' m')) = (i ≡ i') × (lookup import_name_eq m'.content.imports n ≡ None) × ((t : CoreTree) × (lookup import_name_eq m.content.imports n ≡ Some t) × (k ≡ core_extern_text t))
 LacksCoreImport k n a b = ⊥
 
 -- two core externs of one sort that differ in this, or whose limits don't fit

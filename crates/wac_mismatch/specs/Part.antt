@@ -67,8 +67,8 @@ core_sided (Some t) = Some (core_side t)
 
 -- the part of a core module that a frame names
 abbrev pub module_part : Frame → ModuleTree → Opt Side
-module_part (Export n) m = core_sided (lookup bytes_eq m.exports (string_bytes n))
-module_part (CoreImport m' n) m = core_sided (lookup import_name_eq m.imports (string_bytes m', string_bytes n))
+module_part (Export n) m = core_sided (lookup bytes_eq m.content.exports (string_bytes n))
+module_part (CoreImport m' n) m = core_sided (lookup import_name_eq m.content.imports (string_bytes m', string_bytes n))
 module_part f m = None
 
 -- the part of an interface or a world that a frame names; an interface imports nothing

@@ -25,7 +25,7 @@ same_leaf : (k : Kind) (l : Leaf) (b : ItemTree) → Fits (leaf k l) b → Fits 
 same_leaf k l b Fits.leaves q = leaves
 
 same_module : (k : Kind) (m : ModuleTree) (b : ItemTree) → Fits (core_module k m) b → Fits b (core_module k m) → Same (core_module k m) b
-same_module k m b (Fits.modules {b = n} p) q = modules (ModuleFits-antisym m n p (module_fits q))
+same_module k m b (Fits.modules {b = n} p) q = modules (ModuleFits-antisym m.content n.content p (module_fits q))
 
 same_composite : (k : Kind) (s : Shape) (i e : Items)
     → ((n : Text) (t : ItemTree) → item_at i n ≡ Some t → SameWhenBoth t)
@@ -45,7 +45,7 @@ same_from_both = tree_induction SameWhenBoth same_leaf same_module same_composit
 mutual
   pub fits_from_same : {a b : ItemTree} → Same a b → Fits a b
   fits_from_same leaves = Fits.leaves
-  fits_from_same (modules {a = x} {b = y} p) = Fits.modules (ModuleFits-same x y p)
+  fits_from_same (modules {a = x} {b = y} p) = Fits.modules (ModuleFits-same x.content y.content p)
   fits_from_same (composites f g) = Fits.composites (λ n. fits_from_same_at (f n)) (λ n. back_from_same_at (g n))
 
   fits_from_same_at : {a b : Option ItemTree} → SameAt a b → FitsAt a b
@@ -54,7 +54,7 @@ mutual
 
   pub back_from_same : {a b : ItemTree} → Same a b → Fits b a
   back_from_same leaves = Fits.leaves
-  back_from_same (modules {a = x} {b = y} p) = Fits.modules (ModuleFits-same y x (SameModule-sym x y p))
+  back_from_same (modules {a = x} {b = y} p) = Fits.modules (ModuleFits-same y.content x.content (SameModule-sym x.content y.content p))
   back_from_same (composites f g) = Fits.composites (λ n. back_from_same_at (f n)) (λ n. fits_from_same_at (g n))
 
   back_from_same_at : {a b : Option ItemTree} → SameAt a b → FitsAt b a

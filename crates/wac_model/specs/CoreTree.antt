@@ -1,5 +1,7 @@
 -- Core modules (WebAssembly core specification, "Types" and "Import Subtyping").
-use Rattle.std.specs.Prelude.{◌≡◌, ◌≤◌, ℕ, List, Bool, Option, Some, None}
+use Rattle.std.specs.Prelude.{◌≡◌, ◌≤◌, ℕ, List, [], Bool, true, false, ◌&&◌, IsTrue, nat_le, Option, Some, None}
+use Rattle.std.specs.List.{list_all}
+use mathlib.Core.Path.{refl}
 use Rattle.std.specs.Str.{bytes_eq}
 use Rattle.wac_model.specs.Text.{Text, ImportName, import_name_eq, lookup}
 
@@ -60,10 +62,38 @@ pub data CoreTree : Type 0 where
   plain : (label : CoreLabel) → CoreTree
   limited : (label : LimitedLabel) → (limits : Limits) → CoreTree
 
--- a core module
-pub record ModuleTree : Type 0 where
+-- a size is at most the maximum, if there is one
+abbrev pub is_within : ℕ → Option ℕ → Bool
+is_within n None = true
+is_within n (Some m) = nat_le n m
+
+-- valid limits start within their maximum (core specification, "Validation", limits)
+abbrev pub is_valid_extern : CoreTree → Bool
+is_valid_extern (plain label) = true
+is_valid_extern (limited label limits) = is_within limits.initial limits.maximum
+
+-- what the type of a core module says that it imports and exports
+pub record ModuleContent : Type 0 where
   pub imports : List (ImportName × CoreTree)
   pub exports : List (Text × CoreTree)
+
+-- each import and each export is valid
+abbrev pub is_valid_module : ModuleContent → Bool
+is_valid_module m = list_all (λ e. is_valid_extern e.1) m.imports && list_all (λ e. is_valid_extern e.1) m.exports
+
+-- a core module
+pub record ModuleTree : Type 0 where
+  pub content : ModuleContent
+  pub valid : IsTrue (is_valid_module content)
+
+-- the module that says this; where something in it isn't valid there is none,
+-- and the empty one stands for it
+abbrev pub module_if : (m : ModuleContent) (valid : Bool) → is_valid_module m ≡ valid → ModuleTree
+module_if m true is = record { content = m; valid = is }
+module_if m false is = record { content = record { imports = []; exports = [] }; valid = refl }
+
+abbrev pub module_of : ModuleContent → ModuleTree
+module_of m = module_if m (is_valid_module m) refl
 
 -- one that is asked for is there, and is in the relation
 abbrev pub Serves : {V : Type 0} → (V → V → Type 0) → Option V → Option V → Type 0
@@ -81,6 +111,6 @@ CoreFits (limited k a) (limited l b) = (k ≡ l) × LimitsFit a b
 CoreFits a b = a ≡ b
 
 -- a module fits where another is asked for: it exports what that one does, and imports no more
-pub record ModuleFits (a b : ModuleTree) : Type 0 where
+pub record ModuleFits (a b : ModuleContent) : Type 0 where
   pub exports : (n : Text) → Serves CoreFits (lookup bytes_eq a.exports n) (lookup bytes_eq b.exports n)
   pub imports : (n : ImportName) → Serves CoreFits (lookup import_name_eq b.imports n) (lookup import_name_eq a.imports n)

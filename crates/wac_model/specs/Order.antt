@@ -10,7 +10,7 @@ use Rattle.wac_model.specs.ItemTree.{Kind, Leaf, Shape, ItemTree, Items, leaf, c
 mutual
   pub data Fits : ItemTree → ItemTree → Type 0 where
     leaves : {k : Kind} {l : Leaf} → Fits (leaf k l) (leaf k l)
-    modules : {k : Kind} {a b : ModuleTree} → ModuleFits a b → Fits (core_module k a) (core_module k b)
+    modules : {k : Kind} {a b : ModuleTree} → ModuleFits a.content b.content → Fits (core_module k a) (core_module k b)
     composites : {k : Kind} {s : Shape} {i j e f : Items}
         → (exports : (n : Text) → FitsAt (item_at e n) (item_at f n))
         → (imports : (n : Text) → FitsAt (item_at j n) (item_at i n))

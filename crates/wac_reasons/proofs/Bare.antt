@@ -38,7 +38,7 @@ pub joined_apart : (a m u : ItemTree) → Fits a m → AreAlwaysApart m u → Ar
 joined_apart a m u f h c p q = h c (Fits-trans c (bare a) (bare m) p (bare_fits f)) q
 
 -- what is always apart from a meet is so from one of those that are met
-met_modules : (k : Kind) (a b m : ModuleTree) → IsMeetIn ModuleFits a b (Some m) → (u : ItemTree) → AreAlwaysApart (core_module k m) u → AreAlwaysApart (core_module k a) u ⊎ AreAlwaysApart (core_module k b) u
+met_modules : (k : Kind) (a b m : ModuleTree) → IsMeetIn (λ x y. ModuleFits x.content y.content) a b (Some m) → (u : ItemTree) → AreAlwaysApart (core_module k m) u → AreAlwaysApart (core_module k a) u ⊎ AreAlwaysApart (core_module k b) u
 met_modules k a b m is (leaf k' l) h = inl (λ c p q. let e = Fits-case p in let f = Fits-case q in cc)
 met_modules k a b m is (composite k' s i e) h = inl (λ c p q. let e = Fits-case p in let f = Fits-case q in cc)
 met_modules k a b m is (core_module k' u) h = by_kind (Kind-discrete k k')
@@ -46,8 +46,8 @@ met_modules k a b m is (core_module k' u) h = by_kind (Kind-discrete k k')
     by_kind : Dec (k ≡ k') → AreAlwaysApart (core_module k a) (core_module k' u) ⊎ AreAlwaysApart (core_module k b) (core_module k' u)
     by_kind (no ne) = inl (λ c p q. let e = Fits-case p in let f = Fits-case q in let g : k ≡ k' = cc in ne g)
     by_kind (yes same) = rw (← same) (elim (one_clashes a b m is u (λ c p q. h (core_module k c) (modules p) (rw (← same) (modules q)))) [
-      | inl n ↦ inl (modules_meet k a u None n)
-      | inr n ↦ inr (modules_meet k b u None n)
+      | inl n ↦ inl (modules_meet k a u None (λ c p q. n (record { content = c; valid = p.0 }) p.2 q.2))
+      | inr n ↦ inr (modules_meet k b u None (λ c p q. n (record { content = c; valid = p.0 }) p.2 q.2))
     ])
 
 pub met_apart : (a b m u : ItemTree) → IsMeetIn Fits a b (Some m) → AreAlwaysApart m u → AreAlwaysApart a u ⊎ AreAlwaysApart b u

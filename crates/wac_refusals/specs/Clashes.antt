@@ -4,10 +4,11 @@ use Rattle.std.specs.Str.{bytes_eq}
 use Rattle.std.specs.declared.string.String.{String}
 use Rattle.std.specs.declared.alloc.Global.{Global}
 use Rattle.wac_model.specs.Text.{Text, lookup}
-use Rattle.wac_model.specs.CoreTree.{CoreTree, CoreFits}
+use Rattle.wac_model.specs.CoreTree.{CoreTree}
 use Rattle.wac_model.specs.ItemTree.{ItemTree, core_module, composite, item_at}
 use Rattle.wac_bounds.specs.Bounds.{IsLowerBound}
 use Rattle.wac_bounds.specs.MeetIn.{IsMeetIn}
+use Rattle.wac_bounds.specs.Valid.{ValidFits}
 use Rattle.wac_mismatch.specs.Holds.{Holds}
 use Rattle.wac_mismatch.specs.Path.{AreAlike, Explains}
 use Rattle.wac_mismatch.specs.Place.{Side, item_side, core_side, place}
@@ -25,9 +26,9 @@ use Rattle.wac_refusals.specs.declared.frame.MergeFrame.TheVariants.{Export}
 abbrev pub AreApart : ItemTree → ItemTree → Type 0
 AreApart a b = (t : ItemTree) → ¬ (IsLowerBound t (a ∷ b ∷ []))
 
--- the same of core externs
+-- the same of core externs that are valid
 abbrev pub AreCoresApart : CoreTree → CoreTree → Type 0
-AreCoresApart a b = IsMeetIn CoreFits a b None
+AreCoresApart a b = IsMeetIn ValidFits a b None
 
 -- what an interface or a world exports under a name
 abbrev pub export_of : ItemTree → Text → Option ItemTree
@@ -36,7 +37,7 @@ export_of t n = None
 
 -- what a core module exports under a name
 abbrev pub core_export_of : ItemTree → Text → Option CoreTree
-core_export_of (core_module k m) n = lookup bytes_eq m.exports n
+core_export_of (core_module k m) n = lookup bytes_eq m.content.exports n
 core_export_of t n = None
 
 -- the types disagree

@@ -1,7 +1,9 @@
 //! Where the exports of two core modules clash.
 
-ghost use Rattle.std.specs.Prelude.{IfOk};
+ghost use Rattle.std.specs.Prelude.{IfOk, IsTrue};
+ghost use Rattle.std.specs.List.{list_all};
 ghost use Rattle.std.specs.Option.{option_map, option_copied};
+ghost use Rattle.wac_model.specs.CoreTree.{is_valid_extern};
 ghost use Rattle.wac_model.specs.ItemTree.{Kind};
 ghost use Rattle.wac_component.specs.Key.{AllStand, Stands, item_keys, type_keys, module_key};
 ghost use Rattle.wac_component.specs.Content.{named};
@@ -75,12 +77,13 @@ fn module_type_clash(
     first_core_clash(alloc, &own[existing].exports, &own[new].exports)
 }
 
-// The first two of one name that have no meet.
+// The first two of one name that have no meet, of valid core externs and others.
 fn first_core_clash(
     alloc: Global,
     first: &IndexMap<String, CoreExtern>,
     second: &IndexMap<String, CoreExtern>,
 ) -> Result<Option<CoreClash>, AllocError>
+    requires valid { IsTrue (list_all (λ e. is_valid_extern e.1) (named core_tree first.now.entries)) }
     ensures { IfOk result (IsCoreSearchOf (named core_tree first.now.entries) (named core_tree second.now.entries)) }
 {
     for (name, existing) in first {
@@ -94,12 +97,13 @@ fn first_core_clash(
     Ok(None)
 }
 
-// What is said of a core extern and of what the other side has, if these have no meet.
+// What is said of a valid core extern and of what the other side has, if these have no meet.
 fn core_clash(
     alloc: Global,
     existing: &CoreExtern,
     other: Option<&CoreExtern>,
 ) -> Result<Option<SubtypeError>, AllocError>
+    requires valid { IsTrue (is_valid_extern (core_tree existing.now)) }
     ensures { IfOk result (IsSearchBeside (core_tree existing.now) (option_map core_tree (option_copied other.entry))) }
 {
     let Some(new) = other else {

@@ -57,8 +57,8 @@ impl Session {
     /// the line feed after the last.
     ///
     /// `NoneAtHand`, `NoCollection` and `NoEntry` come where the command names a collection or an
-    /// entry that isn't there, and `Memory` is a failed allocation. Refused, a command builds
-    /// nothing and takes no number.
+    /// entry that isn't there, `Limits` where it adds or replaces a core module that isn't valid, and
+    /// `Memory` is a failed allocation. Refused, a command builds nothing and takes no number.
     pub fn run<'a>(
         &mut self,
         alloc: Global,

@@ -27,6 +27,8 @@ pub enum ScriptError<'a> {
     /// Two keys of packages are equal as they are and not through `dyn
     /// BorrowedKey`, or the other way round.
     Keys,
+    /// A table or a memory of a core module starts above its maximum.
+    Limits,
     /// An allocation failed.
     Memory,
 }
@@ -63,6 +65,7 @@ impl fmt::Display for ScriptError<'_> {
             ScriptError::NoCollection(number) => write!(f, "there is no collection {number}"),
             ScriptError::NoEntry(name) => write!(f, "there is no entry {name}"),
             ScriptError::Keys => write!(f, "two calls disagree on whether two keys are equal"),
+            ScriptError::Limits => write!(f, "initial above maximum"),
             ScriptError::Memory => write!(f, "out of memory"),
         }
     }

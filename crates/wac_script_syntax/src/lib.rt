@@ -34,7 +34,7 @@
 //! | `func sync\|async VALUE\|- (NAME=VALUE)*` | adds a function: its result and its parameters |
 //! | `iface NAME\|- MEMBER*` | adds an interface: its identifier, uses `u:NAME=iN[=NAME]` (with the name that the type has there) and exports `e:NAME=ITEM` |
 //! | `world NAME\|- MEMBER*` | adds a world: also imports `m:NAME=ITEM` |
-//! | `module MEMBER*` | adds a core module: imports `m:NAME,NAME=EXTERN` and exports `e:NAME=EXTERN` |
+//! | `module MEMBER*` | adds a core module: imports `m:NAME,NAME=EXTERN` and exports `e:NAME=EXTERN`, of which no table or memory starts above its maximum |
 //! | `cache keep`, `cache drop` | shares one cache among questions, or gives each an empty one |
 //! | `call NAME COLL ITEM` | hands an item to the next aggregator that is asked about |
 //! | a query | an answer: the table of `wac_script_session` |

@@ -208,5 +208,6 @@ fn replace(
         Ok(()) => Ok(()),
         Err(ReplaceError::Cycle(_)) => Err(AggregateError::Cycle { interface }),
         Err(ReplaceError::Memory(_)) => Err(AggregateError::Memory),
+        Err(ReplaceError::Limits(_)) => unreachable!(),
     }
 }

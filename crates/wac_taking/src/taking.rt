@@ -26,6 +26,7 @@ use super::state::Merging;
 use indexmap::IndexMap;
 use std::alloc::AllocError;
 use wac_alike::{alike_resources, alike_values};
+use wac_component::valid::add_valid_module_type;
 use wac_component::{
     DefinedType, DefinedTypeId, FuncType, FuncTypeId, InterfaceId, ItemKind, ModuleTypeId, Record,
     Resource, ResourceAlias, ResourceId, Type, Types, UsedType, ValueType, Variant, WorldId,
@@ -628,7 +629,7 @@ fn take_module(
         return Ok(own);
     }
     types.sound();
-    let own = state.types.add_module_type(types[id].clone()?)?;
+    let own = add_valid_module_type(&mut state.types, types[id].clone()?)?;
     state.taken.put_module(id, own)?;
     Ok(own)
 }

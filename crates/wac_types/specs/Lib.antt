@@ -13,6 +13,7 @@ pub use Rattle.wac_model.specs.Desc
 pub use Rattle.wac_model.specs.Laws as TreeLaws
 pub use Rattle.wac_bounds.specs.Bounds
 pub use Rattle.wac_bounds.specs.MeetIn
+pub use Rattle.wac_bounds.specs.Valid
 pub use Rattle.wac_bounds.specs.Laws as BoundLaws
 -- core types
 pub use Rattle.wac_core.specs.Content as CoreContent
@@ -39,6 +40,7 @@ pub use Rattle.wac_component.specs.Unfolding
 pub use Rattle.wac_component.specs.Tree
 pub use Rattle.wac_component.specs.Aliases
 pub use Rattle.wac_component.specs.Growth
+pub use Rattle.wac_component.specs.Adding
 pub use Rattle.wac_component.specs.Replacing
 pub use Rattle.wac_component.specs.Borrow
 pub use Rattle.wac_component.specs.Visits

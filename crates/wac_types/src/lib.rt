@@ -11,10 +11,12 @@ pub use wac_aggregator::{
 pub use wac_checker::SubtypeChecker;
 pub use wac_component::{
     DefinedType, DefinedTypeId, Enum, ExternKind, Flags, FuncKind, FuncType, FuncTypeId, Interface,
-    InterfaceId, ItemKind, ModuleTypeId, Record, ReplaceError, Resource, ResourceAlias, ResourceId,
-    Type, Types, UsedType, ValueType, Variant, World, WorldId,
+    InterfaceId, ItemKind, ModuleError, ModuleTypeId, Record, ReplaceError, Resource,
+    ResourceAlias, ResourceId, Type, Types, UsedType, ValueType, Variant, World, WorldId,
 };
-pub use wac_core::{CoreExtern, CoreFuncType, CoreRefType, CoreType, HeapType, ModuleType};
+pub use wac_core::{
+    CoreExtern, CoreFuncType, CoreRefType, CoreType, HeapType, ModuleType, has_valid_limits,
+};
 pub use wac_core_merge::{join_externs, join_modules, meet_externs, meet_modules};
 pub use wac_merge::{join, meet};
 pub use wac_mismatch::{

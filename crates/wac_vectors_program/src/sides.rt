@@ -2,12 +2,14 @@
 
 ghost use Rattle.std.specs.Prelude.{◌≡◌, [], IfOk};
 ghost use Rattle.wac_component.specs.Content.{defined_content, func_content, named};
-ghost use Rattle.wac_component.specs.Key.{Stands, AllStand, func_key, item_keys, defined_keys, func_keys, named_keys};
+ghost use Rattle.wac_component.specs.Key.{Stands, AllStand, func_key, module_key, item_keys, defined_keys, func_keys, named_keys};
 
 use indexmap::IndexMap;
 use std::alloc::{AllocError, Global};
+use std::io;
 use wac_component::{
-    DefinedType, FuncType, FuncTypeId, Interface, ItemKind, Resource, Type, Types, ValueType, World,
+    DefinedType, FuncType, FuncTypeId, Interface, ItemKind, ModuleError, ModuleTypeId, Resource,
+    Type, Types, ValueType, World,
 };
 use wac_core::{CoreExtern, ModuleType};
 use wac_model::PrimitiveType;
@@ -41,8 +43,9 @@ pub(crate) enum Side {
     Module(u64, Option<u64>),
 }
 
-// Adds what a side needs to a collection, and gives its item.
-pub(crate) fn add_side(alloc: Global, types: &mut Types, side: Side) -> Result<ItemKind, AllocError>
+// Adds what a side needs to a collection, and gives its item: an error of the kind `InvalidInput`
+// for a module whose memory starts above its maximum.
+pub(crate) fn add_side(alloc: Global, types: &mut Types, side: Side) -> io::Result<ItemKind>
     ensures stands { IfOk result (λ item. AllStand types.new (item_keys item)) }
     ensures number { types.new.number ≡ types.old.number }
 {
@@ -73,13 +76,13 @@ pub(crate) fn add_side(alloc: Global, types: &mut Types, side: Side) -> Result<I
         Side::Instance(names) => add_instance(alloc, types, names),
         Side::Component(names) => add_component(alloc, types, names),
         Side::Module(initial, maximum) => {
-            let id = types.add_module_type(exporting_memory(alloc, initial, maximum)?)?;
+            let id = add_module(types, exporting_memory(alloc, initial, maximum)?)?;
             Ok(ItemKind::Module(id))
         }
     }
 }
 
-fn add_value(types: &mut Types, ty: DefinedType) -> Result<ItemKind, AllocError>
+fn add_value(types: &mut Types, ty: DefinedType) -> io::Result<ItemKind>
     requires { defined_keys (defined_content ty) ≡ [] }
     ensures stands { IfOk result (λ item. AllStand types.new (item_keys item)) }
     ensures number { types.new.number ≡ types.old.number }
@@ -88,13 +91,24 @@ fn add_value(types: &mut Types, ty: DefinedType) -> Result<ItemKind, AllocError>
     Ok(ItemKind::Value(ValueType::Defined(id)))
 }
 
-fn add_func(types: &mut Types, ty: FuncType) -> Result<ItemKind, AllocError>
+fn add_func(types: &mut Types, ty: FuncType) -> io::Result<ItemKind>
     requires { func_keys (func_content ty) ≡ [] }
     ensures stands { IfOk result (λ item. AllStand types.new (item_keys item)) }
     ensures number { types.new.number ≡ types.old.number }
 {
     let id = types.add_func_type(ty)?;
     Ok(ItemKind::Func(id))
+}
+
+fn add_module(types: &mut Types, ty: ModuleType) -> io::Result<ModuleTypeId>
+    ensures stands { IfOk result (λ id. Stands types.new (module_key id)) }
+    ensures number { types.new.number ≡ types.old.number }
+{
+    match types.add_module_type(ty) {
+        Ok(id) => Ok(id),
+        Err(ModuleError::Limits) => Err(io::Error::from(io::ErrorKind::InvalidInput)),
+        Err(ModuleError::Memory) => Err(io::Error::from(AllocError)),
+    }
 }
 
 // A function with one parameter of type `u8`.
@@ -123,7 +137,7 @@ fn func_giving(alloc: Global, ty: PrimitiveType) -> FuncType
 }
 
 // An instance that exports functions under these names.
-fn add_instance(alloc: Global, types: &mut Types, names: &[&str]) -> Result<ItemKind, AllocError>
+fn add_instance(alloc: Global, types: &mut Types, names: &[&str]) -> io::Result<ItemKind>
     ensures stands { IfOk result (λ item. AllStand types.new (item_keys item)) }
     ensures number { types.new.number ≡ types.old.number }
 {
@@ -137,7 +151,7 @@ fn add_instance(alloc: Global, types: &mut Types, names: &[&str]) -> Result<Item
 }
 
 // A component that imports functions under these names.
-fn add_component(alloc: Global, types: &mut Types, names: &[&str]) -> Result<ItemKind, AllocError>
+fn add_component(alloc: Global, types: &mut Types, names: &[&str]) -> io::Result<ItemKind>
     ensures stands { IfOk result (λ item. AllStand types.new (item_keys item)) }
     ensures number { types.new.number ≡ types.old.number }
 {

@@ -1,12 +1,13 @@
 //! Replacing entries, where that closes no cycle. Who replaces an entry empties each checker's
 //! cache that holds an item which leads to it.
 
-ghost use Rattle.std.specs.Prelude.{◌≡◌, ◌↔◌, slice_set, IsTrue, IsOk, OnOk, OnErr, IfOk};
-ghost use Rattle.wac_core.specs.Content.{module_content};
+ghost use Rattle.std.specs.Prelude.{◌≡◌, ◌↔◌, slice_set, IsTrue, OnOk, OnErr, IfOk};
+ghost use Rattle.wac_model.specs.CoreTree.{is_valid_module};
+ghost use Rattle.wac_core.specs.Content.{module_content, core_module_of};
 ghost use Rattle.wac_component.specs.Content.{defined_content, resource_content, func_content, interface_content, world_content};
 ghost use Rattle.wac_component.specs.Key.{Stands, AllStand, defined_key, resource_key, func_key, interface_key, world_key, module_key, defined_keys, resource_keys, func_keys, interface_keys, world_keys};
 ghost use Rattle.wac_component.specs.Tree.{value_tree, content_tree, root_name, content_name, func_tree, func_content_tree, module_tree, item_tree, externs, interface_externs, world_externs};
-ghost use Rattle.wac_component.specs.Replacing.{NamesReach, Replaces, AnswersReplace};
+ghost use Rattle.wac_component.specs.Replacing.{NamesReach, Replaces, AnswersReplace, AnswersReplaceModule};
 ghost use Rattle.wac_component.specs.declared.items.ValueType.TheVariants.{Defined};
 
 use super::Types;
@@ -17,7 +18,7 @@ use crate::{
     Resource, ResourceId, World, WorldId,
 };
 use std::alloc::AllocError;
-use wac_core::ModuleType;
+use wac_core::{ModuleType, has_valid_limits};
 
 /// Why an entry was not replaced. The content is handed back.
 #[derive(Debug, Drop)]
@@ -26,6 +27,8 @@ pub enum ReplaceError<T> {
     Cycle(T),
     /// An allocation failed while a cycle was looked for.
     Memory(T),
+    /// A table or a memory in it starts above its maximum.
+    Limits(T),
 }
 
 impl Types {
@@ -150,19 +153,24 @@ impl Types {
         }
     }
 
-    /// Puts a core module type in the place of another. This never
-    /// fails: a core module names no ids.
+    /// Puts a core module type in the place of another. `Limits` exactly where a table or a memory
+    /// in it starts above its maximum; the content is then handed back, and the collection is
+    /// unchanged. This takes no memory: a core module names no ids.
     pub fn replace_module_type(
         &mut self,
         id: ModuleTypeId,
         ty: ModuleType,
     ) -> Result<(), ReplaceError<ModuleType>>
         requires { Stands self.old (module_key id) }
-        ensures replaced { self.new ≡ record self.old { modules = slice_set self.old.modules id.index (module_content ty) } }
-        ensures answer { IsOk result }
-        ensures tree { module_tree self.new id ≡ module_content ty }
-        ensures keeps { Replaces self.old self.new (module_key id) }
+        ensures replaced { OnOk result (self.new ≡ record self.old { modules = slice_set self.old.modules id.index (core_module_of ty) }) }
+        ensures answer { AnswersReplaceModule result ty (IsTrue (is_valid_module (module_content ty))) }
+        ensures tree { OnOk result ((module_tree self.new id).content ≡ module_content ty) }
+        ensures keeps { OnOk result (Replaces self.old self.new (module_key id)) }
+        ensures err { OnErr result (self.new ≡ self.old) }
     {
+        if !has_valid_limits(&ty) {
+            return Err(ReplaceError::Limits(ty));
+        }
         self.modules[id.index()] = ty;
         Ok(())
     }

@@ -1,8 +1,10 @@
-use Rattle.std.proofs.Common.{inr}
-use Rattle.wac_core.specs.Content.{module_content}
+use Rattle.std.proofs.Common.{inr, Some}
+use Rattle.wac_bounds.specs.MeetIn.{IsJoinIn}
+use Rattle.wac_bounds.specs.Valid.{ValidModuleFits}
+use Rattle.wac_core.specs.Content.{module_content, core_module_of}
 use Rattle.wac_merge.specs.declared.memo.Bound.TheVariants.{Join}
 use Rattle.wac_merge.proofs.DoneLemmas.{module_joined_done}
-use Rattle.wac_merge.proofs.MadeLemmas.{module_made}
+use Rattle.wac_merge.proofs.MadeLemmas.{built_of, module_made}
 use Rattle.wac_merge.proofs.MemoLemmas.{Grows-same, IsDone}
 use Rattle.wac_merge.specs.declared.memo.Pair.TheVariants.{Modules}
 use Rattle.wac_merge.proofs.modules.join_module_types.Goals as goal
@@ -24,7 +26,13 @@ returns-in_ok-module_of-in-Some-clause-joined c = (is_done c).bound
 pub returns-in_ok-module_of-in-Some-clause-standing : goal.returns-in_ok-module_of-in-Some-clause-standing
 returns-in_ok-module_of-in-Some-clause-standing c = (is_done c).stands
 
+pub module_of-requires : goal.module_of-requires
+module_of-requires c =
+    let bound : IsJoinIn ValidModuleFits (module_content c.index.result.now) (module_content c.index-2.result.now) (Some (module_content c.in-Some.ty)) = rw c.in-Some.is at c.in_ok-ty.ensures.join in
+    bound.0.1
+
 pub returns-in_ok-module_of-in-Some-clause-built : goal.returns-in_ok-module_of-in-Some-clause-built
 returns-in_ok-module_of-in-Some-clause-built c =
-    module_made c.args.types.now c.module_of.new.types c.args.memo.now c.module_of.new.memo Join c.args.x c.args.y c.in_ok-module_of-in-Some.field-0 (module_content c.index.result.now) (module_content c.index-2.result.now) (module_content c.in-Some.ty)
-    c.index.ensures.entry c.index-2.ensures.entry record { from = rw c.in-Some.is at c.in_ok-ty.ensures.names; order = inr (rw c.in-Some.is at c.in_ok-ty.ensures.order) } c.in_ok-module_of-in-Some.ensures.grows c.in_ok-module_of-in-Some.ensures.made (inr (is_done c).bound)
+    let bound : IsJoinIn ValidModuleFits (module_content c.index.result.now) (module_content c.index-2.result.now) (Some (module_content c.in-Some.ty)) = rw c.in-Some.is at c.in_ok-ty.ensures.join in
+    module_made c.args.types.now c.module_of.new.types c.args.memo.now c.module_of.new.memo Join c.args.x c.args.y c.in_ok-module_of-in-Some.field-0 (core_module_of c.index.result.now) (core_module_of c.index-2.result.now) (module_content c.in-Some.ty)
+    c.index.ensures.entry c.index-2.ensures.entry (built_of (module_content c.index.result.now) (module_content c.index-2.result.now) (module_content c.in-Some.ty) c.index.ensures.valid c.index-2.ensures.valid bound.0.1 record { from = rw c.in-Some.is at c.in_ok-ty.ensures.names; order = inr (rw c.in-Some.is at c.in_ok-ty.ensures.order) }) c.in_ok-module_of-in-Some.ensures.grows c.in_ok-module_of-in-Some.ensures.made (inr (is_done c).bound)

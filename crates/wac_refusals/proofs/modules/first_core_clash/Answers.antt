@@ -5,9 +5,16 @@ use Rattle.wac_core.specs.Content.{core_tree}
 use Rattle.wac_component.specs.Content.{named}
 use Rattle.wac_refusals.specs.Clashes.{AreCoresApart}
 use Rattle.wac_refusals.specs.Found.{HasNone}
-use Rattle.wac_refusals.proofs.Cores.{cores_found, none_beside}
+use Rattle.wac_refusals.proofs.Cores.{entry_valid, cores_found, none_beside}
 use Rattle.wac_refusals.proofs.Turns.{name_has, done_more, none_more}
 use Rattle.wac_refusals.proofs.modules.first_core_clash.Goals as goal
+
+pub core_clash-requires : goal.core_clash-requires
+core_clash-requires c = record {
+  valid =
+      entry_valid c.args.first.now.entries (string_bytes c.in-Some.name.now) c.in-Some.existing.now c.requires.valid
+      (name_has deref_pair c.args.first.now.entries c.loop-name.yielded _ _ _ _ (c.in-Some.name, c.in-Some.existing) c.into_iter-name-iterator.ensures.into_iter_gives.0 c.loop-name.yielded_by c.in-Some.is c.next.ensures.steps c.into_iter-name-iterator.ensures.into_iter_gives.4);
+}
 
 pub returns-in-Some-2 : goal.returns-in-Some-2
 returns-in-Some-2 c =

@@ -1,7 +1,11 @@
 use Rattle.std.proofs.lemmas.Result.{IfOk-weaker}
+use Rattle.wac_bounds.proofs.ValidLemmas.{exports_valid}
 use Rattle.wac_core.specs.Content.{module_content}
 use Rattle.wac_refusals.proofs.Cores.{modules_searched}
 use Rattle.wac_refusals.proofs.modules.module_type_clash.Goals as goal
+
+pub first_core_clash-requires : goal.first_core_clash-requires
+first_core_clash-requires c = record { valid = exports_valid (module_content c.index.result.now) c.index.ensures.valid; }
 
 pub returns : goal.returns
 returns c =
