@@ -6,30 +6,4 @@
 #![tactic(auto)]
 
 #[cfg(test)]
-mod adding;
-#[cfg(test)]
-mod aggregating;
-#[cfg(test)]
-mod bounding;
-#[cfg(test)]
-mod cloning;
-#[cfg(test)]
-mod comparing;
-#[cfg(test)]
-mod displaying;
-#[cfg(test)]
-mod entries;
-#[cfg(test)]
-mod handing;
-#[cfg(test)]
-mod naming;
-#[cfg(test)]
-mod packaging;
-#[cfg(test)]
-mod replacing;
-#[cfg(test)]
-mod targeting;
-#[cfg(test)]
-mod trial;
-#[cfg(test)]
-mod without_memory;
+mod tests;

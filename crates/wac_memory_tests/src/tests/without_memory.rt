@@ -1,14 +1,13 @@
 //! Calls that take no memory, and so answer whatever is refused.
 
-use super::entries::entries;
-use super::trial::item;
+use super::asking::{Asking, asked};
+use super::built::Attempt;
+use super::entries::is_shown_of_entries;
+use super::trial::{Trial, demand, item};
 use std::alloc::Global;
-use std::collections::HashSet;
-use std::test::Fail;
-use wac_script_session::Numbers;
 use wac_test_tools::{defined, interface, lists_seen, resource, world};
 use wac_types::{
-    BorrowedPackageKey, ItemKind, NameMap, SubtypeCheck, SubtypeChecker, TargetValidationReport,
+    BorrowedPackageKey, ItemKind, SubtypeCheck, SubtypeChecker, TargetValidationReport,
     TargetValidationResult, Type, TypeAggregator, Types, ValueType, are_semver_compatible,
     is_same_key, track_of,
 };
@@ -76,10 +75,17 @@ pub(crate) fn answers(alloc: Global, types: &Types) -> bool {
         && tells_tracks(alloc)
 }
 
+#[derive(Clone, Copy)]
+struct Answering;
+
+impl Attempt for Answering {
+    fn attempt(&self, alloc: Global, types: &mut Types) -> Trial {
+        demand(answers(alloc, types))
+    }
+}
+
 // Whether a checker turns, turns back and forgets.
-fn turns(alloc: Global) -> bool {
-    let mut cache = HashSet::new(alloc);
-    let mut checker = SubtypeChecker::new(&mut cache);
+fn turns(checker: &mut SubtypeChecker<'_>) -> bool {
     checker.forget(1);
     if checker.depth() != 0 {
         return false;
@@ -93,26 +99,32 @@ fn turns(alloc: Global) -> bool {
         && (depth, checker.depth(), checker.opened()) == (1, 0, 0)
 }
 
-// Whether what is new holds nothing.
-fn begins_empty(alloc: Global) -> bool {
+#[derive(Clone, Copy)]
+struct Turning;
+
+impl Asking for Turning {
+    fn ask(&self, _alloc: Global, checker: &mut SubtypeChecker<'_>) -> Trial {
+        demand(turns(checker))
+    }
+}
+
+// Whether a new aggregator holds nothing.
+fn aggregator_begins_empty(alloc: Global) -> bool {
     let merged = TypeAggregator::new(alloc, 9);
-    let mut map: NameMap<usize, u32> = NameMap::new(alloc);
-    let answer = TargetValidationResult::from(TargetValidationReport::new(alloc));
-    let key = BorrowedPackageKey::from_name_and_version("a:b", None);
-    let _numbers = Numbers::new(alloc);
-    merged.imports().next().is_none()
-        && merged.canonical_import_name("a") == "a"
-        && map.raw_get_mut(&0).is_none()
-        && answer.is_ok()
-        && is_same_key(&key, &key)
+    merged.imports().next().is_none() && merged.canonical_import_name("a") == "a"
+}
+
+// Whether a report without entries says that a component fits.
+fn report_begins_empty(alloc: Global) -> bool {
+    TargetValidationResult::from(TargetValidationReport::new(alloc)).is_ok()
 }
 
 #[test]
-fn calls_that_take_no_memory_answer_whatever_is_refused(rt: HostRuntime) -> Result<(), Fail> {
-    let answered = match (entries(rt.alloc()), entries(rt.alloc())) {
-        (Ok(types), _) | (_, Ok(types)) => answers(rt.alloc(), &types),
-        _ => false,
-    };
-    assert!(&rt; answered && turns(rt.alloc()) && begins_empty(rt.alloc()));
-    Ok(())
+fn calls_that_take_no_memory_answer_whatever_is_refused(rt: HostRuntime) {
+    assert!(&rt; is_shown_of_entries(rt.alloc(), &Answering), "a collection");
+    assert!(&rt; asked(rt.alloc(), &Turning).is_ok(), "a checker");
+    assert!(&rt; aggregator_begins_empty(rt.alloc()), "an aggregator");
+    assert!(&rt; report_begins_empty(rt.alloc()), "a report");
+    let key = BorrowedPackageKey::from_name_and_version("a:b", None);
+    assert!(&rt; is_same_key(&key, &key), "a key");
 }

@@ -1,16 +1,16 @@
 //! Clones: a clone is like its original, and where it is refused the original is as before.
 
-use super::entries::entries;
+use super::built::{Attempt, is_shown_of};
+use super::entries::is_shown_of_entries;
 use super::trial::{Trial, demand, is_shown, refused, text_of};
 use std::alloc::Global;
 use std::fmt::Debug;
 use std::slice;
-use wac_script_entries::built;
 use wac_test_tools::debugs;
 use wac_types::{CoreExtern, DefinedType, Interface, ModuleType, NameClass, Types};
 
 // Clones a value.
-fn clones<T: Clone + Debug>(alloc: Global, value: &T) -> Trial {
+pub(crate) fn clones<T: Clone + Debug>(alloc: Global, value: &T) -> Trial {
     let text = text_of(alloc, value)?;
     match value.clone() {
         Ok(copy) => demand(debugs(&copy, &text) && debugs(value, &text)),
@@ -52,23 +52,12 @@ def record a=u8
 def flags a b
 def enum a b";
 
-fn clones_defined_types(alloc: Global) -> Trial {
-    let types = built(alloc, 1, DEFINED)?;
+fn clones_defined_types(alloc: Global, types: &Types) -> Trial {
     for ty in types.defined_types() {
         clones(alloc, ty)?;
         clones_part(alloc, ty)?;
     }
     Ok(())
-}
-
-#[test]
-fn defined_types_are_as_before_where_their_clones_are_refused(rt: HostRuntime) {
-    assert!(&rt;
-        is_shown(
-            clones_defined_types(rt.alloc()),
-            clones_defined_types(rt.alloc())
-        )
-    );
 }
 
 // Clones what an interface uses.
@@ -114,14 +103,15 @@ fn clones_contents(alloc: Global, types: &Types) -> Trial {
     Ok(())
 }
 
-fn clones_entries(alloc: Global) -> Trial {
-    let types = entries(alloc)?;
-    clones_contents(alloc, &types)
-}
+// Clones each content of a collection.
+#[derive(Clone, Copy)]
+struct Cloning;
 
-#[test]
-fn entries_are_as_before_where_their_clones_are_refused(rt: HostRuntime) {
-    assert!(&rt; is_shown(clones_entries(rt.alloc()), clones_entries(rt.alloc())));
+impl Attempt for Cloning {
+    fn attempt(&self, alloc: Global, types: &mut Types) -> Trial {
+        clones_defined_types(alloc, types)?;
+        clones_contents(alloc, types)
+    }
 }
 
 fn clones_class(alloc: Global) -> Trial {
@@ -130,6 +120,11 @@ fn clones_class(alloc: Global) -> Trial {
 }
 
 #[test]
-fn a_class_of_names_is_as_before_where_its_clone_is_refused(rt: HostRuntime) {
-    assert!(&rt; is_shown(clones_class(rt.alloc()), clones_class(rt.alloc())));
+fn a_value_is_as_before_where_its_clone_is_refused(rt: HostRuntime) {
+    assert!(&rt; is_shown_of(rt.alloc(), DEFINED, &Cloning), "defined types");
+    assert!(&rt; is_shown_of_entries(rt.alloc(), &Cloning), "entries");
+    assert!(&rt;
+        is_shown(clones_class(rt.alloc()), clones_class(rt.alloc())),
+        "class of names"
+    );
 }

@@ -1,6 +1,6 @@
 use Rattle.wac_types.specs.HandedIn.{handed_in}
 use Rattle.wac_memory_tests.proofs.CallLemmas.{AreCallsOf-aggregated}
-use Rattle.wac_memory_tests.proofs.aggregating.merges_twice.Goals as goal
+use Rattle.wac_memory_tests.proofs.tests.aggregating.merges_twice.Goals as goal
 
 pub merges_turned_back-once-requires : goal.merges_turned_back-once-requires
 merges_turned_back-once-requires c =

@@ -1,10 +1,10 @@
 //! Validating a component against a target world.
 
-use super::trial::{Stop, Trial, demand, is_shown};
+use super::built::{Attempt, is_shown_of};
+use super::trial::{Stop, Trial, demand};
 use std::alloc::Global;
-use wac_script_entries::built;
 use wac_test_tools::{shows, world};
-use wac_types::{TargetError, validate_target};
+use wac_types::{TargetError, Types, validate_target};
 
 // Lines of a target world and the world of a component, and the report, empty where it fits.
 static ROWS: [(&str, &str); 4] = [
@@ -47,10 +47,9 @@ world - m:p:u/u@1.0.0=I:i0",
     ),
 ];
 
-fn validates(alloc: Global, lines: &str, report: &str) -> Trial {
-    let types = built(alloc, 1, lines)?;
-    let (target, component) = (world(&types, 0)?, world(&types, 1)?);
-    match validate_target(alloc, &types, target, component) {
+fn validates(alloc: Global, types: &Types, report: &str) -> Trial {
+    let (target, component) = (world(types, 0)?, world(types, 1)?);
+    match validate_target(alloc, types, target, component) {
         Ok(Ok(())) => demand(report.is_empty()),
         Ok(Err(found)) => demand(shows(&found, report)),
         Err(TargetError::Memory) => Err(Stop::Refused),
@@ -58,14 +57,23 @@ fn validates(alloc: Global, lines: &str, report: &str) -> Trial {
     }
 }
 
+// Validates the second world of a collection against the first, with this report.
+#[derive(Clone, Copy)]
+struct Validating {
+    report: &'static str,
+}
+
+impl Attempt for Validating {
+    fn attempt(&self, alloc: Global, types: &mut Types) -> Trial {
+        validates(alloc, types, self.report)
+    }
+}
+
 #[test]
 fn a_report_is_the_undisturbed_one_or_none(rt: HostRuntime) {
     for (lines, report) in &ROWS {
         assert!(&rt;
-            is_shown(
-                validates(rt.alloc(), lines, report),
-                validates(rt.alloc(), lines, report)
-            ),
+            is_shown_of(rt.alloc(), lines, &Validating { report }),
             "{report}"
         );
     }

@@ -2,7 +2,7 @@ use Rattle.std.proofs.Common.{subst, sym}
 use Rattle.wac_types.specs.HandedIn.{handed_in}
 use Rattle.wac_memory_tests.specs.Calls.{AreCallsOf}
 use Rattle.wac_memory_tests.proofs.CallLemmas.{AreCallsOf-push}
-use Rattle.wac_memory_tests.proofs.handing.push_handed.Goals as goal
+use Rattle.wac_memory_tests.proofs.tests.handing.push_handed.Goals as goal
 
 pub returns : goal.returns
 returns c =

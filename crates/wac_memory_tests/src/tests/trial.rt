@@ -57,6 +57,16 @@ pub(crate) fn is_shown(first: Trial, second: Trial) -> bool {
     }
 }
 
+// What a trial of two parts comes to: what was refused in one doesn't hide what is wrong in the
+// other.
+pub(crate) fn both(first: Trial, second: Trial) -> Trial {
+    match (first, second) {
+        (Ok(()), trial) | (trial, Ok(())) => trial,
+        (Err(Stop::Refused), Err(Stop::Refused)) => Err(Stop::Refused),
+        _ => Err(Stop::Wrong),
+    }
+}
+
 // A trial that comes to its end where this holds.
 pub(crate) fn demand(holds: bool) -> Trial {
     if holds { Ok(()) } else { Err(Stop::Wrong) }

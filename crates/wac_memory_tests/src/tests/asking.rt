@@ -1,0 +1,28 @@
+//! Checkers, and what they are asked.
+
+use super::trial::{Trial, both};
+use std::alloc::Global;
+use std::collections::HashSet;
+use wac_types::{ItemKind, SubtypeChecker};
+
+// The pairs of which a checker keeps that the one fits where the other is asked for.
+pub(crate) type Cache = HashSet<(ItemKind, ItemKind)>;
+
+// What a checker with a new cache is asked.
+pub(crate) trait Asking {
+    fn ask(&self, alloc: Global, checker: &mut SubtypeChecker<'_>) -> Trial;
+
+    // Looks at what the checker left in its cache.
+    fn look(&self, _alloc: Global, _cache: &Cache) -> Trial {
+        Ok(())
+    }
+}
+
+// Asks, and looks at the cache whatever was refused. The one owner of a checker and its cache,
+// since such a function takes long to prove.
+pub(crate) fn asked<A: Asking>(alloc: Global, asking: &A) -> Trial {
+    let mut cache = HashSet::new(alloc);
+    let mut checker = SubtypeChecker::new(&mut cache);
+    let trial = asking.ask(alloc, &mut checker);
+    both(trial, asking.look(alloc, &cache))
+}
