@@ -5,7 +5,7 @@ use Rattle.wac_refusals.proofs.Cores.{modules_searched}
 use Rattle.wac_refusals.proofs.modules.module_type_clash.Goals as goal
 
 pub first_core_clash-requires : goal.first_core_clash-requires
-first_core_clash-requires c = record { valid = exports_valid (module_content c.index.result.now) c.index.ensures.valid; }
+first_core_clash-requires c = record { valid = exports_valid (module_content c.index.result.now) c.index.ensures.valid }
 
 pub returns : goal.returns
 returns c =
