@@ -124,6 +124,10 @@ fn compares(
     let (Ok(a), Ok(b)) = (item(types, comparison.a), item(types, comparison.b)) else {
         return Err(Stop::Wrong);
     };
+    // a checker that was turned as often as can be counted couldn't be turned
+    if checker.depth() != 0 {
+        return Err(Stop::Wrong);
+    }
     if is_inverted {
         checker.invert();
     }
