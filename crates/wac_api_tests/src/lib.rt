@@ -34,3 +34,5 @@ mod reports;
 mod sharing;
 #[cfg(test)]
 mod visits;
+#[cfg(test)]
+mod wit_texts;

@@ -1,0 +1,307 @@
+//! Steps over tokens.
+
+use super::error::{Fault, SyntaxError};
+use super::keywords::is_keyword;
+use super::positions::{Position, Span, position_of};
+use super::refusals::Refusals;
+use super::scanning::quoted;
+use super::token::{Token, TokenKind};
+use super::tree::Ident;
+use std::alloc::{AllocError, Global};
+
+/// The tokens of a text, which is the next, and what is refused so far.
+#[derive(Drop)]
+pub(crate) struct Cursor<'a> {
+    pub(crate) alloc: Global,
+    text: &'a str,
+    tokens: &'a [Token],
+    next: usize,
+    refusals: Refusals,
+}
+
+impl<'a> Cursor<'a> {
+    /// At the first token.
+    pub(crate) fn new(
+        alloc: Global,
+        text: &'a str,
+        tokens: &'a [Token],
+        refusals: Refusals,
+    ) -> Cursor<'a> {
+        Cursor {
+            alloc,
+            text,
+            tokens,
+            next: 0,
+            refusals,
+        }
+    }
+
+    /// How many tokens there are, which bounds the turns of each loop.
+    pub(crate) fn len(&self) -> usize {
+        self.tokens.len()
+    }
+
+    /// Which token is the next.
+    pub(crate) fn index(&self) -> usize {
+        self.next
+    }
+
+    /// The next token; the end stays.
+    pub(crate) fn peek(&self) -> Token {
+        self.ahead(0)
+    }
+
+    /// The token so many behind the next.
+    pub(crate) fn ahead(&self, by: usize) -> Token {
+        match self.tokens.get(self.next.saturating_add(by)) {
+            Some(token) => *token,
+            None => self.end(),
+        }
+    }
+
+    // The end of the text.
+    fn end(&self) -> Token {
+        let end = self.text.len();
+        Token {
+            kind: TokenKind::End,
+            span: Span { start: end, end },
+            docs: None,
+        }
+    }
+
+    /// Where the last token stands that was taken.
+    pub(crate) fn last_span(&self) -> Span {
+        match self.tokens.get(self.next.saturating_sub(1)) {
+            Some(token) => token.span,
+            None => self.end().span,
+        }
+    }
+
+    /// The text of a token.
+    pub(crate) fn text_of(&self, token: Token) -> &'a str {
+        self.text
+            .get(token.span.start..token.span.end)
+            .unwrap_or("")
+    }
+
+    /// The next token, if it is a word that stands without `%`; else nothing.
+    pub(crate) fn word(&self) -> &'a str {
+        let token = self.peek();
+        if token.kind == TokenKind::Word {
+            self.text_of(token)
+        } else {
+            ""
+        }
+    }
+
+    /// Takes the next token.
+    pub(crate) fn take(&mut self) -> Token {
+        let token = self.peek();
+        self.next = self.next.saturating_add(1).min(self.tokens.len());
+        token
+    }
+
+    /// Whether the next token is of a kind.
+    pub(crate) fn sees(&self, kind: TokenKind) -> bool {
+        self.peek().kind == kind
+    }
+
+    /// Takes the next token if it is of a kind.
+    pub(crate) fn eat(&mut self, kind: TokenKind) -> bool {
+        let found = self.sees(kind);
+        if found {
+            self.take();
+        }
+        found
+    }
+
+    /// Takes the next token if it is this word.
+    pub(crate) fn eat_word(&mut self, word: &str) -> bool {
+        let found = self.word() == word;
+        if found {
+            self.take();
+        }
+        found
+    }
+
+    /// Takes the next token, which has to be of a kind.
+    pub(crate) fn expect(&mut self, kind: TokenKind) -> Result<Span, Fault> {
+        if self.sees(kind) {
+            return Ok(self.take().span);
+        }
+        Err(self.refuse(kind.description()))
+    }
+
+    /// Takes the `;` of an item. Where it is missing and a line or what the item stands in ends,
+    /// the item is read as if it stood there.
+    pub(crate) fn expect_end(&mut self) -> Result<(), Fault> {
+        if self.eat(TokenKind::Semicolon) {
+            return Ok(());
+        }
+        if self.is_line_over() {
+            return self.refuse_open_line();
+        }
+        match self.refuse("`;`") {
+            Fault::Refused if self.sees(TokenKind::CloseBrace) => Ok(()),
+            fault => Err(fault),
+        }
+    }
+
+    // Refuses the next token, before which the last line lacks its `;`.
+    fn refuse_open_line(&mut self) -> Result<(), Fault> {
+        let token = self.peek();
+        if !self.refusals.takes(token.span.start) {
+            return Ok(());
+        }
+        let Position { line, .. } = position_of(self.text, self.last_span().end);
+        let message = format!(in self.alloc; "expected `;` at the end of line {line}");
+        self.refusals.add(token.span, message)?;
+        Ok(())
+    }
+
+    // Whether the next token stands on a later line than the last.
+    fn is_line_over(&self) -> bool {
+        let between = self.last_span().end..self.peek().span.start;
+        self.text.get(between).unwrap_or("").contains('\n')
+    }
+
+    /// Takes a name.
+    pub(crate) fn ident(&mut self, expected: &str) -> Result<Ident, Fault> {
+        let token = self.peek();
+        let text = self.text_of(token);
+        let name = match token.kind {
+            TokenKind::Word if is_keyword(text) => return Err(self.refuse_keyword(expected, text)),
+            TokenKind::Word => text,
+            TokenKind::Escaped => text.strip_prefix('%').unwrap_or(text),
+            _ => return Err(self.refuse(expected)),
+        };
+        let name = String::from_str(self.alloc, name)?;
+        let span = self.take().span;
+        Ok(Ident { name, span })
+    }
+
+    /// Refuses the next token, where something else was expected.
+    pub(crate) fn refuse(&mut self, expected: &str) -> Fault {
+        let token = self.peek();
+        // the search for an open brace is long, so it is for the first refusal at the end alone
+        if !self.refusals.takes(token.span.start) {
+            return Fault::Refused;
+        }
+        let found = quoted(self.text_of(token));
+        let message = match token.kind {
+            TokenKind::End => self.end_message(expected),
+            _ => format!(in self.alloc; "expected {expected}, found `{found}`"),
+        };
+        self.note(token.span, message)
+    }
+
+    // What is said where the text ends too early.
+    fn end_message(&self, expected: &str) -> Result<String, AllocError> {
+        match self.open_brace() {
+            Some(open) => {
+                let Position { line, column } = position_of(self.text, open.start);
+                format!(in self.alloc;
+                    "expected {expected}, found the end of the file: \
+                     the brace at {line}:{column} isn't closed"
+                )
+            }
+            None => format!(in self.alloc; "expected {expected}, found the end of the file"),
+        }
+    }
+
+    // Where the last brace opens that isn't closed.
+    fn open_brace(&self) -> Option<Span> {
+        let mut closed = 0usize;
+        for token in self.tokens.iter().rev() {
+            match token.kind {
+                TokenKind::CloseBrace => closed = closed.saturating_add(1),
+                TokenKind::OpenBrace if closed == 0 => return Some(token.span),
+                TokenKind::OpenBrace => closed = closed.saturating_sub(1),
+                _ => {}
+            }
+        }
+        None
+    }
+
+    // Refuses a keyword, where a name was expected.
+    fn refuse_keyword(&mut self, expected: &str, word: &str) -> Fault {
+        let span = self.peek().span;
+        let message = format!(in self.alloc;
+            "expected {expected}, found the keyword `{word}`: as a name it is written `%{word}`"
+        );
+        self.note(span, message)
+    }
+
+    /// Refuses what stands at a place.
+    pub(crate) fn refuse_at(&mut self, span: Span, message: &str) -> Fault {
+        let message = String::from_str(self.alloc, message);
+        self.note(span, message)
+    }
+
+    /// Notes a refusal.
+    pub(crate) fn note(&mut self, span: Span, message: Result<String, AllocError>) -> Fault {
+        match self.refusals.add(span, message) {
+            Ok(()) => Fault::Refused,
+            Err(_) => Fault::Memory,
+        }
+    }
+
+    /// Goes on behind a refused item, which begins at the token of this index.
+    ///
+    /// `Err` where nothing follows it, where enough is refused, and after a failed allocation.
+    pub(crate) fn recover(&mut self, fault: Fault, start: usize) -> Result<(), Fault> {
+        if matches!(fault, Fault::Memory) || self.refusals.is_full() {
+            return Err(fault);
+        }
+        self.next = self.end_of_item(start);
+        self.eat(TokenKind::Semicolon);
+        if self.sees(TokenKind::End) {
+            Err(fault)
+        } else {
+            Ok(())
+        }
+    }
+
+    // Which token ends a refused item: a `;` outside of its braces, or the next after the brace
+    // that closes the last of them, or the brace that closes what the item stands in.
+    fn end_of_item(&self, start: usize) -> usize {
+        let mut depth = 0usize;
+        for at in start..self.tokens.len() {
+            let kind = self.tokens[at].kind;
+            let is_refused = at >= self.next;
+            match kind {
+                TokenKind::OpenBrace => depth = depth.saturating_add(1),
+                TokenKind::CloseBrace if depth > 1 => depth = depth.saturating_sub(1),
+                // a brace too many, with which the item begins, is the whole of it
+                TokenKind::CloseBrace if depth == 0 && at > start => return at.max(self.next),
+                TokenKind::CloseBrace if is_refused && self.ends_at(at) => {
+                    return at.saturating_add(1);
+                }
+                TokenKind::CloseBrace => depth = 0,
+                TokenKind::Semicolon if depth == 0 && is_refused => return at,
+                _ => {}
+            }
+        }
+        self.tokens.len()
+    }
+
+    // Whether an item may end with this token: what follows could begin another.
+    fn ends_at(&self, at: usize) -> bool {
+        match self.tokens.get(at.saturating_add(1)) {
+            Some(token) => !matches!(
+                token.kind,
+                TokenKind::CloseParen | TokenKind::CloseAngle | TokenKind::Comma | TokenKind::Arrow
+            ),
+            None => true,
+        }
+    }
+
+    /// What was read of the text, if nothing is refused.
+    pub(crate) fn finish<T: Drop>(self, read: Result<T, Fault>) -> Result<T, SyntaxError> {
+        match read {
+            Ok(read) => self.refusals.or(read),
+            Err(Fault::Refused) => Err(self.refusals.into_error()),
+            Err(Fault::Memory) => Err(SyntaxError::Memory),
+        }
+    }
+}

@@ -1,0 +1,158 @@
+//! Reads files.
+
+use super::cursor::Cursor;
+use super::error::{Fault, SyntaxError};
+use super::gates::{read_gates, refuse_gates};
+use super::interfaces::read_items;
+use super::lexer::cut;
+use super::paths::{read_package_name, read_path};
+use super::refusals::Refusals;
+use super::token::TokenKind;
+use super::tree::{
+    Document, Gates, InterfaceDecl, NestedPackage, PackageName, TopItem, TopUse, WorldDecl,
+};
+use super::worlds::read_world_items;
+use std::alloc::Global;
+
+/// Reads a file.
+///
+/// After an item that is refused the rest of the text is read too, so that all its refusals are
+/// told at once. The time is linear in the length of the text, whatever is refused.
+pub fn parse(alloc: Global, text: &str) -> Result<Document, SyntaxError> {
+    let mut refusals = Refusals::new(alloc);
+    let tokens = cut(alloc, text, &mut refusals)?;
+    if refusals.is_full() {
+        return Err(refusals.into_error());
+    }
+    let mut cursor = Cursor::new(alloc, text, &tokens, refusals);
+    let document = read_document(&mut cursor);
+    cursor.finish(document)
+}
+
+fn read_document(cursor: &mut Cursor<'_>) -> Result<Document, Fault> {
+    let mut document = Document {
+        package: None,
+        items: Vec::new(cursor.alloc),
+        packages: Vec::new(cursor.alloc),
+    };
+    for _turn in 0..cursor.len() {
+        if cursor.sees(TokenKind::End) {
+            break;
+        }
+        let start = cursor.index();
+        if let Err(fault) = read_top(cursor, &mut document) {
+            cursor.recover(fault, start)?;
+        }
+    }
+    Ok(document)
+}
+
+// Reads an item of a file, or the name of its package.
+fn read_top(cursor: &mut Cursor<'_>, document: &mut Document) -> Result<(), Fault> {
+    let gates = read_gates(cursor)?;
+    if cursor.word() == "package" {
+        refuse_gates(cursor, &gates)?;
+        return read_package(cursor, document);
+    }
+    let item = read_item_after(cursor, gates, "`package`, `interface`, `world` or `use`")?;
+    document.items.push(item)?;
+    Ok(())
+}
+
+// Reads a package that is written inside a file, or the name of the file's own.
+fn read_package(cursor: &mut Cursor<'_>, document: &mut Document) -> Result<(), Fault> {
+    cursor.take();
+    let name = read_package_name(cursor)?;
+    if !cursor.sees(TokenKind::OpenBrace) {
+        return name_package(cursor, document, name);
+    }
+    let items = read_nested(cursor)?;
+    document.packages.push(NestedPackage { name, items })?;
+    Ok(())
+}
+
+// Takes the end of the line that names the package of a file.
+fn name_package(
+    cursor: &mut Cursor<'_>,
+    document: &mut Document,
+    name: PackageName,
+) -> Result<(), Fault> {
+    let is_first = document.package.is_none()
+        && document.items.is_empty()
+        && document.packages.is_empty();
+    if !is_first {
+        return Err(cursor.refuse("`{`, since a file names its package once, before all else"));
+    }
+    cursor.expect_end()?;
+    document.package = Some(name);
+    Ok(())
+}
+
+// Reads the items of a package that is written inside a file.
+fn read_nested(cursor: &mut Cursor<'_>) -> Result<Vec<TopItem>, Fault> {
+    cursor.expect(TokenKind::OpenBrace)?;
+    let mut items = Vec::new(cursor.alloc);
+    for _turn in 0..cursor.len() {
+        if cursor.eat(TokenKind::CloseBrace) {
+            break;
+        }
+        let start = cursor.index();
+        match read_nested_item(cursor) {
+            Ok(item) => items.push(item)?,
+            Err(fault) => cursor.recover(fault, start)?,
+        }
+    }
+    Ok(items)
+}
+
+fn read_nested_item(cursor: &mut Cursor<'_>) -> Result<TopItem, Fault> {
+    let gates = read_gates(cursor)?;
+    if cursor.eat_word("package") {
+        let span = cursor.peek().span;
+        return Err(cursor.refuse_at(span, "a package can't stand inside of another"));
+    }
+    read_item_after(cursor, gates, "`interface`, `world`, `use` or `}`")
+}
+
+// Reads an item after its attributes.
+fn read_item_after(
+    cursor: &mut Cursor<'_>,
+    gates: Gates,
+    expected: &str,
+) -> Result<TopItem, Fault> {
+    match cursor.word() {
+        "interface" => Ok(TopItem::Interface(read_interface(cursor, gates)?)),
+        "world" => Ok(TopItem::World(read_world(cursor, gates)?)),
+        "use" => {
+            refuse_gates(cursor, &gates)?;
+            Ok(TopItem::Use(read_top_use(cursor)?))
+        }
+        _ => Err(cursor.refuse(expected)),
+    }
+}
+
+fn read_interface(cursor: &mut Cursor<'_>, gates: Gates) -> Result<InterfaceDecl, Fault> {
+    cursor.take();
+    let name = cursor.ident("the name of the interface")?;
+    let items = read_items(cursor)?;
+    Ok(InterfaceDecl { gates, name, items })
+}
+
+fn read_world(cursor: &mut Cursor<'_>, gates: Gates) -> Result<WorldDecl, Fault> {
+    cursor.take();
+    let name = cursor.ident("the name of the world")?;
+    let items = read_world_items(cursor)?;
+    Ok(WorldDecl { gates, name, items })
+}
+
+fn read_top_use(cursor: &mut Cursor<'_>) -> Result<TopUse, Fault> {
+    cursor.take();
+    let path = read_path(cursor)?;
+    let alias = if cursor.eat_word("as") {
+        Some(cursor.ident("the name that it gets")?)
+    } else {
+        None
+    };
+    cursor.expect_end()?;
+    Ok(TopUse { path, alias })
+}

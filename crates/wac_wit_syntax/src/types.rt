@@ -1,0 +1,266 @@
+//! Reads types.
+
+use super::cursor::Cursor;
+use super::error::Fault;
+use super::positions::Span;
+use super::token::TokenKind;
+use super::tree::{Ident, TypeExpr};
+use std::alloc::{AllocError, Global};
+use wac_model::PrimitiveType;
+
+/// How deep types nest at most.
+pub const MAX_DEPTH: usize = 1000;
+
+// A word that makes a type out of what stands behind it between angles.
+#[derive(Clone, Copy)]
+enum TypeWord {
+    List,
+    Option,
+    Result,
+    Tuple,
+    Map,
+    Future,
+    Stream,
+}
+
+// What stands between the angles.
+#[derive(Drop)]
+struct Parts {
+    types: Vec<TypeExpr>,
+    // whether `_` stands in the place of the first type
+    lacks_first: bool,
+    length: Option<u32>,
+}
+
+/// Reads a type.
+pub(crate) fn read_type(cursor: &mut Cursor<'_>) -> Result<TypeExpr, Fault> {
+    type_within(cursor, MAX_DEPTH)
+}
+
+// Reads a type in which at most so many nest. This is the one function that calls itself, so the
+// stack is bounded by that number.
+fn type_within(cursor: &mut Cursor<'_>, depth: usize) -> Result<TypeExpr, Fault> {
+    let start = cursor.peek().span;
+    let Some(word) = type_word(cursor) else {
+        return read_plain(cursor);
+    };
+    if depth == 0 {
+        return Err(cursor.refuse_at(start, "types nest at most 1000 deep"));
+    }
+    cursor.take();
+    let mut parts = Parts {
+        types: Vec::new(cursor.alloc),
+        lacks_first: false,
+        length: None,
+    };
+    if opens(cursor, word)? {
+        for _turn in 0..cursor.len() {
+            if !read_other(cursor, word, &mut parts)? {
+                parts.types.push(type_within(cursor, depth - 1)?)?;
+            }
+            if !goes_on(cursor, word, &parts)? {
+                break;
+            }
+        }
+    }
+    build(cursor, word, parts, start)
+}
+
+// The word that comes next, if it makes types. `map` may be a name too.
+fn type_word(cursor: &Cursor<'_>) -> Option<TypeWord> {
+    Some(match cursor.word() {
+        "list" => TypeWord::List,
+        "option" => TypeWord::Option,
+        "result" => TypeWord::Result,
+        "tuple" => TypeWord::Tuple,
+        "future" => TypeWord::Future,
+        "stream" => TypeWord::Stream,
+        "map" if cursor.ahead(1).kind == TokenKind::OpenAngle => TypeWord::Map,
+        _ => return None,
+    })
+}
+
+// Reads a type that is one word, or a handle.
+fn read_plain(cursor: &mut Cursor<'_>) -> Result<TypeExpr, Fault> {
+    let word = cursor.word();
+    if word == "own" || word == "borrow" {
+        return read_handle(cursor);
+    }
+    match primitive_of(word) {
+        Some(primitive) => Ok(TypeExpr::Primitive(primitive, cursor.take().span)),
+        None => Ok(TypeExpr::Name(cursor.ident("a type")?)),
+    }
+}
+
+// Reads `own<R>` or `borrow<R>`.
+fn read_handle(cursor: &mut Cursor<'_>) -> Result<TypeExpr, Fault> {
+    let owns = cursor.word() == "own";
+    cursor.take();
+    cursor.expect(TokenKind::OpenAngle)?;
+    let resource: Ident = cursor.ident("the name of a resource")?;
+    cursor.expect(TokenKind::CloseAngle)?;
+    Ok(if owns {
+        TypeExpr::Own(resource)
+    } else {
+        TypeExpr::Borrow(resource)
+    })
+}
+
+// The primitive type of a name.
+fn primitive_of(word: &str) -> Option<PrimitiveType> {
+    Some(match word {
+        "u8" => PrimitiveType::U8,
+        "s8" => PrimitiveType::S8,
+        "u16" => PrimitiveType::U16,
+        "s16" => PrimitiveType::S16,
+        "u32" => PrimitiveType::U32,
+        "s32" => PrimitiveType::S32,
+        "u64" => PrimitiveType::U64,
+        "s64" => PrimitiveType::S64,
+        "f32" => PrimitiveType::F32,
+        "f64" => PrimitiveType::F64,
+        "char" => PrimitiveType::Char,
+        "bool" => PrimitiveType::Bool,
+        "string" => PrimitiveType::String,
+        "error-context" => PrimitiveType::ErrorContext,
+        _ => return None,
+    })
+}
+
+// Takes the angle behind a word, which some words stand without.
+fn opens(cursor: &mut Cursor<'_>, word: TypeWord) -> Result<bool, Fault> {
+    if matches!(word, TypeWord::Result | TypeWord::Future | TypeWord::Stream) {
+        return Ok(cursor.eat(TokenKind::OpenAngle));
+    }
+    cursor.expect(TokenKind::OpenAngle)?;
+    Ok(true)
+}
+
+// Reads the next part, if it is none of the types: the `_` of a result, the length of a list.
+fn read_other(cursor: &mut Cursor<'_>, word: TypeWord, parts: &mut Parts) -> Result<bool, Fault> {
+    let is_first = parts.types.is_empty() && !parts.lacks_first;
+    if matches!(word, TypeWord::Result) && is_first && cursor.eat(TokenKind::Underscore) {
+        parts.lacks_first = true;
+        return Ok(true);
+    }
+    if matches!(word, TypeWord::List) && !is_first {
+        parts.length = Some(read_length(cursor)?);
+        return Ok(true);
+    }
+    Ok(false)
+}
+
+// Reads a number below 2^32.
+fn read_length(cursor: &mut Cursor<'_>) -> Result<u32, Fault> {
+    let token = cursor.peek();
+    if token.kind == TokenKind::Integer {
+        if let Ok(number) = cursor.text_of(token).parse::<u32>() {
+            cursor.take();
+            return Ok(number);
+        }
+    }
+    Err(cursor.refuse("a length below 2^32"))
+}
+
+// Takes the comma or the angle behind a part; whether another part follows.
+fn goes_on(cursor: &mut Cursor<'_>, word: TypeWord, parts: &Parts) -> Result<bool, Fault> {
+    let is_first = parts.types.len() == 1 && !parts.lacks_first && parts.length.is_none();
+    let (may_go_on, may_end) = match word {
+        TypeWord::Tuple => (true, true),
+        TypeWord::Map => (is_first, !is_first),
+        TypeWord::List => (is_first, true),
+        TypeWord::Result => (is_first || parts.types.is_empty(), !parts.types.is_empty()),
+        TypeWord::Option | TypeWord::Future | TypeWord::Stream => (false, true),
+    };
+    if may_go_on && cursor.eat(TokenKind::Comma) {
+        let is_over = matches!(word, TypeWord::Tuple) && cursor.eat(TokenKind::CloseAngle);
+        return Ok(!is_over);
+    }
+    if may_end && cursor.eat(TokenKind::CloseAngle) {
+        return Ok(false);
+    }
+    Err(cursor.refuse(match (may_go_on, may_end) {
+        (true, true) => "`,` or `>`",
+        (true, false) => "`,`",
+        _ => "`>`",
+    }))
+}
+
+// The type that a word makes out of its parts.
+fn build(
+    cursor: &mut Cursor<'_>,
+    word: TypeWord,
+    parts: Parts,
+    start: Span,
+) -> Result<TypeExpr, Fault> {
+    let span = start.to(cursor.last_span());
+    if matches!(word, TypeWord::Tuple) {
+        return Ok(TypeExpr::Tuple(parts.types, span));
+    }
+    if matches!(word, TypeWord::Map) && !has_key(&parts) {
+        return Err(cursor.refuse_at(
+            span,
+            "the key of a map is `bool`, `char`, `string` or an integer type, by that name",
+        ));
+    }
+    let length = parts.length;
+    let lacks_first = parts.lacks_first;
+    let mut types = parts.types;
+    types.reverse();
+    let first = if lacks_first {
+        None
+    } else {
+        boxed(cursor.alloc, types.pop())?
+    };
+    let second = boxed(cursor.alloc, types.pop())?;
+    let built = match word {
+        TypeWord::Result => Some(TypeExpr::Result(first, second)),
+        TypeWord::Future => Some(TypeExpr::Future(first)),
+        TypeWord::Stream => Some(TypeExpr::Stream(first)),
+        TypeWord::Option => first.map(TypeExpr::Option),
+        TypeWord::Map => map_of(first, second, span),
+        _ => list_of(first, length, span),
+    };
+    match built {
+        Some(ty) => Ok(ty),
+        // not reached: `goes_on` asks for the parts that the word needs
+        None => Err(cursor.refuse_at(span, "expected a type")),
+    }
+}
+
+// Whether the first type can be the key of a map.
+fn has_key(parts: &Parts) -> bool {
+    match parts.types.first() {
+        Some(TypeExpr::Primitive(primitive, _)) => !matches!(
+            primitive,
+            PrimitiveType::F32 | PrimitiveType::F64 | PrimitiveType::ErrorContext
+        ),
+        _ => false,
+    }
+}
+
+fn boxed(alloc: Global, ty: Option<TypeExpr>) -> Result<Option<Box<TypeExpr>>, AllocError> {
+    match ty {
+        Some(ty) => Ok(Some(Box::new(alloc, ty)?)),
+        None => Ok(None),
+    }
+}
+
+fn list_of(element: Option<Box<TypeExpr>>, length: Option<u32>, span: Span) -> Option<TypeExpr> {
+    let element = element?;
+    Some(match length {
+        Some(length) => TypeExpr::FixedList(element, length, span),
+        None => TypeExpr::List(element),
+    })
+}
+
+fn map_of(
+    key: Option<Box<TypeExpr>>,
+    value: Option<Box<TypeExpr>>,
+    span: Span,
+) -> Option<TypeExpr> {
+    match (key, value) {
+        (Some(key), Some(value)) => Some(TypeExpr::Map(key, value, span)),
+        _ => None,
+    }
+}
