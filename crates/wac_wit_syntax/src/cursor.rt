@@ -9,24 +9,25 @@ use super::token::{Token, TokenKind};
 use super::tree::Ident;
 use std::alloc::{AllocError, Global};
 
-/// The tokens of a text, which is the next, and what is refused so far.
+/// The tokens of a text, which is the next, and what is refused so far. It owns the text: each step
+/// over one that is lent takes a quarter longer to prove.
 #[derive(Drop)]
-pub(crate) struct Cursor<'a> {
+pub(crate) struct Cursor {
     pub(crate) alloc: Global,
-    text: &'a str,
-    tokens: &'a [Token],
+    text: String,
+    tokens: Vec<Token>,
     next: usize,
     refusals: Refusals,
 }
 
-impl<'a> Cursor<'a> {
+impl Cursor {
     /// At the first token.
     pub(crate) fn new(
         alloc: Global,
-        text: &'a str,
-        tokens: &'a [Token],
+        text: String,
+        tokens: Vec<Token>,
         refusals: Refusals,
-    ) -> Cursor<'a> {
+    ) -> Cursor {
         Cursor {
             alloc,
             text,
@@ -53,39 +54,38 @@ impl<'a> Cursor<'a> {
 
     /// The token so many behind the next.
     pub(crate) fn ahead(&self, by: usize) -> Token {
-        match self.tokens.get(self.next.saturating_add(by)) {
-            Some(token) => *token,
-            None => self.end(),
-        }
+        self.token_at(self.next.saturating_add(by))
     }
 
-    // The end of the text.
-    fn end(&self) -> Token {
-        let end = self.text.len();
-        Token {
-            kind: TokenKind::End,
-            span: Span { start: end, end },
-            docs: None,
+    // A token by its index, or the end of the text.
+    fn token_at(&self, index: usize) -> Token {
+        match self.tokens.get(index) {
+            Some(token) => *token,
+            None => {
+                let end = self.text.len();
+                Token {
+                    kind: TokenKind::End,
+                    span: Span { start: end, end },
+                    docs: None,
+                }
+            }
         }
     }
 
     /// Where the last token stands that was taken.
     pub(crate) fn last_span(&self) -> Span {
-        match self.tokens.get(self.next.saturating_sub(1)) {
-            Some(token) => token.span,
-            None => self.end().span,
-        }
+        self.token_at(self.next.saturating_sub(1)).span
     }
 
     /// The text of a token.
-    pub(crate) fn text_of(&self, token: Token) -> &'a str {
+    pub(crate) fn text_of(&self, token: Token) -> &str {
         self.text
             .get(token.span.start..token.span.end)
             .unwrap_or("")
     }
 
     /// The next token, if it is a word that stands without `%`; else nothing.
-    pub(crate) fn word(&self) -> &'a str {
+    pub(crate) fn word(&self) -> &str {
         let token = self.peek();
         if token.kind == TokenKind::Word {
             self.text_of(token)
@@ -132,6 +132,12 @@ impl<'a> Cursor<'a> {
         Err(self.refuse(kind.description()))
     }
 
+    /// Takes the next token, which has to be of a kind, behind what was read.
+    pub(crate) fn before<T: Drop>(&mut self, read: T, kind: TokenKind) -> Result<T, Fault> {
+        self.expect(kind)?;
+        Ok(read)
+    }
+
     /// Takes the `;` of an item. Where it is missing and a line or what the item stands in ends,
     /// the item is read as if it stood there.
     pub(crate) fn expect_end(&mut self) -> Result<(), Fault> {
@@ -147,13 +153,19 @@ impl<'a> Cursor<'a> {
         }
     }
 
+    /// Takes the `;` of an item behind the rest of it.
+    pub(crate) fn ended<T: Drop>(&mut self, item: T) -> Result<T, Fault> {
+        self.expect_end()?;
+        Ok(item)
+    }
+
     // Refuses the next token, before which the last line lacks its `;`.
     fn refuse_open_line(&mut self) -> Result<(), Fault> {
         let token = self.peek();
         if !self.refusals.takes(token.span.start) {
             return Ok(());
         }
-        let Position { line, .. } = position_of(self.text, self.last_span().end);
+        let Position { line, .. } = position_of(&self.text, self.last_span().end);
         let message = format!(in self.alloc; "expected `;` at the end of line {line}");
         self.refusals.add(token.span, message)?;
         Ok(())
@@ -170,7 +182,7 @@ impl<'a> Cursor<'a> {
         let token = self.peek();
         let text = self.text_of(token);
         let name = match token.kind {
-            TokenKind::Word if is_keyword(text) => return Err(self.refuse_keyword(expected, text)),
+            TokenKind::Word if is_keyword(text) => return Err(self.refuse_keyword(expected)),
             TokenKind::Word => text,
             TokenKind::Escaped => text.strip_prefix('%').unwrap_or(text),
             _ => return Err(self.refuse(expected)),
@@ -178,6 +190,13 @@ impl<'a> Cursor<'a> {
         let name = String::from_str(self.alloc, name)?;
         let span = self.take().span;
         Ok(Ident { name, span })
+    }
+
+    /// Takes a name and the colon behind it.
+    pub(crate) fn label(&mut self, expected: &str) -> Result<Ident, Fault> {
+        let name = self.ident(expected)?;
+        self.expect(TokenKind::Colon)?;
+        Ok(name)
     }
 
     /// Refuses the next token, where something else was expected.
@@ -199,7 +218,7 @@ impl<'a> Cursor<'a> {
     fn end_message(&self, expected: &str) -> Result<String, AllocError> {
         match self.open_brace() {
             Some(open) => {
-                let Position { line, column } = position_of(self.text, open.start);
+                let Position { line, column } = position_of(&self.text, open.start);
                 format!(in self.alloc;
                     "expected {expected}, found the end of the file: \
                      the brace at {line}:{column} isn't closed"
@@ -224,12 +243,13 @@ impl<'a> Cursor<'a> {
     }
 
     // Refuses a keyword, where a name was expected.
-    fn refuse_keyword(&mut self, expected: &str, word: &str) -> Fault {
-        let span = self.peek().span;
+    fn refuse_keyword(&mut self, expected: &str) -> Fault {
+        let token = self.peek();
+        let word = self.text_of(token);
         let message = format!(in self.alloc;
             "expected {expected}, found the keyword `{word}`: as a name it is written `%{word}`"
         );
-        self.note(span, message)
+        self.note(token.span, message)
     }
 
     /// Refuses what stands at a place.
@@ -267,7 +287,7 @@ impl<'a> Cursor<'a> {
     fn end_of_item(&self, start: usize) -> usize {
         let mut depth = 0usize;
         for at in start..self.tokens.len() {
-            let kind = self.tokens[at].kind;
+            let kind = self.token_at(at).kind;
             let is_refused = at >= self.next;
             match kind {
                 TokenKind::OpenBrace => depth = depth.saturating_add(1),
@@ -287,21 +307,18 @@ impl<'a> Cursor<'a> {
 
     // Whether an item may end with this token: what follows could begin another.
     fn ends_at(&self, at: usize) -> bool {
-        match self.tokens.get(at.saturating_add(1)) {
-            Some(token) => !matches!(
-                token.kind,
-                TokenKind::CloseParen | TokenKind::CloseAngle | TokenKind::Comma | TokenKind::Arrow
-            ),
-            None => true,
-        }
+        !matches!(
+            self.token_at(at.saturating_add(1)).kind,
+            TokenKind::CloseParen | TokenKind::CloseAngle | TokenKind::Comma | TokenKind::Arrow
+        )
     }
 
     /// What was read of the text, if nothing is refused.
     pub(crate) fn finish<T: Drop>(self, read: Result<T, Fault>) -> Result<T, SyntaxError> {
         match read {
-            Ok(read) => self.refusals.or(read),
-            Err(Fault::Refused) => Err(self.refusals.into_error()),
+            Ok(read) if self.refusals.is_empty() => Ok(read),
             Err(Fault::Memory) => Err(SyntaxError::Memory),
+            _ => Err(self.refusals.into_error()),
         }
     }
 }

@@ -3,15 +3,15 @@
 use super::cursor::Cursor;
 use super::error::{Fault, SyntaxError};
 use super::gates::{read_gates, refuse_gates};
-use super::interfaces::read_items;
+use super::interfaces::read_alias;
 use super::lexer::cut;
+use super::lists::{Item, read_block};
 use super::paths::{read_package_name, read_path};
 use super::refusals::Refusals;
 use super::token::TokenKind;
 use super::tree::{
     Document, Gates, InterfaceDecl, NestedPackage, PackageName, TopItem, TopUse, WorldDecl,
 };
-use super::worlds::read_world_items;
 use std::alloc::Global;
 
 /// Reads a file.
@@ -24,12 +24,13 @@ pub fn parse(alloc: Global, text: &str) -> Result<Document, SyntaxError> {
     if refusals.is_full() {
         return Err(refusals.into_error());
     }
-    let mut cursor = Cursor::new(alloc, text, &tokens, refusals);
+    let text = String::from_str(alloc, text)?;
+    let mut cursor = Cursor::new(alloc, text, tokens, refusals);
     let document = read_document(&mut cursor);
     cursor.finish(document)
 }
 
-fn read_document(cursor: &mut Cursor<'_>) -> Result<Document, Fault> {
+fn read_document(cursor: &mut Cursor) -> Result<Document, Fault> {
     let mut document = Document {
         package: None,
         items: Vec::new(cursor.alloc),
@@ -48,7 +49,7 @@ fn read_document(cursor: &mut Cursor<'_>) -> Result<Document, Fault> {
 }
 
 // Reads an item of a file, or the name of its package.
-fn read_top(cursor: &mut Cursor<'_>, document: &mut Document) -> Result<(), Fault> {
+fn read_top(cursor: &mut Cursor, document: &mut Document) -> Result<(), Fault> {
     let gates = read_gates(cursor)?;
     if cursor.word() == "package" {
         refuse_gates(cursor, &gates)?;
@@ -60,20 +61,20 @@ fn read_top(cursor: &mut Cursor<'_>, document: &mut Document) -> Result<(), Faul
 }
 
 // Reads a package that is written inside a file, or the name of the file's own.
-fn read_package(cursor: &mut Cursor<'_>, document: &mut Document) -> Result<(), Fault> {
+fn read_package(cursor: &mut Cursor, document: &mut Document) -> Result<(), Fault> {
     cursor.take();
     let name = read_package_name(cursor)?;
     if !cursor.sees(TokenKind::OpenBrace) {
         return name_package(cursor, document, name);
     }
-    let items = read_nested(cursor)?;
+    let items = read_block(cursor)?;
     document.packages.push(NestedPackage { name, items })?;
     Ok(())
 }
 
 // Takes the end of the line that names the package of a file.
 fn name_package(
-    cursor: &mut Cursor<'_>,
+    cursor: &mut Cursor,
     document: &mut Document,
     name: PackageName,
 ) -> Result<(), Fault> {
@@ -88,38 +89,20 @@ fn name_package(
     Ok(())
 }
 
-// Reads the items of a package that is written inside a file.
-fn read_nested(cursor: &mut Cursor<'_>) -> Result<Vec<TopItem>, Fault> {
-    cursor.expect(TokenKind::OpenBrace)?;
-    let mut items = Vec::new(cursor.alloc);
-    for _turn in 0..cursor.len() {
-        if cursor.eat(TokenKind::CloseBrace) {
-            break;
+// An item of a package that is written inside a file.
+impl Item for TopItem {
+    fn read(cursor: &mut Cursor) -> Result<TopItem, Fault> {
+        let gates = read_gates(cursor)?;
+        if cursor.eat_word("package") {
+            let span = cursor.peek().span;
+            return Err(cursor.refuse_at(span, "a package can't stand inside of another"));
         }
-        let start = cursor.index();
-        match read_nested_item(cursor) {
-            Ok(item) => items.push(item)?,
-            Err(fault) => cursor.recover(fault, start)?,
-        }
+        read_item_after(cursor, gates, "`interface`, `world`, `use` or `}`")
     }
-    Ok(items)
-}
-
-fn read_nested_item(cursor: &mut Cursor<'_>) -> Result<TopItem, Fault> {
-    let gates = read_gates(cursor)?;
-    if cursor.eat_word("package") {
-        let span = cursor.peek().span;
-        return Err(cursor.refuse_at(span, "a package can't stand inside of another"));
-    }
-    read_item_after(cursor, gates, "`interface`, `world`, `use` or `}`")
 }
 
 // Reads an item after its attributes.
-fn read_item_after(
-    cursor: &mut Cursor<'_>,
-    gates: Gates,
-    expected: &str,
-) -> Result<TopItem, Fault> {
+fn read_item_after(cursor: &mut Cursor, gates: Gates, expected: &str) -> Result<TopItem, Fault> {
     match cursor.word() {
         "interface" => Ok(TopItem::Interface(read_interface(cursor, gates)?)),
         "world" => Ok(TopItem::World(read_world(cursor, gates)?)),
@@ -131,28 +114,23 @@ fn read_item_after(
     }
 }
 
-fn read_interface(cursor: &mut Cursor<'_>, gates: Gates) -> Result<InterfaceDecl, Fault> {
+fn read_interface(cursor: &mut Cursor, gates: Gates) -> Result<InterfaceDecl, Fault> {
     cursor.take();
     let name = cursor.ident("the name of the interface")?;
-    let items = read_items(cursor)?;
+    let items = read_block(cursor)?;
     Ok(InterfaceDecl { gates, name, items })
 }
 
-fn read_world(cursor: &mut Cursor<'_>, gates: Gates) -> Result<WorldDecl, Fault> {
+fn read_world(cursor: &mut Cursor, gates: Gates) -> Result<WorldDecl, Fault> {
     cursor.take();
     let name = cursor.ident("the name of the world")?;
-    let items = read_world_items(cursor)?;
+    let items = read_block(cursor)?;
     Ok(WorldDecl { gates, name, items })
 }
 
-fn read_top_use(cursor: &mut Cursor<'_>) -> Result<TopUse, Fault> {
+fn read_top_use(cursor: &mut Cursor) -> Result<TopUse, Fault> {
     cursor.take();
     let path = read_path(cursor)?;
-    let alias = if cursor.eat_word("as") {
-        Some(cursor.ident("the name that it gets")?)
-    } else {
-        None
-    };
-    cursor.expect_end()?;
-    Ok(TopUse { path, alias })
+    let alias = read_alias(cursor)?;
+    cursor.ended(TopUse { path, alias })
 }

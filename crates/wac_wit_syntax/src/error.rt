@@ -16,7 +16,7 @@ pub struct Refusal {
 }
 
 /// Why a text wasn't read.
-#[derive(Debug, Drop)]
+#[derive(Drop)]
 pub enum SyntaxError {
     /// The text is no WIT: at least one refusal, in the order of their places, and at most
     /// [`MAX_REFUSALS`].

@@ -2,18 +2,27 @@
 
 use super::cursor::Cursor;
 use super::error::Fault;
+use super::lists::{ListForm, Member, read_list};
 use super::positions::Span;
 use super::token::TokenKind;
 use super::tree::{Field, Signature, TypeExpr};
 use super::types::read_type;
 
+const PARAMS: ListForm = ListForm {
+    open: TokenKind::OpenParen,
+    close: TokenKind::CloseParen,
+    member: "a parameter or `)`",
+    separator: "`,` or `)`",
+    needs_alias: false,
+};
+
 /// Whether a function's type comes next.
-pub(crate) fn sees_func(cursor: &Cursor<'_>) -> bool {
+pub(crate) fn sees_func(cursor: &Cursor) -> bool {
     matches!(cursor.word(), "func" | "async")
 }
 
 /// Reads `async? func(..) -> TYPE;`.
-pub(crate) fn read_signature(cursor: &mut Cursor<'_>) -> Result<Signature, Fault> {
+pub(crate) fn read_signature(cursor: &mut Cursor) -> Result<Signature, Fault> {
     let start = cursor.peek().span;
     let is_async = cursor.eat_word("async");
     if !cursor.eat_word("func") {
@@ -24,15 +33,14 @@ pub(crate) fn read_signature(cursor: &mut Cursor<'_>) -> Result<Signature, Fault
 
 /// Reads `(..) -> TYPE;` behind the word where the signature starts.
 pub(crate) fn signature_after(
-    cursor: &mut Cursor<'_>,
+    cursor: &mut Cursor,
     start: Span,
     is_async: bool,
 ) -> Result<Signature, Fault> {
-    let params = read_params(cursor)?;
+    let params = read_list(cursor, PARAMS)?;
     let returns = read_returns(cursor)?;
     let span = start.to(cursor.last_span());
-    cursor.expect_end()?;
-    Ok(Signature {
+    cursor.ended(Signature {
         params,
         returns,
         is_async,
@@ -40,19 +48,8 @@ pub(crate) fn signature_after(
     })
 }
 
-// Reads parameters.
-fn read_params(cursor: &mut Cursor<'_>) -> Result<Vec<Field>, Fault> {
-    cursor.expect(TokenKind::OpenParen)?;
-    read_fields(
-        cursor,
-        TokenKind::CloseParen,
-        "a parameter or `)`",
-        "`,` or `)`",
-    )
-}
-
 // Reads `-> TYPE`, if that comes next.
-fn read_returns(cursor: &mut Cursor<'_>) -> Result<Option<TypeExpr>, Fault> {
+fn read_returns(cursor: &mut Cursor) -> Result<Option<TypeExpr>, Fault> {
     if !cursor.eat(TokenKind::Arrow) {
         return Ok(None);
     }
@@ -62,26 +59,12 @@ fn read_returns(cursor: &mut Cursor<'_>) -> Result<Option<TypeExpr>, Fault> {
     Ok(Some(read_type(cursor)?))
 }
 
-/// Reads names with types up to a token.
-pub(crate) fn read_fields(
-    cursor: &mut Cursor<'_>,
-    close: TokenKind,
-    expected: &str,
-    separator: &str,
-) -> Result<Vec<Field>, Fault> {
-    let mut fields = Vec::new(cursor.alloc);
-    for _turn in 0..cursor.len() {
-        if cursor.eat(close) {
-            break;
-        }
-        let name = cursor.ident(expected)?;
-        cursor.expect(TokenKind::Colon)?;
+// A parameter, or a field of a record.
+impl Member for Field {
+    fn read(cursor: &mut Cursor, form: ListForm) -> Result<Field, Fault> {
+        let name = cursor.label(form.member)?;
         let ty = read_type(cursor)?;
         let span = name.span.to(cursor.last_span());
-        fields.push(Field { name, ty, span })?;
-        if !cursor.eat(TokenKind::Comma) && !cursor.sees(close) {
-            return Err(cursor.refuse(separator));
-        }
+        Ok(Field { name, ty, span })
     }
-    Ok(fields)
 }

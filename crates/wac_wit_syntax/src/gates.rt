@@ -7,7 +7,7 @@ use super::tree::{Gate, Gates};
 use super::versions::read_version;
 
 /// Reads the attributes of an item.
-pub(crate) fn read_gates(cursor: &mut Cursor<'_>) -> Result<Gates, Fault> {
+pub(crate) fn read_gates(cursor: &mut Cursor) -> Result<Gates, Fault> {
     let mut gates = Gates {
         docs: cursor.peek().docs,
         since: None,
@@ -24,7 +24,7 @@ pub(crate) fn read_gates(cursor: &mut Cursor<'_>) -> Result<Gates, Fault> {
 }
 
 /// Refuses an item that can't have attributes behind some.
-pub(crate) fn refuse_gates(cursor: &mut Cursor<'_>, gates: &Gates) -> Result<(), Fault> {
+pub(crate) fn refuse_gates(cursor: &mut Cursor, gates: &Gates) -> Result<(), Fault> {
     if gates.since.is_some() || gates.unstable.is_some() || gates.deprecated.is_some() {
         return Err(cursor.refuse("`interface` or `world` behind an attribute"));
     }
@@ -32,34 +32,39 @@ pub(crate) fn refuse_gates(cursor: &mut Cursor<'_>, gates: &Gates) -> Result<(),
 }
 
 // Reads an attribute after its `@`.
-fn read_gate(cursor: &mut Cursor<'_>, gates: &mut Gates) -> Result<(), Fault> {
-    let name = cursor.word();
+fn read_gate(cursor: &mut Cursor, gates: &mut Gates) -> Result<(), Fault> {
     let span = cursor.peek().span;
-    let is_twice = match name {
-        "since" => gates.since.is_some(),
-        "unstable" => gates.unstable.is_some(),
-        "deprecated" => gates.deprecated.is_some(),
+    match cursor.word() {
+        "since" => put_gate(cursor, &mut gates.since, false)?,
+        "unstable" => put_gate(cursor, &mut gates.unstable, true)?,
+        "deprecated" => put_gate(cursor, &mut gates.deprecated, false)?,
         _ => return Err(cursor.refuse("`since`, `unstable` or `deprecated`")),
-    };
-    if is_twice {
-        return Err(cursor.refuse_at(span, "this attribute stands twice"));
     }
-    cursor.take();
-    cursor.expect(TokenKind::OpenParen)?;
-    match name {
-        "since" => gates.since = Some(read_since(cursor)?),
-        "unstable" => gates.unstable = Some(read_feature(cursor)?),
-        _ => gates.deprecated = Some(read_since(cursor)?),
-    }
-    cursor.expect(TokenKind::CloseParen)?;
     if gates.since.is_some() && gates.unstable.is_some() {
         return Err(cursor.refuse_at(span, "`@since` and `@unstable` don't go together"));
     }
     Ok(())
 }
 
+// Reads an attribute that hasn't been there yet, from its name on.
+fn put_gate(cursor: &mut Cursor, gate: &mut Option<Gate>, is_feature: bool) -> Result<(), Fault> {
+    let span = cursor.peek().span;
+    if gate.is_some() {
+        return Err(cursor.refuse_at(span, "this attribute stands twice"));
+    }
+    cursor.take();
+    cursor.expect(TokenKind::OpenParen)?;
+    *gate = Some(if is_feature {
+        read_feature(cursor)?
+    } else {
+        read_since(cursor)?
+    });
+    cursor.expect(TokenKind::CloseParen)?;
+    Ok(())
+}
+
 // Reads `version = VERSION`.
-fn read_since(cursor: &mut Cursor<'_>) -> Result<Gate, Fault> {
+fn read_since(cursor: &mut Cursor) -> Result<Gate, Fault> {
     if !cursor.eat_word("version") {
         return Err(cursor.refuse("`version = VERSION`"));
     }
@@ -68,14 +73,10 @@ fn read_since(cursor: &mut Cursor<'_>) -> Result<Gate, Fault> {
 }
 
 // Reads `feature = NAME`.
-fn read_feature(cursor: &mut Cursor<'_>) -> Result<Gate, Fault> {
+fn read_feature(cursor: &mut Cursor) -> Result<Gate, Fault> {
     if !cursor.eat_word("feature") {
         return Err(cursor.refuse("`feature = NAME`"));
     }
     cursor.expect(TokenKind::Equals)?;
-    let name = cursor.ident("the name of a feature")?;
-    Ok(Gate {
-        text: name.name,
-        span: name.span,
-    })
+    Ok(cursor.ident("the name of a feature")?.into_gate())
 }

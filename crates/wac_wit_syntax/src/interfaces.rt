@@ -4,42 +4,35 @@ use super::cursor::Cursor;
 use super::error::Fault;
 use super::functions::read_signature;
 use super::gates::read_gates;
+use super::lists::{Item, ListForm, Member, read_list};
 use super::paths::read_path;
 use super::token::TokenKind;
-use super::tree::{FuncItem, Gates, InterfaceItem, Rename, UseItem};
-use super::typedefs::{read_typedef, sees_typedef};
+use super::tree::{FuncItem, Gates, Ident, InterfaceItem, Rename, UseItem};
+use super::typedefs::{def_word, read_typedef};
 
-/// Reads the items of an interface, between braces.
-pub(crate) fn read_items(cursor: &mut Cursor<'_>) -> Result<Vec<InterfaceItem>, Fault> {
-    cursor.expect(TokenKind::OpenBrace)?;
-    let mut items = Vec::new(cursor.alloc);
-    for _turn in 0..cursor.len() {
-        if cursor.eat(TokenKind::CloseBrace) {
-            break;
+const USED_NAMES: ListForm = ListForm {
+    open: TokenKind::OpenBrace,
+    close: TokenKind::CloseBrace,
+    member: "a name or `}`",
+    separator: "`,`, `as` or `}`",
+    needs_alias: false,
+};
+
+impl Item for InterfaceItem {
+    fn read(cursor: &mut Cursor) -> Result<InterfaceItem, Fault> {
+        let gates = read_gates(cursor)?;
+        if let Some(word) = def_word(cursor) {
+            return Ok(InterfaceItem::Type(read_typedef(cursor, gates, word)?));
         }
-        let start = cursor.index();
-        match read_item(cursor) {
-            Ok(item) => items.push(item)?,
-            Err(fault) => cursor.recover(fault, start)?,
+        if cursor.word() == "use" {
+            return Ok(InterfaceItem::Use(read_use(cursor, gates)?));
         }
+        Ok(InterfaceItem::Func(read_func(cursor, gates)?))
     }
-    Ok(items)
 }
 
-fn read_item(cursor: &mut Cursor<'_>) -> Result<InterfaceItem, Fault> {
-    let gates = read_gates(cursor)?;
-    if sees_typedef(cursor) {
-        return Ok(InterfaceItem::Type(read_typedef(cursor, gates)?));
-    }
-    if cursor.word() == "use" {
-        return Ok(InterfaceItem::Use(read_use(cursor, gates)?));
-    }
-    Ok(InterfaceItem::Func(read_func(cursor, gates)?))
-}
-
-fn read_func(cursor: &mut Cursor<'_>, gates: Gates) -> Result<FuncItem, Fault> {
-    let name = cursor.ident("a function, a type, `use` or `}`")?;
-    cursor.expect(TokenKind::Colon)?;
+fn read_func(cursor: &mut Cursor, gates: Gates) -> Result<FuncItem, Fault> {
+    let name = cursor.label("a function, a type, `use` or `}`")?;
     let signature = read_signature(cursor)?;
     let span = name.span.to(signature.span);
     Ok(FuncItem {
@@ -51,42 +44,30 @@ fn read_func(cursor: &mut Cursor<'_>, gates: Gates) -> Result<FuncItem, Fault> {
 }
 
 /// Reads `use PATH.{..};`.
-pub(crate) fn read_use(cursor: &mut Cursor<'_>, gates: Gates) -> Result<UseItem, Fault> {
+pub(crate) fn read_use(cursor: &mut Cursor, gates: Gates) -> Result<UseItem, Fault> {
     cursor.take();
     let path = read_path(cursor)?;
-    cursor.expect(TokenKind::Dot)?;
-    let names = read_renames(cursor, false)?;
-    cursor.expect_end()?;
-    Ok(UseItem { gates, path, names })
+    let path = cursor.before(path, TokenKind::Dot)?;
+    let names = read_list(cursor, USED_NAMES)?;
+    cursor.ended(UseItem { gates, path, names })
 }
 
-/// Reads names between braces, each with the name that it gets.
-pub(crate) fn read_renames(
-    cursor: &mut Cursor<'_>,
-    needs_alias: bool,
-) -> Result<Vec<Rename>, Fault> {
-    cursor.expect(TokenKind::OpenBrace)?;
-    let mut names = Vec::new(cursor.alloc);
-    for _turn in 0..cursor.len() {
-        if cursor.eat(TokenKind::CloseBrace) {
-            break;
+// A name with the one that it gets, if it gets another.
+impl Member for Rename {
+    fn read(cursor: &mut Cursor, form: ListForm) -> Result<Rename, Fault> {
+        let name = cursor.ident(form.member)?;
+        if form.needs_alias && cursor.word() != "as" {
+            return Err(cursor.refuse("`as` and the name that it gets"));
         }
-        names.push(read_rename(cursor, needs_alias)?)?;
-        if !cursor.eat(TokenKind::Comma) && !cursor.sees(TokenKind::CloseBrace) {
-            return Err(cursor.refuse("`,`, `as` or `}`"));
-        }
+        let alias = read_alias(cursor)?;
+        Ok(Rename { name, alias })
     }
-    Ok(names)
 }
 
-fn read_rename(cursor: &mut Cursor<'_>, needs_alias: bool) -> Result<Rename, Fault> {
-    let name = cursor.ident("a name or `}`")?;
-    let alias = if cursor.eat_word("as") {
-        Some(cursor.ident("the name that it gets")?)
-    } else if needs_alias {
-        return Err(cursor.refuse("`as` and the name that it gets"));
-    } else {
-        None
-    };
-    Ok(Rename { name, alias })
+/// Reads `as NAME`, if that comes next.
+pub(crate) fn read_alias(cursor: &mut Cursor) -> Result<Option<Ident>, Fault> {
+    if !cursor.eat_word("as") {
+        return Ok(None);
+    }
+    Ok(Some(cursor.ident("the name that it gets")?))
 }

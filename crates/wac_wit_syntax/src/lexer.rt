@@ -1,14 +1,10 @@
 //! Cuts a text into tokens.
 
 use super::characters::note_characters;
-use super::error::SyntaxError;
 use super::names::fault_of_name;
 use super::positions::Span;
 use super::refusals::Refusals;
-use super::scanning::{
-    block_end, byte_at, digits_end, is_word_byte, line_end, name_end, quoted, space_end,
-    version_end,
-};
+use super::scanning::{Run, block_end, byte_at, is_word_byte, quoted};
 use super::token::{Token, TokenKind};
 use std::alloc::{AllocError, Global};
 
@@ -22,14 +18,8 @@ enum Piece {
     Token(TokenKind, usize),
 }
 
-/// The tokens of a text, the last of which is its end.
-pub fn tokens(alloc: Global, text: &str) -> Result<Vec<Token>, SyntaxError> {
-    let mut refusals = Refusals::new(alloc);
-    let found = cut(alloc, text, &mut refusals)?;
-    refusals.or(found)
-}
-
-/// The tokens of a text, with one of the kind `Invalid` for what is none; what is refused is noted.
+/// The tokens of a text, the last of which is its end. What is none is of the kind `Invalid`, and
+/// is noted as refused.
 pub(crate) fn cut(
     alloc: Global,
     text: &str,
@@ -94,7 +84,7 @@ fn read_piece(
     let after = at.saturating_add(1);
     let next = byte_at(bytes, after);
     match byte {
-        b' ' | b'\t' | b'\r' | b'\n' => Ok(Piece::Space(space_end(bytes, after))),
+        b' ' | b'\t' | b'\r' | b'\n' => Ok(Piece::Space(Run::Space.end(bytes, after))),
         b'/' if next == b'/' => Ok(line_comment(bytes, at)),
         b'/' if next == b'*' => block_comment(alloc, bytes, at, refusals),
         b'-' if next == b'>' => Ok(Piece::Token(TokenKind::Arrow, after.saturating_add(1))),
@@ -120,7 +110,7 @@ fn read_piece(
 
 // A comment to the end of the line: documentation after exactly three slashes.
 fn line_comment(bytes: &[u8], at: usize) -> Piece {
-    let end = line_end(bytes, at);
+    let end = Run::Line.end(bytes, at);
     let third = byte_at(bytes, at.saturating_add(2));
     let fourth = byte_at(bytes, at.saturating_add(3));
     if third == b'/' && fourth != b'/' {
@@ -160,15 +150,15 @@ fn number(
     refusals: &mut Refusals,
 ) -> Result<Piece, AllocError> {
     let bytes = text.as_bytes();
-    let end = digits_end(bytes, at);
+    let end = Run::Digits.end(bytes, at);
     let next = byte_at(bytes, end.saturating_add(1));
     if byte_at(bytes, end) == b'.' && next.is_ascii_digit() {
-        return Ok(Piece::Token(TokenKind::Version, version_end(bytes, end)));
+        return Ok(Piece::Token(TokenKind::Version, Run::Version.end(bytes, end)));
     }
     if !is_word_byte(byte_at(bytes, end)) {
         return Ok(Piece::Token(TokenKind::Integer, end));
     }
-    let end = name_end(bytes, at);
+    let end = Run::Name.end(bytes, at);
     let found = quoted(text.get(at..end).unwrap_or(""));
     let message = format!(in alloc;
         "expected a name or a number, found `{found}`: a name begins with a letter"
@@ -184,7 +174,7 @@ fn name(
     sign: Span,
     refusals: &mut Refusals,
 ) -> Result<Piece, AllocError> {
-    let end = name_end(text.as_bytes(), sign.end);
+    let end = Run::Name.end(text.as_bytes(), sign.end);
     let words = text.get(sign.end..end).unwrap_or("");
     if let Some(fault) = fault_of_name(words) {
         let start = sign.start;
@@ -207,10 +197,15 @@ fn stray(
     at: usize,
     refusals: &mut Refusals,
 ) -> Result<Piece, AllocError> {
-    let found = text.get(at..text.len()).unwrap_or("");
-    let c = found.chars().next().unwrap_or(' ');
-    let length = found.find(|c: char| c.is_ascii()).unwrap_or(found.len());
-    let end = at.saturating_add(length.max(1));
+    let c = text
+        .get(at..text.len())
+        .unwrap_or("")
+        .chars()
+        .next()
+        .unwrap_or(' ');
+    let end = Run::Foreign
+        .end(text.as_bytes(), at)
+        .max(at.saturating_add(1));
     refusals.add(Span { start: at, end }, message_of_stray(alloc, c))?;
     Ok(Piece::Token(TokenKind::Invalid, end))
 }

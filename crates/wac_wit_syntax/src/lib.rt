@@ -14,6 +14,7 @@ mod gates;
 mod interfaces;
 mod keywords;
 mod lexer;
+mod lists;
 mod names;
 mod paths;
 mod positions;
@@ -30,10 +31,8 @@ mod worlds;
 pub use documents::parse;
 pub use error::{MAX_REFUSALS, Refusal, SyntaxError};
 pub use keywords::is_keyword;
-pub use lexer::tokens;
 pub use positions::{Position, Span, position_of};
 pub use reports::push_report;
-pub use token::{Token, TokenKind};
 pub use tree::{
     Case, Document, Extern, ExternItem, Field, FuncItem, Gate, Gates, Ident, IncludeItem,
     InterfaceDecl, InterfaceItem, Method, MethodKind, NestedPackage, PackageName, Path, Rename,

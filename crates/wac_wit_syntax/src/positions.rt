@@ -20,7 +20,7 @@ impl Span {
 }
 
 /// A line and a column, each from 1. A column counts bytes, those of a byte order mark too.
-#[derive(Clone, Copy, PartialEq, Eq, Debug)]
+#[derive(Clone, Copy)]
 pub struct Position {
     /// The line.
     pub line: usize,

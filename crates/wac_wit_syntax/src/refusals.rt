@@ -18,6 +18,11 @@ impl Refusals {
         }
     }
 
+    /// Whether none is noted.
+    pub(crate) fn is_empty(&self) -> bool {
+        self.found.is_empty()
+    }
+
     /// Whether as many are noted as are told.
     pub(crate) fn is_full(&self) -> bool {
         self.found.len() >= MAX_REFUSALS
@@ -26,7 +31,23 @@ impl Refusals {
     /// Whether a refusal at a place would be noted: one follows from the other where two have the
     /// same place, as where a name is misspelled and then isn't the word that was expected.
     pub(crate) fn takes(&self, start: usize) -> bool {
-        !self.is_full() && !self.found.iter().any(|it| it.span.start == start)
+        self.index_for(start).is_some()
+    }
+
+    // Which refusal one at a place would be, if it would be noted.
+    fn index_for(&self, start: usize) -> Option<usize> {
+        if self.is_full() {
+            return None;
+        }
+        for (index, refusal) in self.found.iter().enumerate() {
+            if refusal.span.start == start {
+                return None;
+            }
+            if refusal.span.start > start {
+                return Some(index);
+            }
+        }
+        Some(self.found.len())
     }
 
     /// Notes a refusal.
@@ -36,24 +57,12 @@ impl Refusals {
         message: Result<String, AllocError>,
     ) -> Result<(), AllocError> {
         let message = message?;
-        if !self.takes(span.start) {
+        let Some(index) = self.index_for(span.start) else {
             return Ok(());
-        }
-        let refusal = Refusal { span, message };
-        match self.found.iter().position(|it| it.span.start > span.start) {
-            Some(index) => self.found.insert(index, refusal)?,
-            None => self.found.push(refusal)?,
-        }
+        };
+        let index = index.min(self.found.len());
+        self.found.insert(index, Refusal { span, message })?;
         Ok(())
-    }
-
-    /// What was read of the text, if nothing is refused.
-    pub(crate) fn or<T: Drop>(self, read: T) -> Result<T, SyntaxError> {
-        if self.found.is_empty() {
-            Ok(read)
-        } else {
-            Err(self.into_error())
-        }
     }
 
     /// The error of the text.

@@ -2,7 +2,7 @@
 
 use super::characters::fault_of;
 use super::error::Refusal;
-use super::positions::{Span, position_of};
+use super::positions::{Position, Span, position_of};
 use std::alloc::AllocError;
 use unicode_width::UnicodeWidthStr;
 
@@ -17,27 +17,31 @@ pub fn push_report(
     text: &str,
     refusal: &Refusal,
 ) -> Result<(), AllocError> {
-    let position = position_of(text, refusal.span.start);
-    let (line, column) = (position.line, position.column);
+    let Position { line, column } = position_of(text, refusal.span.start);
     let message = refusal.message.as_str();
     writeln!(out, "{name}:{line}:{column}: {message}")?;
-    let shown = text.lines().nth(line.saturating_sub(1)).unwrap_or("");
-    let place = column.saturating_sub(1);
-    let before = shown.get(0..place).unwrap_or(shown);
-    let after = shown.get(place..shown.len()).unwrap_or("");
     let margin = digits_of(line);
     push_times(out, ' ', margin)?;
     write!(out, " |\n{line} | ")?;
-    let hidden = before.chars().count().saturating_sub(SHOWN);
-    let indent = push_shown(out, before, hidden)?;
-    push_shown(out, after, 0)?;
-    out.push('\n')?;
+    let shown = text.lines().nth(line.saturating_sub(1)).unwrap_or("");
+    let indent = push_line(out, shown, column.saturating_sub(1))?;
     push_times(out, ' ', margin)?;
     out.push_str(" | ")?;
     push_times(out, ' ', indent)?;
     push_times(out, '^', marks(text, refusal.span))?;
     out.push('\n')?;
     Ok(())
+}
+
+// Puts what is shown of a line last, and answers how wide that is before a place.
+fn push_line(out: &mut String, shown: &str, place: usize) -> Result<usize, AllocError> {
+    let before = shown.get(0..place).unwrap_or(shown);
+    let after = shown.get(place..shown.len()).unwrap_or("");
+    let hidden = before.chars().count().saturating_sub(SHOWN);
+    let indent = push_shown(out, before, hidden)?;
+    push_shown(out, after, 0)?;
+    out.push('\n')?;
+    Ok(indent)
 }
 
 // How many decimal digits a number has.

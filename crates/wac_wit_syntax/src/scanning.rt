@@ -21,58 +21,46 @@ pub(crate) fn is_word_byte(byte: u8) -> bool {
     byte.is_ascii_alphanumeric() || byte == b'_'
 }
 
-/// Where the line ends that the byte at an index stands on.
-pub(crate) fn line_end(bytes: &[u8], from: usize) -> usize {
-    for at in from..bytes.len() {
-        if bytes[at] == b'\n' {
-            return at;
-        }
-    }
-    bytes.len()
+/// Bytes that are read in a row.
+#[derive(Clone, Copy)]
+pub(crate) enum Run {
+    /// The rest of a line.
+    Line,
+    /// White space.
+    Space,
+    /// Digits.
+    Digits,
+    /// The bytes that stand in names, none of which is the `-` of an arrow.
+    Name,
+    /// The bytes that stand in versions. A dot is one if more of the version follows, so that
+    /// `1.2.3.{` ends before the last.
+    Version,
+    /// The bytes of characters that aren't ASCII.
+    Foreign,
 }
 
-/// Where white space ends.
-pub(crate) fn space_end(bytes: &[u8], from: usize) -> usize {
-    for at in from..bytes.len() {
-        if !matches!(bytes[at], b' ' | b'\t' | b'\r' | b'\n') {
-            return at;
+impl Run {
+    /// Where the run ends that begins at an index.
+    pub(crate) fn end(self, bytes: &[u8], from: usize) -> usize {
+        for at in from..bytes.len() {
+            if !self.goes_on(bytes[at], byte_at(bytes, at.saturating_add(1))) {
+                return at;
+            }
         }
+        bytes.len()
     }
-    bytes.len()
-}
 
-/// Where digits end.
-pub(crate) fn digits_end(bytes: &[u8], from: usize) -> usize {
-    for at in from..bytes.len() {
-        if !bytes[at].is_ascii_digit() {
-            return at;
+    // Whether a byte belongs to the run, where this one follows it.
+    fn goes_on(self, byte: u8, next: u8) -> bool {
+        match self {
+            Run::Line => byte != b'\n',
+            Run::Space => matches!(byte, b' ' | b'\t' | b'\r' | b'\n'),
+            Run::Digits => byte.is_ascii_digit(),
+            Run::Name => is_word_byte(byte) || byte == b'-' && next != b'>',
+            Run::Version => is_version_byte(byte) || byte == b'.' && is_version_byte(next),
+            Run::Foreign => !byte.is_ascii(),
         }
     }
-    bytes.len()
-}
-
-/// Where a name ends, as far as its bytes go. The `-` of an arrow is none of them.
-pub(crate) fn name_end(bytes: &[u8], from: usize) -> usize {
-    for at in from..bytes.len() {
-        let joins = bytes[at] == b'-' && byte_at(bytes, at.saturating_add(1)) != b'>';
-        if !joins && !is_word_byte(bytes[at]) {
-            return at;
-        }
-    }
-    bytes.len()
-}
-
-/// Where a version ends, as far as its bytes go. A dot belongs to it if more of it follows, so that
-/// `1.2.3.{` ends before the last.
-pub(crate) fn version_end(bytes: &[u8], from: usize) -> usize {
-    for at in from..bytes.len() {
-        let next = byte_at(bytes, at.saturating_add(1));
-        let joins = bytes[at] == b'.' && is_version_byte(next);
-        if !joins && !is_version_byte(bytes[at]) {
-            return at;
-        }
-    }
-    bytes.len()
 }
 
 fn is_version_byte(byte: u8) -> bool {

@@ -3,8 +3,8 @@
 use super::positions::Span;
 
 /// What a token is.
-#[derive(Clone, Copy, PartialEq, Eq, Debug)]
-pub enum TokenKind {
+#[derive(Clone, Copy, PartialEq, Eq)]
+pub(crate) enum TokenKind {
     /// A name or a keyword.
     Word,
     /// A name with `%` before it, which is never a keyword.
@@ -53,7 +53,7 @@ pub enum TokenKind {
 
 impl TokenKind {
     /// The kind in words.
-    pub fn description(self) -> &'static str {
+    pub(crate) fn description(self) -> &'static str {
         match self {
             TokenKind::Word | TokenKind::Escaped => "a name",
             TokenKind::Integer => "a number",
@@ -103,13 +103,13 @@ impl TokenKind {
 }
 
 /// A token of a text.
-#[derive(Clone, Copy, Debug)]
-pub struct Token {
+#[derive(Clone, Copy)]
+pub(crate) struct Token {
     /// What it is.
-    pub kind: TokenKind,
+    pub(crate) kind: TokenKind,
     /// Where it stands.
-    pub span: Span,
+    pub(crate) span: Span,
     /// The documentation that stands before it, if there is any: from the first such comment to
     /// the last.
-    pub docs: Option<Span>,
+    pub(crate) docs: Option<Span>,
 }

@@ -1,15 +1,31 @@
 //! The syntax tree of a file.
+//!
+//! What the functions of this crate hold while they may fail is dropped by hand: each place that
+//! drops it calls `drop`, while what is derived is proved field by field at each such place.
 
 use super::positions::Span;
 use wac_model::PrimitiveType;
 
 /// A name, without the `%` that may stand before it.
-#[derive(Drop)]
 pub struct Ident {
     /// The name.
     pub name: String,
     /// Where it stands.
     pub span: Span,
+}
+
+impl Ident {
+    /// The name as what stands in the parentheses of an attribute.
+    pub(crate) fn into_gate(self) -> Gate {
+        let Ident { name: text, span } = self;
+        Gate { text, span }
+    }
+}
+
+impl Drop for Ident {
+    fn drop(self) {
+        let Ident { name: _, span: _ } = self;
+    }
 }
 
 /// What stands in the parentheses of an attribute.
@@ -22,7 +38,6 @@ pub struct Gate {
 }
 
 /// The documentation and the attributes of an item.
-#[derive(Drop)]
 pub struct Gates {
     /// Where the documentation stands.
     pub docs: Option<Span>,
@@ -34,8 +49,18 @@ pub struct Gates {
     pub deprecated: Option<Gate>,
 }
 
+impl Drop for Gates {
+    fn drop(self) {
+        let Gates {
+            docs: _,
+            since: _,
+            unstable: _,
+            deprecated: _,
+        } = self;
+    }
+}
+
 /// The name of a package, as `wasi:http@0.2.0`.
-#[derive(Drop)]
 pub struct PackageName {
     /// What stands before the colon.
     pub namespace: Ident,
@@ -47,8 +72,18 @@ pub struct PackageName {
     pub span: Span,
 }
 
+impl Drop for PackageName {
+    fn drop(self) {
+        let PackageName {
+            namespace: _,
+            name: _,
+            version: _,
+            span: _,
+        } = self;
+    }
+}
+
 /// A path to an interface or a world, as `types` or `wasi:http/types@0.2.0`.
-#[derive(Drop)]
 pub struct Path {
     /// The package, if one is named.
     pub package: Option<PackageName>,
@@ -58,8 +93,17 @@ pub struct Path {
     pub span: Span,
 }
 
+impl Drop for Path {
+    fn drop(self) {
+        let Path {
+            package: _,
+            name: _,
+            span: _,
+        } = self;
+    }
+}
+
 /// What a file holds.
-#[derive(Drop)]
 pub struct Document {
     /// The package that the file belongs to, if it says that.
     pub package: Option<PackageName>,
@@ -67,6 +111,16 @@ pub struct Document {
     pub items: Vec<TopItem>,
     /// The packages that are written inside the file.
     pub packages: Vec<NestedPackage>,
+}
+
+impl Drop for Document {
+    fn drop(self) {
+        let Document {
+            package: _,
+            items: _,
+            packages: _,
+        } = self;
+    }
 }
 
 /// An item of a file or of a nested package.
@@ -193,7 +247,7 @@ pub struct Case {
 }
 
 /// What a function of a resource is.
-#[derive(Clone, Copy, PartialEq, Eq, Debug)]
+#[derive(Clone, Copy, PartialEq, Eq)]
 pub enum MethodKind {
     /// It takes the resource.
     Method,
@@ -232,7 +286,6 @@ pub struct FuncItem {
 }
 
 /// The parameters and the result of a function.
-#[derive(Drop)]
 pub struct Signature {
     /// The parameters in order.
     pub params: Vec<Field>,
@@ -242,6 +295,17 @@ pub struct Signature {
     pub is_async: bool,
     /// Where the parameters and the result stand.
     pub span: Span,
+}
+
+impl Drop for Signature {
+    fn drop(self) {
+        let Signature {
+            params: _,
+            returns: _,
+            is_async: _,
+            span: _,
+        } = self;
+    }
 }
 
 /// `world NAME { .. }`.
@@ -306,7 +370,6 @@ pub enum Extern {
 }
 
 /// A type where one is used.
-#[derive(Drop)]
 pub enum TypeExpr {
     /// A primitive type, and where it stands.
     Primitive(PrimitiveType, Span),
@@ -332,4 +395,17 @@ pub enum TypeExpr {
     Own(Ident),
     /// `borrow<R>`.
     Borrow(Ident),
+}
+
+impl Drop for TypeExpr {
+    fn drop(self) {
+        match self {
+            TypeExpr::Primitive(_, _) => {}
+            TypeExpr::Name(_) | TypeExpr::Own(_) | TypeExpr::Borrow(_) => {}
+            TypeExpr::List(_) | TypeExpr::FixedList(_, _, _) | TypeExpr::Option(_) => {}
+            TypeExpr::Result(_, _) | TypeExpr::Map(_, _, _) => {}
+            TypeExpr::Tuple(_, _) => {}
+            TypeExpr::Future(_) | TypeExpr::Stream(_) => {}
+        }
+    }
 }

@@ -6,6 +6,7 @@ use super::positions::Span;
 use super::token::TokenKind;
 use super::tree::{Ident, TypeExpr};
 use std::alloc::{AllocError, Global};
+use std::mem;
 use wac_model::PrimitiveType;
 
 /// How deep types nest at most.
@@ -24,7 +25,6 @@ enum TypeWord {
 }
 
 // What stands between the angles.
-#[derive(Drop)]
 struct Parts {
     types: Vec<TypeExpr>,
     // whether `_` stands in the place of the first type
@@ -32,14 +32,35 @@ struct Parts {
     length: Option<u32>,
 }
 
+// By hand, as in the tree.
+impl Drop for Parts {
+    fn drop(self) {
+        let Parts {
+            types: _,
+            lacks_first: _,
+            length: _,
+        } = self;
+    }
+}
+
+impl Parts {
+    // Takes the last of the types, if there is one.
+    fn take_last(&mut self, alloc: Global) -> Result<Option<Box<TypeExpr>>, AllocError> {
+        match self.types.pop() {
+            Some(ty) => Ok(Some(Box::new(alloc, ty)?)),
+            None => Ok(None),
+        }
+    }
+}
+
 /// Reads a type.
-pub(crate) fn read_type(cursor: &mut Cursor<'_>) -> Result<TypeExpr, Fault> {
+pub(crate) fn read_type(cursor: &mut Cursor) -> Result<TypeExpr, Fault> {
     type_within(cursor, MAX_DEPTH)
 }
 
 // Reads a type in which at most so many nest. This is the one function that calls itself, so the
 // stack is bounded by that number.
-fn type_within(cursor: &mut Cursor<'_>, depth: usize) -> Result<TypeExpr, Fault> {
+fn type_within(cursor: &mut Cursor, depth: usize) -> Result<TypeExpr, Fault> {
     let start = cursor.peek().span;
     let Some(word) = type_word(cursor) else {
         return read_plain(cursor);
@@ -63,11 +84,12 @@ fn type_within(cursor: &mut Cursor<'_>, depth: usize) -> Result<TypeExpr, Fault>
             }
         }
     }
-    build(cursor, word, parts, start)
+    let span = start.to(cursor.last_span());
+    build(cursor, word, &mut parts, span)
 }
 
 // The word that comes next, if it makes types. `map` may be a name too.
-fn type_word(cursor: &Cursor<'_>) -> Option<TypeWord> {
+fn type_word(cursor: &Cursor) -> Option<TypeWord> {
     Some(match cursor.word() {
         "list" => TypeWord::List,
         "option" => TypeWord::Option,
@@ -81,54 +103,54 @@ fn type_word(cursor: &Cursor<'_>) -> Option<TypeWord> {
 }
 
 // Reads a type that is one word, or a handle.
-fn read_plain(cursor: &mut Cursor<'_>) -> Result<TypeExpr, Fault> {
-    let word = cursor.word();
-    if word == "own" || word == "borrow" {
-        return read_handle(cursor);
-    }
-    match primitive_of(word) {
-        Some(primitive) => Ok(TypeExpr::Primitive(primitive, cursor.take().span)),
-        None => Ok(TypeExpr::Name(cursor.ident("a type")?)),
+fn read_plain(cursor: &mut Cursor) -> Result<TypeExpr, Fault> {
+    match cursor.word() {
+        "own" => Ok(TypeExpr::Own(read_resource(cursor)?)),
+        "borrow" => Ok(TypeExpr::Borrow(read_resource(cursor)?)),
+        word => match primitive_of(word) {
+            Some(primitive) => Ok(TypeExpr::Primitive(primitive, cursor.take().span)),
+            None => Ok(TypeExpr::Name(cursor.ident("a type")?)),
+        },
     }
 }
 
-// Reads `own<R>` or `borrow<R>`.
-fn read_handle(cursor: &mut Cursor<'_>) -> Result<TypeExpr, Fault> {
-    let owns = cursor.word() == "own";
+// Reads the name of the resource of a handle, from the word of the handle on.
+fn read_resource(cursor: &mut Cursor) -> Result<Ident, Fault> {
     cursor.take();
     cursor.expect(TokenKind::OpenAngle)?;
-    let resource: Ident = cursor.ident("the name of a resource")?;
-    cursor.expect(TokenKind::CloseAngle)?;
-    Ok(if owns {
-        TypeExpr::Own(resource)
-    } else {
-        TypeExpr::Borrow(resource)
-    })
+    let resource = cursor.ident("the name of a resource")?;
+    cursor.before(resource, TokenKind::CloseAngle)
 }
+
+static PRIMITIVES: [(&str, PrimitiveType); 14] = [
+    ("u8", PrimitiveType::U8),
+    ("s8", PrimitiveType::S8),
+    ("u16", PrimitiveType::U16),
+    ("s16", PrimitiveType::S16),
+    ("u32", PrimitiveType::U32),
+    ("s32", PrimitiveType::S32),
+    ("u64", PrimitiveType::U64),
+    ("s64", PrimitiveType::S64),
+    ("f32", PrimitiveType::F32),
+    ("f64", PrimitiveType::F64),
+    ("char", PrimitiveType::Char),
+    ("bool", PrimitiveType::Bool),
+    ("string", PrimitiveType::String),
+    ("error-context", PrimitiveType::ErrorContext),
+];
 
 // The primitive type of a name.
 fn primitive_of(word: &str) -> Option<PrimitiveType> {
-    Some(match word {
-        "u8" => PrimitiveType::U8,
-        "s8" => PrimitiveType::S8,
-        "u16" => PrimitiveType::U16,
-        "s16" => PrimitiveType::S16,
-        "u32" => PrimitiveType::U32,
-        "s32" => PrimitiveType::S32,
-        "u64" => PrimitiveType::U64,
-        "s64" => PrimitiveType::S64,
-        "f32" => PrimitiveType::F32,
-        "f64" => PrimitiveType::F64,
-        "char" => PrimitiveType::Char,
-        "bool" => PrimitiveType::Bool,
-        "string" => PrimitiveType::String,
-        "error-context" => PrimitiveType::ErrorContext,
-        _ => return None,
-    })
+    for (name, primitive) in &PRIMITIVES {
+        if *name == word {
+            return Some(*primitive);
+        }
+    }
+    None
 }
 
 // Takes the angle behind a word, which some words stand without.
-fn opens(cursor: &mut Cursor<'_>, word: TypeWord) -> Result<bool, Fault> {
+fn opens(cursor: &mut Cursor, word: TypeWord) -> Result<bool, Fault> {
     if matches!(word, TypeWord::Result | TypeWord::Future | TypeWord::Stream) {
         return Ok(cursor.eat(TokenKind::OpenAngle));
     }
@@ -137,7 +159,7 @@ fn opens(cursor: &mut Cursor<'_>, word: TypeWord) -> Result<bool, Fault> {
 }
 
 // Reads the next part, if it is none of the types: the `_` of a result, the length of a list.
-fn read_other(cursor: &mut Cursor<'_>, word: TypeWord, parts: &mut Parts) -> Result<bool, Fault> {
+fn read_other(cursor: &mut Cursor, word: TypeWord, parts: &mut Parts) -> Result<bool, Fault> {
     let is_first = parts.types.is_empty() && !parts.lacks_first;
     if matches!(word, TypeWord::Result) && is_first && cursor.eat(TokenKind::Underscore) {
         parts.lacks_first = true;
@@ -151,7 +173,7 @@ fn read_other(cursor: &mut Cursor<'_>, word: TypeWord, parts: &mut Parts) -> Res
 }
 
 // Reads a number below 2^32.
-fn read_length(cursor: &mut Cursor<'_>) -> Result<u32, Fault> {
+fn read_length(cursor: &mut Cursor) -> Result<u32, Fault> {
     let token = cursor.peek();
     if token.kind == TokenKind::Integer {
         if let Ok(number) = cursor.text_of(token).parse::<u32>() {
@@ -163,7 +185,7 @@ fn read_length(cursor: &mut Cursor<'_>) -> Result<u32, Fault> {
 }
 
 // Takes the comma or the angle behind a part; whether another part follows.
-fn goes_on(cursor: &mut Cursor<'_>, word: TypeWord, parts: &Parts) -> Result<bool, Fault> {
+fn goes_on(cursor: &mut Cursor, word: TypeWord, parts: &Parts) -> Result<bool, Fault> {
     let is_first = parts.types.len() == 1 && !parts.lacks_first && parts.length.is_none();
     let (may_go_on, may_end) = match word {
         TypeWord::Tuple => (true, true),
@@ -188,42 +210,58 @@ fn goes_on(cursor: &mut Cursor<'_>, word: TypeWord, parts: &Parts) -> Result<boo
 
 // The type that a word makes out of its parts.
 fn build(
-    cursor: &mut Cursor<'_>,
+    cursor: &mut Cursor,
     word: TypeWord,
-    parts: Parts,
-    start: Span,
+    parts: &mut Parts,
+    span: Span,
 ) -> Result<TypeExpr, Fault> {
-    let span = start.to(cursor.last_span());
-    if matches!(word, TypeWord::Tuple) {
-        return Ok(TypeExpr::Tuple(parts.types, span));
+    let alloc = cursor.alloc;
+    match word {
+        TypeWord::Tuple => {
+            let types = mem::replace(&mut parts.types, Vec::new(alloc));
+            Ok(TypeExpr::Tuple(types, span))
+        }
+        TypeWord::Result => build_result(alloc, parts),
+        TypeWord::Map => build_map(cursor, parts, span),
+        TypeWord::Future => Ok(TypeExpr::Future(parts.take_last(alloc)?)),
+        TypeWord::Stream => Ok(TypeExpr::Stream(parts.take_last(alloc)?)),
+        TypeWord::Option => Ok(TypeExpr::Option(needed(cursor, parts, span)?)),
+        TypeWord::List => {
+            let element = needed(cursor, parts, span)?;
+            Ok(match parts.length {
+                Some(length) => TypeExpr::FixedList(element, length, span),
+                None => TypeExpr::List(element),
+            })
+        }
     }
-    if matches!(word, TypeWord::Map) && !has_key(&parts) {
+}
+
+// A result, of which an only type is that of an error where `_` stands before it.
+fn build_result(alloc: Global, parts: &mut Parts) -> Result<TypeExpr, Fault> {
+    if parts.types.len() == 1 && !parts.lacks_first {
+        return Ok(TypeExpr::Result(parts.take_last(alloc)?, None));
+    }
+    let second = parts.take_last(alloc)?;
+    let first = parts.take_last(alloc)?;
+    Ok(TypeExpr::Result(first, second))
+}
+
+fn build_map(cursor: &mut Cursor, parts: &mut Parts, span: Span) -> Result<TypeExpr, Fault> {
+    if !has_key(parts) {
         return Err(cursor.refuse_at(
             span,
             "the key of a map is `bool`, `char`, `string` or an integer type, by that name",
         ));
     }
-    let length = parts.length;
-    let lacks_first = parts.lacks_first;
-    let mut types = parts.types;
-    types.reverse();
-    let first = if lacks_first {
-        None
-    } else {
-        boxed(cursor.alloc, types.pop())?
-    };
-    let second = boxed(cursor.alloc, types.pop())?;
-    let built = match word {
-        TypeWord::Result => Some(TypeExpr::Result(first, second)),
-        TypeWord::Future => Some(TypeExpr::Future(first)),
-        TypeWord::Stream => Some(TypeExpr::Stream(first)),
-        TypeWord::Option => first.map(TypeExpr::Option),
-        TypeWord::Map => map_of(first, second, span),
-        _ => list_of(first, length, span),
-    };
-    match built {
+    let value = needed(cursor, parts, span)?;
+    let key = needed(cursor, parts, span)?;
+    Ok(TypeExpr::Map(key, value, span))
+}
+
+// Takes the last of the types, which is there: `goes_on` asks for the parts that a word needs.
+fn needed(cursor: &mut Cursor, parts: &mut Parts, span: Span) -> Result<Box<TypeExpr>, Fault> {
+    match parts.take_last(cursor.alloc)? {
         Some(ty) => Ok(ty),
-        // not reached: `goes_on` asks for the parts that the word needs
         None => Err(cursor.refuse_at(span, "expected a type")),
     }
 }
@@ -236,31 +274,5 @@ fn has_key(parts: &Parts) -> bool {
             PrimitiveType::F32 | PrimitiveType::F64 | PrimitiveType::ErrorContext
         ),
         _ => false,
-    }
-}
-
-fn boxed(alloc: Global, ty: Option<TypeExpr>) -> Result<Option<Box<TypeExpr>>, AllocError> {
-    match ty {
-        Some(ty) => Ok(Some(Box::new(alloc, ty)?)),
-        None => Ok(None),
-    }
-}
-
-fn list_of(element: Option<Box<TypeExpr>>, length: Option<u32>, span: Span) -> Option<TypeExpr> {
-    let element = element?;
-    Some(match length {
-        Some(length) => TypeExpr::FixedList(element, length, span),
-        None => TypeExpr::List(element),
-    })
-}
-
-fn map_of(
-    key: Option<Box<TypeExpr>>,
-    value: Option<Box<TypeExpr>>,
-    span: Span,
-) -> Option<TypeExpr> {
-    match (key, value) {
-        (Some(key), Some(value)) => Some(TypeExpr::Map(key, value, span)),
-        _ => None,
     }
 }

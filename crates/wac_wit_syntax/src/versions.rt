@@ -4,83 +4,98 @@ use super::cursor::Cursor;
 use super::error::Fault;
 use super::keywords::is_keyword;
 use super::positions::Span;
-use super::scanning::{byte_at, digits_end, quoted};
+use super::scanning::{Run, byte_at, quoted};
 use super::token::TokenKind;
 use super::tree::Gate;
 use semver::Version;
 use std::alloc::AllocError;
 
+// What is wrong with a version, from one byte of it to another.
+#[derive(Clone, Copy)]
+struct Wrong {
+    start: usize,
+    end: usize,
+    message: &'static str,
+}
+
 /// Reads a version of SemVer 2.0.0, as `0.2.0`. Its numbers are below 2^64.
-pub(crate) fn read_version(cursor: &mut Cursor<'_>) -> Result<Gate, Fault> {
+pub(crate) fn read_version(cursor: &mut Cursor) -> Result<Gate, Fault> {
     let token = cursor.peek();
     if !matches!(token.kind, TokenKind::Version | TokenKind::Integer) {
         return Err(cursor.refuse("a version, as `1.2.3`"));
     }
-    let text = cursor.text_of(token);
-    let numbers = end_of_numbers(text.as_bytes());
-    if !matches!(byte_at(text.as_bytes(), numbers), 0 | b'-' | b'+') || !has_three(text, numbers) {
-        let span = part_of(token.span, numbers, numbers);
-        return Err(cursor.refuse_at(span, "expected a version of three numbers, as `1.2.3`"));
+    if let Some(wrong) = fault_of_version(cursor.text_of(token)) {
+        let span = Span {
+            start: token.span.start.saturating_add(wrong.start),
+            end: token.span.start.saturating_add(wrong.end),
+        };
+        return Err(cursor.refuse_at(span, wrong.message));
     }
-    refuse_keywords(cursor, token.span, text, numbers)?;
-    if let Err(error) = Version::parse(cursor.alloc, text) {
-        return Err(refuse_version(cursor, token.span, text, error));
-    }
-    let text = String::from_str(cursor.alloc, text)?;
+    let text = String::from_str(cursor.alloc, cursor.text_of(token))?;
     let span = cursor.take().span;
-    Ok(Gate { text, span })
+    check_version(cursor, Gate { text, span })
 }
 
-// Where up to three numbers with dots between them end.
-fn end_of_numbers(bytes: &[u8]) -> usize {
-    let mut end = digits_end(bytes, 0);
+// What is wrong with the form of a version: it has three numbers with dots between them, and none
+// of the identifiers behind them is a keyword, as the readers in use ask.
+fn fault_of_version(text: &str) -> Option<Wrong> {
+    match end_of_numbers(text.as_bytes()) {
+        Ok(end) => keyword_in(text, end.saturating_add(1)),
+        Err(end) => Some(Wrong {
+            start: end,
+            end,
+            message: "expected a version of three numbers, as `1.2.3`",
+        }),
+    }
+}
+
+// Where three numbers end that have dots between them, or where what there is of them ends.
+fn end_of_numbers(bytes: &[u8]) -> Result<usize, usize> {
+    let mut end = Run::Digits.end(bytes, 0);
     for _number in 0..2 {
         let next = end.saturating_add(1);
-        if byte_at(bytes, end) == b'.' && byte_at(bytes, next).is_ascii_digit() {
-            end = digits_end(bytes, next);
+        if byte_at(bytes, end) != b'.' || !byte_at(bytes, next).is_ascii_digit() {
+            return Err(end);
         }
+        end = Run::Digits.end(bytes, next);
     }
-    end
-}
-
-fn has_three(text: &str, end: usize) -> bool {
-    text.get(0..end).unwrap_or("").split('.').count() == 3
-}
-
-// A part of a version that stands at a place.
-fn part_of(version: Span, start: usize, end: usize) -> Span {
-    Span {
-        start: version.start.saturating_add(start),
-        end: version.start.saturating_add(end),
+    match byte_at(bytes, end) {
+        0 | b'-' | b'+' => Ok(end),
+        _ => Err(end),
     }
 }
 
-// Refuses keywords among the identifiers behind the numbers of a version, as the readers in use do.
-fn refuse_keywords(
-    cursor: &mut Cursor<'_>,
-    version: Span,
-    text: &str,
-    numbers: usize,
-) -> Result<(), Fault> {
-    let mut start = numbers.saturating_add(1);
-    let identifiers = text.get(start..text.len()).unwrap_or("");
-    for identifier in identifiers.split(|c: char| matches!(c, '.' | '+')) {
-        let end = start.saturating_add(identifier.len());
-        if is_keyword(identifier) {
-            let span = part_of(version, start, end);
-            return Err(cursor.refuse_at(span, "a keyword can't stand in a version"));
+// The first keyword among the identifiers of a version, which begin at a place.
+fn keyword_in(text: &str, first: usize) -> Option<Wrong> {
+    let bytes = text.as_bytes();
+    let mut start = first;
+    for end in first..bytes.len().saturating_add(1) {
+        if !matches!(byte_at(bytes, end), 0 | b'.' | b'+') {
+            continue;
+        }
+        if is_keyword(text.get(start..end).unwrap_or("")) {
+            let message = "a keyword can't stand in a version";
+            return Some(Wrong {
+                start,
+                end,
+                message,
+            });
         }
         start = end.saturating_add(1);
     }
-    Ok(())
+    None
 }
 
-// What is said of a text in the form of a version that is none.
-fn refuse_version(cursor: &mut Cursor<'_>, span: Span, text: &str, error: semver::Error) -> Fault {
+// Refuses a text in the form of a version that is none.
+fn check_version(cursor: &mut Cursor, version: Gate) -> Result<Gate, Fault> {
+    let error = match Version::parse(cursor.alloc, &version.text) {
+        Ok(_parsed) => return Ok(version),
+        Err(error) => error,
+    };
     if error == semver::Error::from(AllocError) {
-        return Fault::Memory;
+        return Err(Fault::Memory);
     }
-    let text = quoted(text);
+    let text = quoted(&version.text);
     let message = format!(in cursor.alloc; "`{text}` is no version of SemVer 2.0.0: {error}");
-    cursor.note(span, message)
+    Err(cursor.note(version.span, message))
 }
