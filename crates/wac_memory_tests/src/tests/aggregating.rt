@@ -13,7 +13,9 @@ use std::fmt::Write;
 use wac_callers::merging::merge_each;
 use wac_script_entries::built;
 use wac_test_tools::{Expecting, shows};
-use wac_types::{AggregateError, Call, SubtypeChecker, TypeAggregator, Types, aggregate_all};
+use wac_types::{
+    AggregateAllError, AggregateError, Call, SubtypeChecker, TypeAggregator, Types, aggregate_all,
+};
 
 // What is handed in of two collections, and what becomes of it: the names of the imports, or what
 // a refusal says.
@@ -117,9 +119,30 @@ fn imports(merged: &TypeAggregator, names: &str) -> bool {
     out.has_all()
 }
 
-// What an answer comes to: the error of a refusal is borrowed from it.
-fn judge(answer: Result<&TypeAggregator, &AggregateError>, wanted: &str) -> Trial {
-    match answer {
+// What merging answers: an aggregator, or why there is none.
+trait Merged: Drop {
+    fn parts(&self) -> Result<&TypeAggregator, &AggregateError>;
+}
+
+impl Merged for Result<TypeAggregator, AggregateError> {
+    fn parts(&self) -> Result<&TypeAggregator, &AggregateError> {
+        self.as_ref()
+    }
+}
+
+impl Merged for Result<TypeAggregator, AggregateAllError> {
+    fn parts(&self) -> Result<&TypeAggregator, &AggregateError> {
+        match self {
+            Ok(merged) => Ok(merged),
+            Err(refusal) => Err(&refusal.error),
+        }
+    }
+}
+
+// What an answer comes to. It is let go here, whatever its type: an aggregator that is known for one
+// is dropped field by field, which takes long to prove.
+fn judged<M: Merged>(answer: M, wanted: &str) -> Trial {
+    match answer.parts() {
         Ok(merged) => demand(imports(merged, wanted)),
         Err(AggregateError::Memory) => Err(Stop::Refused),
         Err(error) => demand(shows(error, wanted)),
@@ -137,12 +160,9 @@ fn merges(
     requires { MayBeAggregated 9 (handed_in calls.now) }
 {
     if is_each {
-        judge(merge_each(alloc, 9, calls, checker).as_ref(), wanted)
+        judged(merge_each(alloc, 9, calls, checker), wanted)
     } else {
-        match aggregate_all(alloc, 9, calls, checker) {
-            Ok(merged) => judge(Ok(&merged), wanted),
-            Err(refusal) => judge(Err(&refusal.error), wanted),
-        }
+        judged(aggregate_all(alloc, 9, calls, checker), wanted)
     }
 }
 

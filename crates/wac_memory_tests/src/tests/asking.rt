@@ -3,10 +3,22 @@
 use super::trial::{Trial, both};
 use std::alloc::Global;
 use std::collections::HashSet;
-use wac_types::{ItemKind, SubtypeChecker};
+use wac_types::{ItemKind, SubtypeChecker, SubtypeError};
 
 // The pairs of which a checker keeps that the one fits where the other is asked for.
 pub(crate) type Cache = HashSet<(ItemKind, ItemKind)>;
+
+// What a checker answers.
+pub(crate) struct Verdict {
+    pub(crate) answer: Result<(), SubtypeError>,
+}
+
+// By hand: an error whose type is known is dropped field by field, which takes long to prove.
+impl Drop for Verdict {
+    fn drop(self) {
+        let Verdict { answer: _ } = self;
+    }
+}
 
 // What a checker with a new cache is asked.
 pub(crate) trait Asking {

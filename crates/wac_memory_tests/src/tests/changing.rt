@@ -13,7 +13,7 @@ use wac_types::{ModuleError, ModuleTypeId, ReplaceError, Types};
 
 // Where a clone of the second entry of a sort is put: in the place of the first, which it may lead
 // to, in the place of the third, to which nothing leads, or last.
-#[derive(Clone, Copy, Debug)]
+#[derive(Clone, Copy)]
 enum Place {
     First,
     Third,
@@ -58,92 +58,100 @@ fn added_module(answer: &Result<ModuleTypeId, ModuleError>) -> Result<Answer, St
 
 // What the answer of replacing says. What a refusal hands back is to be the content with this debug
 // text.
-fn replaced<T: Debug>(answer: &Result<(), ReplaceError<T>>, content: &str) -> Result<Answer, Stop> {
-    let (back, said) = match answer {
-        Ok(()) => return Ok(Answer::Done),
-        Err(ReplaceError::Cycle(back)) => (back, Answer::Cycle),
-        Err(ReplaceError::Memory(back)) => (back, Answer::Refused),
+fn replaced<T: Debug + Drop>(
+    answer: Result<(), ReplaceError<T>>,
+    content: &str,
+) -> Result<Answer, Stop> {
+    let (is_back, said) = match &answer {
+        Ok(()) => (true, Answer::Done),
+        Err(ReplaceError::Cycle(back)) => (debugs(back, content), Answer::Cycle),
+        Err(ReplaceError::Memory(back)) => (debugs(back, content), Answer::Refused),
         // the content is one that stands
-        Err(ReplaceError::Limits(_)) => return Err(Stop::Wrong),
+        Err(ReplaceError::Limits(_)) => (false, Answer::Refused),
     };
-    demand(debugs(back, content))?;
-    Ok(said)
+    if is_back { Ok(said) } else { Err(Stop::Wrong) }
 }
 
-// Each of these puts a clone of the second entry of a sort at a place. The text is taken before the
-// clone is made: what is done while it is owned takes longer to prove.
+// A clone of an entry, and its debug text.
+fn copied<T: Clone + Debug + Drop>(alloc: Global, entry: &T) -> Result<(T, String), Stop> {
+    let text = text_of(alloc, entry)?;
+    let content = entry.clone()?;
+    Ok((content, text))
+}
+
+// Lets a content go that can't be put into the collection, as each can.
+fn unfit<T: Drop>(_content: T) -> Result<Answer, Stop> {
+    Err(Stop::Wrong)
+}
+
+// Each of these puts a clone of the second entry of a sort at a place. They hand over what they own
+// wherever they end: a content of a known type is dropped field by field, which takes long to prove.
 
 fn put_defined_type(alloc: Global, types: &mut Types, place: Place) -> Result<Answer, Stop> {
     let (id, second) = (defined(types, place.index())?, defined(types, 1)?);
-    let text = text_of(alloc, &types[second])?;
-    let content = types[second].clone()?;
+    let (content, text) = copied(alloc, &types[second])?;
     if !types.can_add_defined_type(&content) {
-        return Err(Stop::Wrong);
+        return unfit(content);
     }
     match place {
-        Place::First | Place::Third => replaced(&types.replace_defined_type(id, content), &text),
+        Place::First | Place::Third => replaced(types.replace_defined_type(id, content), &text),
         Place::Last => Ok(added(types.add_defined_type(content).is_ok())),
     }
 }
 
 fn put_resource(alloc: Global, types: &mut Types, place: Place) -> Result<Answer, Stop> {
     let (id, second) = (resource(types, place.index())?, resource(types, 1)?);
-    let text = text_of(alloc, &types[second])?;
-    let content = types[second].clone()?;
+    let (content, text) = copied(alloc, &types[second])?;
     if !types.can_add_resource(&content) {
-        return Err(Stop::Wrong);
+        return unfit(content);
     }
     match place {
-        Place::First | Place::Third => replaced(&types.replace_resource(id, content), &text),
+        Place::First | Place::Third => replaced(types.replace_resource(id, content), &text),
         Place::Last => Ok(added(types.add_resource(content).is_ok())),
     }
 }
 
 fn put_func_type(alloc: Global, types: &mut Types, place: Place) -> Result<Answer, Stop> {
     let (id, second) = (function(types, place.index())?, function(types, 1)?);
-    let text = text_of(alloc, &types[second])?;
-    let content = types[second].clone()?;
+    let (content, text) = copied(alloc, &types[second])?;
     if !types.can_add_func_type(&content) {
-        return Err(Stop::Wrong);
+        return unfit(content);
     }
     match place {
-        Place::First | Place::Third => replaced(&types.replace_func_type(id, content), &text),
+        Place::First | Place::Third => replaced(types.replace_func_type(id, content), &text),
         Place::Last => Ok(added(types.add_func_type(content).is_ok())),
     }
 }
 
 fn put_interface(alloc: Global, types: &mut Types, place: Place) -> Result<Answer, Stop> {
     let (id, second) = (interface(types, place.index())?, interface(types, 1)?);
-    let text = text_of(alloc, &types[second])?;
-    let content = types[second].clone()?;
+    let (content, text) = copied(alloc, &types[second])?;
     if !types.can_add_interface(&content) {
-        return Err(Stop::Wrong);
+        return unfit(content);
     }
     match place {
-        Place::First | Place::Third => replaced(&types.replace_interface(id, content), &text),
+        Place::First | Place::Third => replaced(types.replace_interface(id, content), &text),
         Place::Last => Ok(added(types.add_interface(content).is_ok())),
     }
 }
 
 fn put_world(alloc: Global, types: &mut Types, place: Place) -> Result<Answer, Stop> {
     let (id, second) = (world(types, place.index())?, world(types, 1)?);
-    let text = text_of(alloc, &types[second])?;
-    let content = types[second].clone()?;
+    let (content, text) = copied(alloc, &types[second])?;
     if !types.can_add_world(&content) {
-        return Err(Stop::Wrong);
+        return unfit(content);
     }
     match place {
-        Place::First | Place::Third => replaced(&types.replace_world(id, content), &text),
+        Place::First | Place::Third => replaced(types.replace_world(id, content), &text),
         Place::Last => Ok(added(types.add_world(content).is_ok())),
     }
 }
 
 fn put_module_type(alloc: Global, types: &mut Types, place: Place) -> Result<Answer, Stop> {
     let (id, second) = (module(types, place.index())?, module(types, 1)?);
-    let text = text_of(alloc, &types[second])?;
-    let content = types[second].clone()?;
+    let (content, text) = copied(alloc, &types[second])?;
     match place {
-        Place::First | Place::Third => replaced(&types.replace_module_type(id, content), &text),
+        Place::First | Place::Third => replaced(types.replace_module_type(id, content), &text),
         Place::Last => added_module(&types.add_module_type(content)),
     }
 }
@@ -194,14 +202,17 @@ impl Attempt for Putting<'_> {
     }
 }
 
+static PLACES: [Place; 3] = [Place::First, Place::Third, Place::Last];
+
 #[test]
 fn a_refused_entry_leaves_the_collection_and_is_handed_back(rt: HostRuntime) {
     for (at, entries) in ENTRIES.iter().enumerate() {
-        for place in [Place::First, Place::Third, Place::Last] {
+        for (turn, place) in PLACES.iter().enumerate() {
+            let place = *place;
             let putting = Putting { at, entries, place };
             assert!(&rt;
                 is_shown_of_entries(rt.alloc(), &putting),
-                "{} {place:?}",
+                "{} at place {turn}",
                 entries.second
             );
         }

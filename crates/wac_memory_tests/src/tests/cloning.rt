@@ -60,12 +60,12 @@ fn clones_defined_types(alloc: Global, types: &Types) -> Trial {
     Ok(())
 }
 
-// Clones what an interface uses.
-fn clones_uses(alloc: Global, interface: &Interface) -> Trial {
+// Clones an interface, and what it uses.
+fn clones_interface(alloc: Global, interface: &Interface) -> Trial {
     for used in interface.uses.values() {
         clones(alloc, used)?;
     }
-    Ok(())
+    clones(alloc, interface)
 }
 
 // Clones what is imported or exported, and of a function its type.
@@ -77,28 +77,27 @@ fn clones_extern(alloc: Global, item: &CoreExtern) -> Trial {
     }
 }
 
-fn clones_externs(alloc: Global, module: &ModuleType) -> Trial {
+// Clones a core module, and what it imports and exports.
+fn clones_module(alloc: Global, module: &ModuleType) -> Trial {
     for item in module.imports.values() {
         clones_extern(alloc, item)?;
     }
     for item in module.exports.values() {
         clones_extern(alloc, item)?;
     }
-    Ok(())
+    clones(alloc, module)
 }
 
 // Clones the contents of the other sorts, and their parts.
 fn clones_contents(alloc: Global, types: &Types) -> Trial {
     clones_each(alloc, types.resources())?;
     clones_each(alloc, types.func_types())?;
-    clones_each(alloc, types.interfaces())?;
     clones_each(alloc, types.worlds())?;
-    clones_each(alloc, types.modules())?;
     for interface in types.interfaces() {
-        clones_uses(alloc, interface)?;
+        clones_interface(alloc, interface)?;
     }
     for module in types.modules() {
-        clones_externs(alloc, module)?;
+        clones_module(alloc, module)?;
     }
     Ok(())
 }

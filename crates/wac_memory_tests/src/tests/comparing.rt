@@ -3,18 +3,19 @@
 
 ghost use Rattle.wac_types.specs.Key.{AllStand, item_keys};
 
-use super::asking::{Asking, Cache, asked};
+use super::asking::{Asking, Cache, Verdict, asked};
 use super::built::{Attempt, attempted};
 use super::trial::{Stop, Trial, demand, is_shown, item};
 use std::alloc::{AllocError, Global};
 use wac_test_tools::shows;
 use wac_types::{ItemKind, SubtypeChecker, SubtypeError, Types};
 
-// Whether an answer is this one, `fits` or the path to where the items don't fit.
-fn is_answer(answer: &Result<(), SubtypeError>, wanted: &str) -> bool {
+// What an answer comes to that is to be this one, `fits` or the path to where the items don't fit.
+fn judged(answer: &Result<(), SubtypeError>, wanted: &str) -> Trial {
     match answer {
-        Ok(()) => wanted == "fits",
-        Err(error) => shows(&error.path(), wanted),
+        Ok(()) => demand(wanted == "fits"),
+        Err(SubtypeError::Memory) => Err(Stop::Refused),
+        Err(error) => demand(shows(&error.path(), wanted)),
     }
 }
 
@@ -32,11 +33,9 @@ fn asks(
 {
     let before = (checker.direction(), checker.depth());
     let answer = checker.is_subtype(alloc, *a, types, *b, types);
+    let verdict = Verdict { answer };
     demand((checker.direction(), checker.depth()) == before)?;
-    match &answer {
-        Err(SubtypeError::Memory) => Err(Stop::Refused),
-        answer => demand(is_answer(answer, wanted)),
-    }
+    judged(&verdict.answer, wanted)
 }
 
 // Whether an item fits.

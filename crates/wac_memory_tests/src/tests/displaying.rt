@@ -1,6 +1,6 @@
 //! Values displayed into a text.
 
-use super::asking::{Asking, asked};
+use super::asking::{Asking, Verdict, asked};
 use super::built::{Attempt, is_shown_of};
 use super::trial::{Stop, Trial, demand, is_shown};
 use std::alloc::Global;
@@ -16,6 +16,12 @@ fn displays<D: Display>(alloc: Global, value: &D, wanted: &str) -> Trial {
     demand(text.as_str() == wanted)
 }
 
+// Displays a value that is made for that. It is let go here, whatever its type: where its type is
+// known it is dropped field by field, which takes long to prove.
+fn displays_made<D: Display + Drop>(alloc: Global, value: D, wanted: &str) -> Trial {
+    displays(alloc, &value, wanted)
+}
+
 fn displays_error(alloc: Global, error: &SubtypeError) -> Trial {
     displays(alloc, error, "mismatched type for list element")?;
     let path = "mismatched type for list element / expected s8, found u8";
@@ -27,7 +33,9 @@ fn displays_refusal(alloc: Global, checker: &mut SubtypeChecker<'_>, types: &Typ
     let (a, b) = (defined(types, 0)?, defined(types, 1)?);
     let a = ItemKind::Value(ValueType::Defined(a));
     let b = ItemKind::Value(ValueType::Defined(b));
-    match &checker.is_subtype(alloc, a, types, b, types) {
+    let answer = checker.is_subtype(alloc, a, types, b, types);
+    let verdict = Verdict { answer };
+    match &verdict.answer {
         Ok(()) => Err(Stop::Wrong),
         Err(SubtypeError::Memory) => Err(Stop::Refused),
         Err(error) => displays_error(alloc, error),
@@ -63,17 +71,11 @@ impl Attempt for Displaying {
 
 fn displays_parts(alloc: Global) -> Trial {
     let (expected, found) = ("s8", "u8");
-    displays(
-        alloc,
-        &Frame::ListElement,
-        "mismatched type for list element",
-    )?;
-    displays(
-        alloc,
-        &Fault::Kind { expected, found },
-        "expected s8, found u8",
-    )?;
-    displays(alloc, &NameError::Memory, "out of memory")
+    let frame = "mismatched type for list element";
+    displays_made(alloc, Frame::ListElement, frame)?;
+    let fault = "expected s8, found u8";
+    displays_made(alloc, Fault::Kind { expected, found }, fault)?;
+    displays_made(alloc, NameError::Memory, "out of memory")
 }
 
 #[test]

@@ -21,11 +21,16 @@ fn lists(map: &Map, wanted: &[(usize, u32)]) -> bool {
     at == wanted.len()
 }
 
-// The names that a map has, of which one is on the track of one that is inserted.
-fn fill(map: &mut Map, cx: &mut Numbers) -> Result<(), NameError> {
-    map.insert("a", cx, false, 0)?;
-    map.insert("a:b/c@1.0.0", cx, false, 2)?;
+// Inserts a name that isn't there.
+fn insert(map: &mut Map, cx: &mut Numbers, name: &str, value: u32) -> Trial {
+    map.insert(name, cx, false, value)?;
     Ok(())
+}
+
+// The names that a map has, of which one is on the track of one that is inserted.
+fn fill(map: &mut Map, cx: &mut Numbers) -> Trial {
+    insert(map, cx, "a", 0)?;
+    insert(map, cx, "a:b/c@1.0.0", 2)
 }
 
 // Their keys: the track of the second one has the key 2.
@@ -38,35 +43,32 @@ fn keeps_keys(alloc: Global, cx: &Numbers) -> bool {
         && matches!(cx.lookup(alloc, "a:b/c@1"), Ok(Some(2)))
 }
 
-// Whether a new name was inserted.
-fn insert(map: &mut Map, cx: &mut Numbers, name: &str) -> Result<bool, Stop> {
-    match map.insert(name, cx, false, 5) {
-        Ok(_key) => Ok(true),
-        Err(NameError::Memory) => Ok(false),
-        Err(NameError::Twice { name: _ }) => Err(Stop::Wrong),
-    }
-}
-
 // Inserts a name, and then finds it.
 fn inserts(alloc: Global, map: &mut Map, cx: &mut Numbers, name: &str) -> Trial {
-    let is_inserted = insert(map, cx, name)?;
+    let trial = insert(map, cx, name, 5);
     demand(keeps_keys(alloc, cx))?;
-    if !is_inserted {
+    if matches!(trial, Err(Stop::Refused)) {
         return refused(lists(map, &FILLED));
     }
+    trial?;
     demand(lists(map, &[(0, 0), (1, 2), (3, 5)]))?;
     demand(map.get(name, cx)?.copied() == Some(5))
 }
 
-// Inserts a name that is there, which stays as it is.
-fn inserts_again(alloc: Global, map: &mut Map, cx: &mut Numbers) -> Trial {
-    let answer = map.insert("a", cx, false, 7);
-    demand(lists(map, &FILLED) && keeps_keys(alloc, cx))?;
-    match answer {
-        Err(NameError::Twice { name }) => demand(name.as_str() == "a"),
+// What an answer comes to that is to say that a name is there.
+fn refuses_twice(answer: Result<usize, NameError>, wanted: &str) -> Trial {
+    match &answer {
+        Err(NameError::Twice { name }) => demand(name.as_str() == wanted),
         Err(NameError::Memory) => Err(Stop::Refused),
         Ok(_key) => Err(Stop::Wrong),
     }
+}
+
+// Inserts a name that is there, which stays as it is.
+fn inserts_again(alloc: Global, map: &mut Map, cx: &mut Numbers) -> Trial {
+    let trial = refuses_twice(map.insert("a", cx, false, 7), "a");
+    demand(lists(map, &FILLED) && keeps_keys(alloc, cx))?;
+    trial
 }
 
 // Gets the value of a name by its track, clones the map, and looks at what it then has.
@@ -78,7 +80,7 @@ fn gets(alloc: Global, map: &Map, cx: &Numbers) -> Trial {
 }
 
 // What is done with a map that was filled.
-#[derive(Clone, Copy, Debug)]
+#[derive(Clone, Copy)]
 enum Use {
     // A name that isn't there is inserted.
     Insert(&'static str),
@@ -89,9 +91,7 @@ enum Use {
 // Fills a new map, which holds nothing, and does this with it.
 fn does(alloc: Global, map: &mut Map, cx: &mut Numbers, done: Use) -> Trial {
     demand(map.raw_get_mut(&0).is_none())?;
-    if fill(map, cx).is_err() {
-        return Err(Stop::Refused);
-    }
+    fill(map, cx)?;
     match done {
         Use::Insert(name) => inserts(alloc, map, cx, name),
         Use::InsertAgain => inserts_again(alloc, map, cx),
@@ -118,10 +118,8 @@ static USES: [Use; 5] = [
 
 #[test]
 fn a_map_is_as_before_where_a_call_is_refused(rt: HostRuntime) {
-    for done in &USES {
-        assert!(&rt;
-            is_shown(uses(rt.alloc(), *done), uses(rt.alloc(), *done)),
-            "{done:?}"
-        );
+    for (at, done) in USES.iter().enumerate() {
+        let first = uses(rt.alloc(), *done);
+        assert!(&rt; is_shown(first, uses(rt.alloc(), *done)), "use {at}");
     }
 }

@@ -4,7 +4,7 @@ use super::built::{Attempt, is_shown_of, text_of_lines};
 use super::cloning::clones;
 use super::trial::{Stop, Trial, demand, refused, text_of};
 use semver::Version;
-use std::alloc::Global;
+use std::alloc::{AllocError, Global};
 use wac_test_tools::{debugs, shows, world};
 use wac_types::{BorrowedKey, BorrowedPackageKey, Package, PackageKey, Types};
 
@@ -18,35 +18,50 @@ world - m:in=I:i0 e:out=I:i0 e:d=T:w0";
 const SHOWN: &str =
     "Package { name: \"a:b\", version: Some(Version { major: 0, minor: 2, patch: 0 }), bytes: \"...\", ty: WorldId { number: 1, index: 1 }, instance_type: InterfaceId { number: 1, index: 1 }, definitions: {\"d\": Type(Interface(InterfaceId { number: 1, index: 0 }))} }";
 
-// Whether two keys of a package are alike, and its own, and a clone of the one is like the other.
-fn are_alike(package: &Package, made: &PackageKey, owned: &PackageKey) -> Trial {
-    demand(made == owned && made.borrowed_key() == BorrowedPackageKey::new(package))?;
-    match made.clone() {
-        Ok(copy) => demand(copy == *owned),
+// The key of a package, and its borrowed key, owned.
+struct Keys {
+    made: Result<PackageKey, AllocError>,
+    owned: Result<PackageKey, AllocError>,
+}
+
+// By hand, as of `Verdict`.
+impl Drop for Keys {
+    fn drop(self) {
+        let Keys { made: _, owned: _ } = self;
+    }
+}
+
+// Whether a clone is like another value.
+fn clones_to<T: Clone + PartialEq + Drop>(value: &T, wanted: &T) -> Trial {
+    match value.clone() {
+        Ok(copy) => demand(copy == *wanted),
         Err(_) => Err(Stop::Refused),
     }
 }
 
-// Owns the borrowed key of a package.
-fn owns_key(alloc: Global, package: &Package, made: &PackageKey) -> Trial {
-    match package.key().into_owned(alloc) {
-        Ok(owned) => are_alike(package, made, &owned),
-        Err(_) => Err(Stop::Refused),
-    }
+// Whether the keys of a package are alike, and like its own, and a clone of the one is like the
+// other.
+fn are_alike(package: &Package, keys: &Keys) -> Trial {
+    let (Ok(made), Ok(owned)) = (&keys.made, &keys.owned) else {
+        return Err(Stop::Refused);
+    };
+    demand(made == owned && made.borrowed_key() == BorrowedPackageKey::new(package))?;
+    clones_to(made, owned)
 }
 
 // Makes a key of a package, owns a borrowed one, and clones it.
 fn makes_key(alloc: Global, package: &Package) -> Trial {
-    let trial = match PackageKey::new(alloc, package) {
-        Ok(made) => owns_key(alloc, package, &made),
-        Err(_) => Err(Stop::Refused),
+    let keys = Keys {
+        made: PackageKey::new(alloc, package),
+        owned: package.key().into_owned(alloc),
     };
+    let trial = are_alike(package, &keys);
     demand(debugs(package, SHOWN) && shows(&package.key(), "a:b@0.2.0"))?;
     trial
 }
 
 // What is done with a package that was made.
-#[derive(Clone, Copy, Debug)]
+#[derive(Clone, Copy)]
 enum Use {
     Nothing,
     Clone,
@@ -65,10 +80,10 @@ fn does(alloc: Global, package: &Package, done: Use) -> Trial {
 // Uses a package of the second world of a collection, which is as before where it is refused. The
 // one owner of a package, since such a function takes long to prove.
 fn uses(alloc: Global, types: &mut Types, done: Use) -> Trial {
-    let kept = text_of(alloc, types)?;
-    let version = Version::new(0, 2, 0);
     let world = world(types, 1)?;
+    let kept = text_of(alloc, types)?;
     let bytes = vec![in alloc; 0, 97, 115]?;
+    let version = Version::new(0, 2, 0);
     match Package::from_world(alloc, "a:b", Some(&version), bytes, types, world) {
         Ok(package) => does(alloc, &package, done),
         Err(_) => refused(debugs(types, &kept)),
@@ -84,9 +99,11 @@ impl Attempt for Use {
     }
 }
 
+static USES: [Use; 3] = [Use::Nothing, Use::Clone, Use::MakeKey];
+
 #[test]
 fn a_package_that_is_refused_leaves_the_collection(rt: HostRuntime) {
-    for done in [Use::Nothing, Use::Clone, Use::MakeKey] {
-        assert!(&rt; is_shown_of(rt.alloc(), PLUG, &done), "{done:?}");
+    for (at, done) in USES.iter().enumerate() {
+        assert!(&rt; is_shown_of(rt.alloc(), PLUG, done), "use {at}");
     }
 }

@@ -8,7 +8,7 @@ use std::fmt::Debug;
 use wac_script_entries::find_item;
 use wac_script_syntax::{ScriptError, read_item};
 use wac_test_tools::Missing;
-use wac_types::{ItemKind, Types};
+use wac_types::{ItemKind, NameError, Types};
 
 // Why a trial didn't come to its end.
 #[derive(Clone, Copy)]
@@ -38,6 +38,15 @@ impl From<ScriptError<'_>> for Stop {
         match error {
             ScriptError::Memory => Stop::Refused,
             _ => Stop::Wrong,
+        }
+    }
+}
+
+impl From<NameError> for Stop {
+    fn from(error: NameError) -> Stop {
+        match error {
+            NameError::Memory => Stop::Refused,
+            NameError::Twice { name: _ } => Stop::Wrong,
         }
     }
 }
