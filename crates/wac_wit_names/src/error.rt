@@ -1,0 +1,103 @@
+//! Why packages aren't resolved.
+
+use super::sources::SourceFile;
+use std::alloc::{AllocError, AllocFailed};
+use wac_wit_syntax::{Refusal, Span, push_report};
+
+/// What is wrong in a file.
+#[derive(Drop)]
+pub struct WitRefusal {
+    /// The index of the file.
+    pub file: usize,
+    /// What is wrong, and where.
+    pub refusal: Refusal,
+}
+
+/// Why packages weren't resolved.
+#[derive(Drop)]
+pub enum WitError {
+    /// Files are refused: at least one refusal and at most [`MAX_REFUSALS`](super::MAX_REFUSALS),
+    /// in the order of the files and of the places in them.
+    Refused(Vec<WitRefusal>),
+    /// An id doesn't stand in the collection, which doesn't happen.
+    Missing,
+    /// An allocation failed.
+    Memory,
+}
+
+impl WitError {
+    /// Puts what is wrong last, each refusal with the line of its file.
+    pub fn push_report(&self, out: &mut String, files: &[SourceFile]) -> Result<(), AllocError> {
+        match self {
+            WitError::Refused(refusals) => push_reports(out, files, refusals),
+            WitError::Missing => out.push_str("an entry isn't there\n"),
+            WitError::Memory => out.push_str("out of memory\n"),
+        }
+    }
+}
+
+fn push_reports(
+    out: &mut String,
+    files: &[SourceFile],
+    refusals: &[WitRefusal],
+) -> Result<(), AllocError> {
+    for of in refusals {
+        match files.get(of.file) {
+            Some(file) => push_report(out, &file.name, &file.text, &of.refusal)?,
+            None => out.push_str("a file isn't there\n")?,
+        }
+    }
+    Ok(())
+}
+
+/// Why an item isn't resolved.
+#[derive(Drop)]
+pub enum Fault {
+    /// It is refused.
+    Refused(WitRefusal),
+    /// It stands on something that was refused before.
+    Known,
+    /// As many refusals were noted as are listed.
+    Enough,
+    /// An id doesn't stand in the collection, which doesn't happen.
+    Missing,
+    /// An allocation failed.
+    Memory,
+}
+
+impl Fault {
+    /// A refusal with this message, or `Memory` where an allocation failed for the message.
+    pub fn at(file: usize, span: Span, message: Result<String, AllocError>) -> Fault {
+        match message {
+            Ok(message) => Fault::Refused(WitRefusal {
+                file,
+                refusal: Refusal { span, message },
+            }),
+            Err(_) => Fault::Memory,
+        }
+    }
+}
+
+impl From<AllocError> for Fault {
+    fn from(_error: AllocError) -> Fault {
+        Fault::Memory
+    }
+}
+
+impl<T: Drop> From<AllocFailed<T>> for Fault {
+    fn from(_error: AllocFailed<T>) -> Fault {
+        Fault::Memory
+    }
+}
+
+impl From<AllocError> for WitError {
+    fn from(_error: AllocError) -> WitError {
+        WitError::Memory
+    }
+}
+
+impl<T: Drop> From<AllocFailed<T>> for WitError {
+    fn from(_error: AllocFailed<T>) -> WitError {
+        WitError::Memory
+    }
+}

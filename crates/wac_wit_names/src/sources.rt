@@ -1,0 +1,12 @@
+//! The texts of packages.
+
+/// A file of a package.
+#[derive(Drop)]
+pub struct SourceFile {
+    /// The name that refusals give it.
+    pub name: String,
+    /// The text.
+    pub text: String,
+    /// Which files belong to one package: those with one number.
+    pub group: usize,
+}

@@ -1,0 +1,196 @@
+//! Where interfaces and worlds stand in the files of packages.
+
+use indexmap::IndexMap;
+use std::alloc::{AllocError, Global};
+use wac_wit_entries::EntryError;
+use wac_wit_names::SourceFile;
+use wac_wit_syntax::{
+    Document, FuncItem, Ident, InterfaceDecl, InterfaceItem, PackageName, Span, SyntaxError,
+    TopItem, TypeItem, WorldDecl, parse,
+};
+
+/// A place in a file of packages.
+#[derive(Clone, Copy, PartialEq, Eq, Debug)]
+pub struct Place {
+    /// The index of the file.
+    pub file: usize,
+    /// The bytes.
+    pub span: Span,
+}
+
+/// The syntax of files that were read as packages before.
+pub fn syntax_of(alloc: Global, files: &[SourceFile]) -> Result<Vec<Document>, EntryError> {
+    let mut documents = Vec::new(alloc);
+    for file in files {
+        match parse(alloc, &file.text) {
+            Ok(document) => documents.push(document)?,
+            // they were read before
+            Err(SyntaxError::Refused(_)) => return Err(EntryError::Missing),
+            Err(SyntaxError::Memory) => return Err(EntryError::Memory),
+        }
+    }
+    Ok(documents)
+}
+
+/// An interface or a world in its file.
+#[derive(Clone, Copy)]
+pub(crate) enum Decl<'d> {
+    Interface(&'d InterfaceDecl),
+    World(&'d WorldDecl),
+}
+
+impl<'d> Decl<'d> {
+    /// The name.
+    pub(crate) fn name(self) -> &'d Ident {
+        match self {
+            Decl::Interface(it) => &it.name,
+            Decl::World(it) => &it.name,
+        }
+    }
+}
+
+/// The functions and types of an interface, by their names.
+#[derive(Drop)]
+pub(crate) struct Members<'d> {
+    pub(crate) funcs: IndexMap<String, &'d FuncItem>,
+    pub(crate) types: IndexMap<String, &'d TypeItem>,
+}
+
+impl<'d> Members<'d> {
+    fn new(alloc: Global, items: &'d [InterfaceItem]) -> Result<Members<'d>, AllocError> {
+        let mut members = Members {
+            funcs: IndexMap::new(alloc),
+            types: IndexMap::new(alloc),
+        };
+        for item in items {
+            match item {
+                InterfaceItem::Func(it) => {
+                    members.funcs.insert(it.name.name.clone()?, it)?;
+                }
+                InterfaceItem::Type(it) => {
+                    members.types.insert(it.name.name.clone()?, it)?;
+                }
+                InterfaceItem::Use(_) => {}
+            }
+        }
+        Ok(members)
+    }
+}
+
+/// An interface or a world, and the file that it stands in.
+#[derive(Clone, Copy)]
+pub(crate) struct Site<'d> {
+    pub(crate) file: usize,
+    pub(crate) decl: Decl<'d>,
+    /// The index of an interface's members.
+    pub(crate) members: usize,
+}
+
+impl Site<'_> {
+    /// Where the name stands.
+    pub(crate) fn place(self) -> Place {
+        Place {
+            file: self.file,
+            span: self.decl.name().span,
+        }
+    }
+}
+
+/// The interfaces and the worlds of packages, by their identifiers.
+#[derive(Drop)]
+pub struct Sources<'d> {
+    sites: IndexMap<String, Site<'d>>,
+    members: Vec<Members<'d>>,
+}
+
+impl<'d> Sources<'d> {
+    /// Those of packages whose files have this syntax.
+    pub fn new(
+        alloc: Global,
+        files: &[SourceFile],
+        documents: &'d [Document],
+    ) -> Result<Sources<'d>, AllocError> {
+        let mut sources = Sources {
+            sites: IndexMap::new(alloc),
+            members: Vec::new(alloc),
+        };
+        for (file, document) in documents.iter().enumerate() {
+            if let Some(package) = package_of(files, documents, file) {
+                sources.push(alloc, file, package, &document.items)?;
+            }
+            for nested in &document.packages {
+                sources.push(alloc, file, &nested.name, &nested.items)?;
+            }
+        }
+        Ok(sources)
+    }
+
+    // Puts the interfaces and worlds of one file of a package last.
+    fn push(
+        &mut self,
+        alloc: Global,
+        file: usize,
+        package: &PackageName,
+        items: &'d [TopItem],
+    ) -> Result<(), AllocError> {
+        for item in items {
+            let decl = match item {
+                TopItem::Interface(it) => Decl::Interface(it),
+                TopItem::World(it) => Decl::World(it),
+                TopItem::Use(_) => continue,
+            };
+            let members = self.members.len();
+            if let Decl::Interface(it) = decl {
+                self.members.push(Members::new(alloc, &it.items)?)?;
+            }
+            let id = id_of(alloc, package, &decl.name().name)?;
+            self.sites.insert(
+                id,
+                Site {
+                    file,
+                    decl,
+                    members,
+                },
+            )?;
+        }
+        Ok(())
+    }
+
+    /// The members of an interface, by their index.
+    pub(crate) fn members(&self, index: usize) -> Option<&Members<'d>> {
+        self.members.get(index)
+    }
+
+    /// The interface or the world of this identifier.
+    pub(crate) fn get(&self, id: &str) -> Option<Site<'d>> {
+        self.sites.get(id).copied()
+    }
+}
+
+// The package that a file belongs to, which this file or another of its group names.
+fn package_of<'d>(
+    files: &[SourceFile],
+    documents: &'d [Document],
+    file: usize,
+) -> Option<&'d PackageName> {
+    let group = files.get(file)?.group;
+    for (other, document) in documents.iter().enumerate() {
+        if let Some(name) = &document.package
+            && files.get(other)?.group == group
+        {
+            return Some(name);
+        }
+    }
+    None
+}
+
+// The identifier of an interface or a world.
+fn id_of(alloc: Global, package: &PackageName, name: &str) -> Result<String, AllocError> {
+    let (namespace, of) = (&package.namespace.name, &package.name.name);
+    let mut id = format!(in alloc; "{namespace}:{of}/{name}")?;
+    if let Some(version) = &package.version {
+        let version = version.text.as_str();
+        write!(id, "@{version}")?;
+    }
+    Ok(id)
+}
