@@ -1,0 +1,25 @@
+//! Resolves WIT packages: the names in their syntax trees are looked up, and each interface and
+//! world becomes an entry of a collection of types, as the reader of components would make it of
+//! the packages once they are encoded.
+#![tactic(auto)]
+
+mod adding;
+mod builder;
+mod elaborating;
+mod exports;
+mod functions;
+mod includes;
+mod interfaces;
+mod made;
+mod ordering;
+mod packages;
+mod renaming;
+mod shapes;
+mod typedefs;
+mod typeorder;
+mod uses;
+mod values;
+mod worlds;
+
+pub use packages::{Wit, WitPackage, read_packages};
+pub use wac_wit_names::{Features, MAX_REFUSALS, SourceFile, WitError, WitRefusal};

@@ -1,0 +1,225 @@
+//! Reads packages.
+
+use super::builder::Site;
+use super::interfaces::make_interface;
+use super::made::{Known, Made};
+use super::worlds::make_world;
+use indexmap::IndexMap;
+use std::alloc::{AllocError, Global};
+use wac_component::{InterfaceId, Types, WorldId};
+use wac_wit_names::{
+    Catalog, Decl, Fault, Features, Node, Package, Refusals, SourceFile, WitError,
+};
+use wac_wit_syntax::{Document, parse};
+
+/// A package.
+#[derive(Drop)]
+pub struct WitPackage {
+    /// The name, as `wasi:http`.
+    pub name: String,
+    /// The version, if there is one.
+    pub version: Option<String>,
+    /// The group of its files.
+    pub group: usize,
+    /// The interfaces, by their names in the package.
+    pub interfaces: IndexMap<String, InterfaceId>,
+    /// The worlds, by their names in the package.
+    pub worlds: IndexMap<String, WorldId>,
+}
+
+/// Packages, whose interfaces and worlds are entries of a collection.
+#[derive(Drop)]
+pub struct Wit {
+    /// The packages, in the order of their files, and behind them those written inside of files.
+    pub packages: Vec<WitPackage>,
+}
+
+/// Reads packages, and puts what they have into a collection.
+///
+/// Files of one group are one package; a package that is written inside a file is one too. All
+/// that is named has to be there. What stands under a feature that is off isn't.
+///
+/// Where files are refused, what else is wrong in them is looked for, and up to
+/// [`MAX_REFUSALS`](super::MAX_REFUSALS) refusals are answered: of the syntax of all files, and
+/// where that is right, of what they name. After a refusal the collection may have entries that
+/// nothing leads to.
+pub fn read_packages(
+    alloc: Global,
+    types: &mut Types,
+    files: &[SourceFile],
+    features: Features<'_>,
+) -> Result<Wit, WitError> {
+    let mut refusals = Refusals::new(alloc);
+    match read(alloc, types, files, features, &mut refusals) {
+        Ok(wit) if refusals.is_empty() => Ok(wit),
+        Ok(_) | Err(Fault::Known | Fault::Enough) => Err(refusals.into_error()),
+        Err(Fault::Missing | Fault::Refused(_)) => Err(WitError::Missing),
+        Err(Fault::Memory) => Err(WitError::Memory),
+    }
+}
+
+fn read(
+    alloc: Global,
+    types: &mut Types,
+    files: &[SourceFile],
+    features: Features<'_>,
+    refusals: &mut Refusals,
+) -> Result<Wit, Fault> {
+    let documents = parsed(alloc, files, refusals)?;
+    if !refusals.is_empty() {
+        return Err(Fault::Known);
+    }
+    match resolve(alloc, types, files, &documents, features, refusals) {
+        Ok(wit) => Ok(wit),
+        Err(fault) => {
+            refusals.note(fault)?;
+            Err(Fault::Known)
+        }
+    }
+}
+
+// The trees of the files whose syntax is right.
+fn parsed(
+    alloc: Global,
+    files: &[SourceFile],
+    refusals: &mut Refusals,
+) -> Result<Vec<Document>, Fault> {
+    let mut documents = Vec::new(alloc);
+    for (index, file) in files.iter().enumerate() {
+        match parse(alloc, &file.text) {
+            Ok(document) => documents.push(document)?,
+            Err(error) => refusals.note_syntax(index, error)?,
+        }
+    }
+    Ok(documents)
+}
+
+// Resolves what was read.
+fn resolve(
+    alloc: Global,
+    types: &mut Types,
+    files: &[SourceFile],
+    documents: &[Document],
+    features: Features<'_>,
+    refusals: &mut Refusals,
+) -> Result<Wit, Fault> {
+    let catalog = Catalog::new(alloc, files, documents, features, refusals)?;
+    let made = make_all(alloc, &catalog, types, refusals)?;
+    Ok(listed(alloc, &catalog, &made)?)
+}
+
+// Makes the interfaces and the worlds, each behind those that it needs.
+fn make_all(
+    alloc: Global,
+    catalog: &Catalog<'_>,
+    types: &mut Types,
+    refusals: &mut Refusals,
+) -> Result<Vec<Made>, Fault> {
+    let order = catalog.order(refusals)?;
+    let mut made = Vec::new(alloc);
+    for _node in &catalog.nodes {
+        made.push(Made::Nothing)?;
+    }
+    for index in order {
+        let node = catalog.node(index)?;
+        if !node.is_hidden {
+            let site = site_of(alloc, &*catalog, &made, node)?;
+            let done = make(&site, types, refusals);
+            put_made(&mut made, index, done, refusals)?;
+        }
+    }
+    Ok(made)
+}
+
+fn site_of<'m>(
+    alloc: Global,
+    catalog: &'m Catalog<'m>,
+    made: &'m [Made],
+    node: &'m Node<'m>,
+) -> Result<Site<'m>, Fault> {
+    let scope = catalog.scope(node.scope)?;
+    let known = Known {
+        made,
+        exported: None,
+    };
+    Ok(Site {
+        alloc,
+        catalog,
+        known,
+        node,
+        scope,
+    })
+}
+
+// Puts what was made in its place, or notes why it is refused.
+fn put_made(
+    made: &mut [Made],
+    index: usize,
+    done: Result<Made, Fault>,
+    refusals: &mut Refusals,
+) -> Result<(), Fault> {
+    match done {
+        Ok(one) => {
+            if let Some(place) = made.get_mut(index) {
+                *place = one;
+            }
+            Ok(())
+        }
+        Err(fault) => refusals.note(fault),
+    }
+}
+
+// Makes an interface or a world.
+fn make(site: &Site<'_>, types: &mut Types, refusals: &mut Refusals) -> Result<Made, Fault> {
+    match site.node.decl {
+        Decl::Interface(it) => {
+            let id = Some(site.node.id.clone()?);
+            let of = make_interface(site, types, refusals, id, &it.items)?;
+            Ok(Made::Interface(of))
+        }
+        Decl::World(it) => Ok(Made::World(make_world(site, types, refusals, it)?)),
+    }
+}
+
+// The packages, with what became of their interfaces and worlds.
+fn listed(alloc: Global, catalog: &Catalog<'_>, made: &[Made]) -> Result<Wit, AllocError> {
+    let mut packages = Vec::new(alloc);
+    for of in &catalog.packages {
+        let mut package = named_package(alloc, of)?;
+        for (name, node) in &of.members {
+            if let Some(made) = made.get(*node) {
+                put_member(&mut package, name, made)?;
+            }
+        }
+        packages.push(package)?;
+    }
+    Ok(Wit { packages })
+}
+
+// A package with nothing in it.
+fn named_package(alloc: Global, of: &Package<'_>) -> Result<WitPackage, AllocError> {
+    let version = match of.version {
+        Some(version) => Some(String::from_str(alloc, version)?),
+        None => None,
+    };
+    Ok(WitPackage {
+        name: of.name.clone()?,
+        version,
+        group: of.group,
+        interfaces: IndexMap::new(alloc),
+        worlds: IndexMap::new(alloc),
+    })
+}
+
+fn put_member(package: &mut WitPackage, name: &String, made: &Made) -> Result<(), AllocError> {
+    match made {
+        Made::Interface(it) => {
+            package.interfaces.insert(name.clone()?, it.id)?;
+        }
+        Made::World(it) => {
+            package.worlds.insert(name.clone()?, it.id)?;
+        }
+        Made::Nothing => {}
+    }
+    Ok(())
+}

@@ -1,0 +1,75 @@
+//! Types and functions by what they are. One that stands twice in an interface is one entry.
+
+use indexmap::IndexMap;
+use std::alloc::{AllocError, Global};
+use wac_component::{DefinedType, FuncType, FuncTypeId, ValueType};
+
+/// A type that has no name.
+#[derive(PartialEq, Eq, Hash, Drop)]
+pub(crate) enum Shape {
+    List(ValueType),
+    FixedList(ValueType, u32),
+    Map(ValueType, ValueType),
+    Option(ValueType),
+    Result(Option<ValueType>, Option<ValueType>),
+    Tuple(Vec<ValueType>),
+    Future(Option<ValueType>),
+    Stream(Option<ValueType>),
+}
+
+impl Shape {
+    /// The type's entry.
+    pub(crate) fn content(&self) -> Result<DefinedType, AllocError> {
+        Ok(match self {
+            Shape::List(of) => DefinedType::List(*of),
+            Shape::FixedList(of, length) => DefinedType::FixedSizeList(*of, *length),
+            Shape::Map(key, value) => DefinedType::Map(*key, *value),
+            Shape::Option(of) => DefinedType::Option(*of),
+            Shape::Result(ok, err) => DefinedType::Result { ok: *ok, err: *err },
+            Shape::Tuple(items) => DefinedType::Tuple(items.clone()?),
+            Shape::Future(of) => DefinedType::Future(*of),
+            Shape::Stream(of) => DefinedType::Stream(*of),
+        })
+    }
+}
+
+/// A function: the names and the types of its parameters, and the type of its result.
+#[derive(PartialEq, Eq, Hash, Drop)]
+pub(crate) struct FuncShape {
+    pub(crate) names: Vec<String>,
+    pub(crate) params: Vec<ValueType>,
+    pub(crate) returns: Option<ValueType>,
+    pub(crate) is_async: bool,
+}
+
+impl FuncShape {
+    /// The function's entry.
+    pub(crate) fn content(&self, alloc: Global) -> Result<FuncType, AllocError> {
+        let mut params = IndexMap::new(alloc);
+        for (name, ty) in self.names.iter().zip(&self.params) {
+            params.insert(name.clone()?, *ty)?;
+        }
+        Ok(FuncType {
+            params,
+            result: self.returns,
+            is_async: self.is_async,
+        })
+    }
+}
+
+/// The entries of types and functions, by what these are.
+#[derive(Drop)]
+pub(crate) struct Shapes {
+    pub(crate) types: IndexMap<Shape, ValueType>,
+    pub(crate) funcs: IndexMap<FuncShape, FuncTypeId>,
+}
+
+impl Shapes {
+    /// None yet.
+    pub(crate) fn new(alloc: Global) -> Shapes {
+        Shapes {
+            types: IndexMap::new(alloc),
+            funcs: IndexMap::new(alloc),
+        }
+    }
+}
