@@ -35,4 +35,6 @@ mod sharing;
 #[cfg(test)]
 mod visits;
 #[cfg(test)]
+mod wit_packages;
+#[cfg(test)]
 mod wit_texts;
