@@ -1,8 +1,6 @@
-use Rattle.std.proofs.Common.{arith}
 use Rattle.wac_component.specs.Content.{defined_content}
 use Rattle.wac_component.specs.declared.defined.DefinedType.TheVariants as of
-use Rattle.wac_checker.proofs.PartLemmas.{part_of_defined, found_of_defined, part_of_keys, part_of_map_values, maps_same}
-use Rattle.wac_checker.specs.declared.pairs.Part.TheVariants.{End}
+use Rattle.wac_checker.proofs.PartLemmas.{part_of_defined, found_of_defined}
 use Rattle.wac_checker.proofs.values.defined_part.Goals as goal
 
 pub returns-in-List-List : goal.returns-in-List-List
@@ -14,14 +12,8 @@ returns-in-Option-Option c = part_of_defined c.args.check c.args.at.now c.args.b
 pub returns-in-FixedSizeList-FixedSizeList : goal.returns-in-FixedSizeList-FixedSizeList
 returns-in-FixedSizeList-FixedSizeList c = found_of_defined c.args.check c.args.at.now c.args.bt.now c.args.a c.args.b (defined_content (of.FixedSizeList c.in-FixedSizeList-FixedSizeList.x c.in-FixedSizeList-FixedSizeList.m)) (defined_content (of.FixedSizeList c.in-FixedSizeList-FixedSizeList.y c.in-FixedSizeList-FixedSizeList.n)) c.args.index (rw c.in-FixedSizeList-FixedSizeList.is-0 at c.index.ensures.tree) (rw c.in-FixedSizeList-FixedSizeList.is-1 at c.index-2.ensures.tree) (rw c.in-FixedSizeList-FixedSizeList.is-0 at c.index.ensures.lower) (rw c.in-FixedSizeList-FixedSizeList.is-1 at c.index-2.ensures.lower) c.fixed_size_list_part.result c.fixed_size_list_part.ensures
 
-pub returns-in-0 : goal.returns-in-0
-returns-in-0 c = rw c.in-0.is (part_of_defined c.args.check c.args.at.now c.args.bt.now c.args.a c.args.b (defined_content (of.Map c.in-Map-Map.x c.in-Map-Map.v)) (defined_content (of.Map c.in-Map-Map.y c.in-Map-Map.w)) 0 (rw c.in-Map-Map.is-0 at c.index.ensures.tree) (rw c.in-Map-Map.is-1 at c.index-2.ensures.tree) (rw c.in-Map-Map.is-0 at c.index.ensures.lower) (rw c.in-Map-Map.is-1 at c.index-2.ensures.lower) c.compare_values.result (part_of_keys c.args.check c.args.at.now c.args.bt.now c.in-Map-Map.x c.in-Map-Map.v c.in-Map-Map.y c.in-Map-Map.w c.compare_values.result c.compare_values.ensures))
-
-pub returns-in-1 : goal.returns-in-1
-returns-in-1 c = rw c.in-1.is (part_of_defined c.args.check c.args.at.now c.args.bt.now c.args.a c.args.b (defined_content (of.Map c.in-Map-Map.x c.in-Map-Map.v)) (defined_content (of.Map c.in-Map-Map.y c.in-Map-Map.w)) 1 (rw c.in-Map-Map.is-0 at c.index.ensures.tree) (rw c.in-Map-Map.is-1 at c.index-2.ensures.tree) (rw c.in-Map-Map.is-0 at c.index.ensures.lower) (rw c.in-Map-Map.is-1 at c.index-2.ensures.lower) c.compare_values-in-1.result (part_of_map_values c.args.check c.args.at.now c.args.bt.now c.in-Map-Map.x c.in-Map-Map.v c.in-Map-Map.y c.in-Map-Map.w c.compare_values-in-1.result c.compare_values-in-1.ensures))
-
-pub returns-in_default-index : goal.returns-in_default-index
-returns-in_default-index c = part_of_defined c.args.check c.args.at.now c.args.bt.now c.args.a c.args.b (defined_content (of.Map c.in-Map-Map.x c.in-Map-Map.v)) (defined_content (of.Map c.in-Map-Map.y c.in-Map-Map.w)) c.args.index (rw c.in-Map-Map.is-0 at c.index.ensures.tree) (rw c.in-Map-Map.is-1 at c.index-2.ensures.tree) (rw c.in-Map-Map.is-0 at c.index.ensures.lower) (rw c.in-Map-Map.is-1 at c.index-2.ensures.lower) End (maps_same c.args.at.now c.args.bt.now c.in-Map-Map.x c.in-Map-Map.v c.in-Map-Map.y c.in-Map-Map.w c.args.index (omega arith))
+pub returns-in-Map-Map : goal.returns-in-Map-Map
+returns-in-Map-Map c = part_of_defined c.args.check c.args.at.now c.args.bt.now c.args.a c.args.b (defined_content (of.Map c.in-Map-Map.x c.in-Map-Map.v)) (defined_content (of.Map c.in-Map-Map.y c.in-Map-Map.w)) c.args.index (rw c.in-Map-Map.is-0 at c.index.ensures.tree) (rw c.in-Map-Map.is-1 at c.index-2.ensures.tree) (rw c.in-Map-Map.is-0 at c.index.ensures.lower) (rw c.in-Map-Map.is-1 at c.index-2.ensures.lower) c.map_part.result c.map_part.ensures
 
 pub returns-in-Result-Result : goal.returns-in-Result-Result
 returns-in-Result-Result c = found_of_defined c.args.check c.args.at.now c.args.bt.now c.args.a c.args.b (defined_content (of.Result c.in-Result-Result.ok c.in-Result-Result.err)) (defined_content (of.Result c.in-Result-Result.ok2 c.in-Result-Result.err2)) c.args.index (rw c.in-Result-Result.is-0 at c.index.ensures.tree) (rw c.in-Result-Result.is-1 at c.index-2.ensures.tree) (rw c.in-Result-Result.is-0 at c.index.ensures.lower) (rw c.in-Result-Result.is-1 at c.index-2.ensures.lower) c.result_part.result c.result_part.ensures
