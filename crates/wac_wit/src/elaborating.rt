@@ -23,7 +23,6 @@ enum Thing {
 }
 
 /// What is elaborated so far.
-#[derive(Drop)]
 struct Elaboration<'e> {
     known: Known<'e>,
     /// The exports, in the order in which they are written.
@@ -37,6 +36,20 @@ struct Elaboration<'e> {
     required: IndexSet<usize>,
     /// The exports that are in order.
     exported: IndexSet<usize>,
+}
+
+impl Drop for Elaboration<'_> {
+    fn drop(self) {
+        let Elaboration {
+            known: _,
+            written: _,
+            exports_of: _,
+            imports: _,
+            imported: _,
+            required: _,
+            exported: _,
+        } = self;
+    }
 }
 
 impl Builder<'_> {
@@ -211,8 +224,17 @@ impl<'e> Elaboration<'e> {
 
     // What came out.
     fn sides(self, alloc: Global) -> Result<Sides, AllocError> {
-        let exports = in_order(alloc, self.written, &self.exported)?;
-        let imports = sorted(self.imports)?;
+        let Elaboration {
+            known: _,
+            written,
+            exports_of: _,
+            imports,
+            imported: _,
+            required: _,
+            exported,
+        } = self;
+        let exports = in_order(alloc, written, &exported)?;
+        let imports = sorted(imports)?;
         Ok(Sides { imports, exports })
     }
 

@@ -25,7 +25,6 @@ impl Meaning {
 }
 
 /// A type with a name.
-#[derive(Drop)]
 pub(crate) struct NamedType {
     pub(crate) meaning: Meaning,
     /// The interface that defines it, if that is another one.
@@ -34,6 +33,17 @@ pub(crate) struct NamedType {
     pub(crate) root: String,
     /// The interface that `use` names, if it is used.
     pub(crate) from: Option<usize>,
+}
+
+impl Drop for NamedType {
+    fn drop(self) {
+        let NamedType {
+            meaning: _,
+            owner: _,
+            root: _,
+            from: _,
+        } = self;
+    }
 }
 
 impl NamedType {
@@ -54,7 +64,6 @@ impl NamedType {
 }
 
 /// The names of types in an interface or a world.
-#[derive(Drop)]
 pub(crate) struct TypeNames {
     /// The types.
     pub(crate) types: IndexMap<String, NamedType>,
@@ -62,6 +71,16 @@ pub(crate) struct TypeNames {
     pub(crate) broken: IndexSet<String>,
     /// The names of types that are there with features alone that are off.
     pub(crate) hidden: IndexSet<String>,
+}
+
+impl Drop for TypeNames {
+    fn drop(self) {
+        let TypeNames {
+            types: _,
+            broken: _,
+            hidden: _,
+        } = self;
+    }
 }
 
 impl TypeNames {
@@ -76,12 +95,33 @@ impl TypeNames {
 }
 
 /// An interface.
-#[derive(Drop)]
 pub(crate) struct MadeInterface {
     pub(crate) id: InterfaceId,
     pub(crate) names: TypeNames,
     /// The interfaces whose types it uses, in order.
     pub(crate) needs: Vec<usize>,
+}
+
+impl Drop for MadeInterface {
+    fn drop(self) {
+        let MadeInterface {
+            id: _,
+            names: _,
+            needs: _,
+        } = self;
+    }
+}
+
+impl MadeInterface {
+    /// The interface, and those that it uses.
+    pub(crate) fn into_parts(self) -> (InterfaceId, Vec<usize>) {
+        let MadeInterface {
+            id,
+            names: _,
+            needs,
+        } = self;
+        (id, needs)
+    }
 }
 
 /// What sort of import it is, in the order in which imports stand.
@@ -102,13 +142,23 @@ pub(crate) enum Sort {
 }
 
 /// An import of a world.
-#[derive(Drop)]
 pub(crate) struct Member {
     pub(crate) name: String,
     pub(crate) item: ItemKind,
     pub(crate) sort: Sort,
     /// The interfaces that an interface under a name of its own uses.
     pub(crate) needs: Vec<usize>,
+}
+
+impl Drop for Member {
+    fn drop(self) {
+        let Member {
+            name: _,
+            item: _,
+            sort: _,
+            needs: _,
+        } = self;
+    }
 }
 
 /// What is exported.
@@ -123,7 +173,6 @@ pub(crate) enum What {
 }
 
 /// An export of a world.
-#[derive(Drop)]
 pub(crate) struct Exported {
     pub(crate) name: String,
     pub(crate) what: What,
@@ -133,15 +182,33 @@ pub(crate) struct Exported {
     pub(crate) span: Span,
 }
 
+impl Drop for Exported {
+    fn drop(self) {
+        let Exported {
+            name: _,
+            what: _,
+            needs: _,
+            span: _,
+        } = self;
+    }
+}
+
 /// What a world imports and exports.
-#[derive(Drop)]
 pub(crate) struct Sides {
     pub(crate) imports: Vec<Member>,
     pub(crate) exports: Vec<Exported>,
 }
 
+impl Drop for Sides {
+    fn drop(self) {
+        let Sides {
+            imports: _,
+            exports: _,
+        } = self;
+    }
+}
+
 /// A world.
-#[derive(Drop)]
 pub(crate) struct MadeWorld {
     pub(crate) id: WorldId,
     pub(crate) sides: Sides,
@@ -151,13 +218,33 @@ pub(crate) struct MadeWorld {
     pub(crate) defined: Vec<DefinedTypeId>,
 }
 
+impl Drop for MadeWorld {
+    fn drop(self) {
+        let MadeWorld {
+            id: _,
+            sides: _,
+            names: _,
+            defined: _,
+        } = self;
+    }
+}
+
 /// An interface or a world.
-#[derive(Drop)]
 pub(crate) enum Made {
     /// Not yet made, or refused.
     Nothing,
     Interface(MadeInterface),
     World(MadeWorld),
+}
+
+impl Drop for Made {
+    fn drop(self) {
+        match self {
+            Made::Nothing => {}
+            Made::Interface(_) => {}
+            Made::World(_) => {}
+        }
+    }
 }
 
 /// The interfaces and the worlds that were made, as an interface or a world sees them.

@@ -13,7 +13,6 @@ use wac_wit_names::{
 use wac_wit_syntax::{Document, parse};
 
 /// A package.
-#[derive(Drop)]
 pub struct WitPackage {
     /// The name, as `wasi:http`.
     pub name: String,
@@ -27,11 +26,28 @@ pub struct WitPackage {
     pub worlds: IndexMap<String, WorldId>,
 }
 
+impl Drop for WitPackage {
+    fn drop(self) {
+        let WitPackage {
+            name: _,
+            version: _,
+            group: _,
+            interfaces: _,
+            worlds: _,
+        } = self;
+    }
+}
+
 /// Packages, whose interfaces and worlds are entries of a collection.
-#[derive(Drop)]
 pub struct Wit {
     /// The packages, in the order of their files, and behind them those written inside of files.
     pub packages: Vec<WitPackage>,
+}
+
+impl Drop for Wit {
+    fn drop(self) {
+        let Wit { packages: _ } = self;
+    }
 }
 
 /// Reads packages, and puts what they have into a collection.

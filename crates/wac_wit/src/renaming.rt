@@ -14,13 +14,24 @@ use wac_wit_syntax::IncludeItem;
 
 /// The new names that an `include` gives, and what stands in the place of the entries that they
 /// change: a resource has its name in its entry.
-#[derive(Drop)]
 pub(crate) struct Renaming {
     alloc: Global,
     names: IndexMap<String, String>,
     resources: IndexMap<ResourceId, ResourceId>,
     defined: IndexMap<DefinedTypeId, ValueType>,
     funcs: IndexMap<FuncTypeId, FuncTypeId>,
+}
+
+impl Drop for Renaming {
+    fn drop(self) {
+        let Renaming {
+            alloc: _,
+            names: _,
+            resources: _,
+            defined: _,
+            funcs: _,
+        } = self;
+    }
 }
 
 impl Renaming {

@@ -5,7 +5,7 @@ use std::alloc::{AllocError, Global};
 use wac_component::{DefinedType, FuncType, FuncTypeId, ValueType};
 
 /// A type that has no name.
-#[derive(PartialEq, Eq, Hash, Drop)]
+#[derive(PartialEq, Eq, Hash)]
 pub(crate) enum Shape {
     List(ValueType),
     FixedList(ValueType, u32),
@@ -15,6 +15,21 @@ pub(crate) enum Shape {
     Tuple(Vec<ValueType>),
     Future(Option<ValueType>),
     Stream(Option<ValueType>),
+}
+
+impl Drop for Shape {
+    fn drop(self) {
+        match self {
+            Shape::List(_) => {}
+            Shape::FixedList(_, _) => {}
+            Shape::Map(_, _) => {}
+            Shape::Option(_) => {}
+            Shape::Result(_, _) => {}
+            Shape::Tuple(_) => {}
+            Shape::Future(_) => {}
+            Shape::Stream(_) => {}
+        }
+    }
 }
 
 impl Shape {
@@ -34,12 +49,23 @@ impl Shape {
 }
 
 /// A function: the names and the types of its parameters, and the type of its result.
-#[derive(PartialEq, Eq, Hash, Drop)]
+#[derive(PartialEq, Eq, Hash)]
 pub(crate) struct FuncShape {
     pub(crate) names: Vec<String>,
     pub(crate) params: Vec<ValueType>,
     pub(crate) returns: Option<ValueType>,
     pub(crate) is_async: bool,
+}
+
+impl Drop for FuncShape {
+    fn drop(self) {
+        let FuncShape {
+            names: _,
+            params: _,
+            returns: _,
+            is_async: _,
+        } = self;
+    }
 }
 
 impl FuncShape {
@@ -58,10 +84,15 @@ impl FuncShape {
 }
 
 /// The entries of types and functions, by what these are.
-#[derive(Drop)]
 pub(crate) struct Shapes {
     pub(crate) types: IndexMap<Shape, ValueType>,
     pub(crate) funcs: IndexMap<FuncShape, FuncTypeId>,
+}
+
+impl Drop for Shapes {
+    fn drop(self) {
+        let Shapes { types: _, funcs: _ } = self;
+    }
 }
 
 impl Shapes {

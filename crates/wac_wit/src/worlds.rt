@@ -15,7 +15,6 @@ use wac_wit_syntax::{
 };
 
 /// What a world imports and exports so far.
-#[derive(Drop)]
 pub(crate) struct Draft {
     pub(crate) imports: Vec<Member>,
     /// The interfaces of packages among the imports.
@@ -25,6 +24,18 @@ pub(crate) struct Draft {
     pub(crate) exported: IndexMap<usize, Span>,
     /// The names of the other exports.
     pub(crate) export_names: Taken,
+}
+
+impl Drop for Draft {
+    fn drop(self) {
+        let Draft {
+            imports: _,
+            imported: _,
+            exports: _,
+            exported: _,
+            export_names: _,
+        } = self;
+    }
 }
 
 impl Draft {
@@ -37,16 +48,34 @@ impl Draft {
             export_names: Taken::new(alloc),
         }
     }
+
+    // The imports and the exports.
+    fn into_externs(self) -> (Vec<Member>, Vec<Exported>) {
+        let Draft {
+            imports,
+            imported: _,
+            exports,
+            exported: _,
+            export_names: _,
+        } = self;
+        (imports, exports)
+    }
 }
 
 impl<'b> Builder<'b> {
     /// What a world imports and exports.
     fn sides(&mut self, items: &[WorldItem]) -> Result<Sides, Fault> {
         let mut draft = Draft::new(self.alloc);
-        self.add_world_types(&mut draft, items)?;
-        self.add_externs(&mut draft, items)?;
-        self.add_includes(&mut draft, items)?;
-        self.elaborated(draft.imports, draft.exports)
+        self.fill(&mut draft, items)?;
+        let (imports, exports) = draft.into_externs();
+        self.elaborated(imports, exports)
+    }
+
+    // Takes in what is written, and then what is included.
+    fn fill(&mut self, draft: &mut Draft, items: &[WorldItem]) -> Result<(), Fault> {
+        self.add_world_types(draft, items)?;
+        self.add_externs(draft, items)?;
+        self.add_includes(draft, items)
     }
 
     // Takes in the types of a world, which are imports: used ones, and then those that it defines.
@@ -171,12 +200,18 @@ impl<'b> Builder<'b> {
     ) -> Result<(), Fault> {
         self.take_name(&name.name, name.span)?;
         let site = self.site;
-        let of = make_interface(&site, self.types, self.refusals, None, items)?;
+        let (id, needs) = make_interface(
+            &site,
+            self.types,
+            self.refusals,
+            None,
+            items,
+        )?.into_parts();
         draft.imports.push(Member {
             name: name.name.clone()?,
-            item: ItemKind::Instance(of.id),
+            item: ItemKind::Instance(id),
             sort: Sort::Inline,
-            needs: of.needs,
+            needs,
         })?;
         Ok(())
     }

@@ -8,9 +8,14 @@ use wac_component::{
 };
 
 /// The copies of entries of another collection.
-#[derive(Drop)]
 pub(crate) struct Copies {
     all: IndexMap<Type, Type>,
+}
+
+impl Drop for Copies {
+    fn drop(self) {
+        let Copies { all: _ } = self;
+    }
 }
 
 impl Copies {

@@ -8,9 +8,14 @@ use wac_component::{
 };
 
 /// Entries that another names. Primitive types are none.
-#[derive(Drop)]
 pub(crate) struct Members {
     pub(crate) all: Vec<Type>,
+}
+
+impl Drop for Members {
+    fn drop(self) {
+        let Members { all: _ } = self;
+    }
 }
 
 impl Members {

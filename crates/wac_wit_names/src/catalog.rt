@@ -13,7 +13,6 @@ use wac_wit_syntax::{
 };
 
 /// A package.
-#[derive(Drop)]
 pub struct Package<'a> {
     /// The name, as `wasi:http`.
     pub name: String,
@@ -27,8 +26,19 @@ pub struct Package<'a> {
     pub members: IndexMap<String, usize>,
 }
 
+impl Drop for Package<'_> {
+    fn drop(self) {
+        let Package {
+            name: _,
+            version: _,
+            key: _,
+            group: _,
+            members: _,
+        } = self;
+    }
+}
+
 /// The names that the items of one file of a package share.
-#[derive(Drop)]
 pub struct Scope<'a> {
     /// The index of the package.
     pub package: usize,
@@ -36,6 +46,16 @@ pub struct Scope<'a> {
     pub file: usize,
     /// What `use` outside of interfaces and worlds gives a name to.
     pub uses: IndexMap<String, &'a TopUse>,
+}
+
+impl Drop for Scope<'_> {
+    fn drop(self) {
+        let Scope {
+            package: _,
+            file: _,
+            uses: _,
+        } = self;
+    }
 }
 
 /// What an interface or a world is.
@@ -48,7 +68,6 @@ pub enum Decl<'a> {
 }
 
 /// An interface or a world.
-#[derive(Drop)]
 pub struct Node<'a> {
     /// Its own index.
     pub index: usize,
@@ -68,8 +87,22 @@ pub struct Node<'a> {
     pub is_hidden: bool,
 }
 
+impl Drop for Node<'_> {
+    fn drop(self) {
+        let Node {
+            index: _,
+            scope: _,
+            package: _,
+            file: _,
+            id: _,
+            name: _,
+            decl: _,
+            is_hidden: _,
+        } = self;
+    }
+}
+
 /// All packages, with the interfaces and the worlds in them.
-#[derive(Drop)]
 pub struct Catalog<'a> {
     pub(crate) alloc: Global,
     files: &'a [SourceFile],
@@ -85,6 +118,22 @@ pub struct Catalog<'a> {
     pub(crate) by_name: IndexMap<String, Option<usize>>,
     // the packages of groups of files
     by_group: IndexMap<usize, usize>,
+}
+
+impl Drop for Catalog<'_> {
+    fn drop(self) {
+        let Catalog {
+            alloc: _,
+            files: _,
+            features: _,
+            packages: _,
+            scopes: _,
+            nodes: _,
+            by_key: _,
+            by_name: _,
+            by_group: _,
+        } = self;
+    }
 }
 
 impl<'a> Catalog<'a> {

@@ -5,12 +5,20 @@ use std::alloc::{AllocError, AllocFailed};
 use wac_wit_syntax::{Refusal, Span, push_report};
 
 /// What is wrong in a file.
-#[derive(Drop)]
 pub struct WitRefusal {
     /// The index of the file.
     pub file: usize,
     /// What is wrong, and where.
     pub refusal: Refusal,
+}
+
+impl Drop for WitRefusal {
+    fn drop(self) {
+        let WitRefusal {
+            file: _,
+            refusal: _,
+        } = self;
+    }
 }
 
 /// Why packages weren't resolved.

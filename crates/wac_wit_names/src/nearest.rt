@@ -10,7 +10,6 @@ const MAX_LENGTH: usize = 64;
 const MAX_NAMES: usize = 1000;
 
 /// Looks among names for the one that is nearest to a name that isn't there.
-#[derive(Drop)]
 pub struct Nearest<'n> {
     alloc: Global,
     name: &'n str,
@@ -19,6 +18,18 @@ pub struct Nearest<'n> {
     limit: usize,
     // how many names were compared
     compared: usize,
+}
+
+impl Drop for Nearest<'_> {
+    fn drop(self) {
+        let Nearest {
+            alloc: _,
+            name: _,
+            best: _,
+            limit: _,
+            compared: _,
+        } = self;
+    }
 }
 
 impl<'n> Nearest<'n> {

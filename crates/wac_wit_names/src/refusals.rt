@@ -8,9 +8,14 @@ use wac_wit_syntax::{Refusal, SyntaxError};
 pub const MAX_REFUSALS: usize = 20;
 
 /// The refusals of one run, up to [`MAX_REFUSALS`].
-#[derive(Drop)]
 pub struct Refusals {
     list: Vec<WitRefusal>,
+}
+
+impl Drop for Refusals {
+    fn drop(self) {
+        let Refusals { list: _ } = self;
+    }
 }
 
 impl Refusals {
@@ -84,7 +89,7 @@ impl Refusals {
 
     /// The refusals, in the order of the files and of the places in them. There is one at least.
     pub fn into_error(self) -> WitError {
-        let mut list = self.list;
+        let Refusals { mut list } = self;
         if list.is_empty() {
             return WitError::Missing;
         }

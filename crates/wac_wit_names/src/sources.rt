@@ -1,7 +1,6 @@
 //! The texts of packages.
 
 /// A file of a package.
-#[derive(Drop)]
 pub struct SourceFile {
     /// The name that refusals give it.
     pub name: String,
@@ -9,4 +8,14 @@ pub struct SourceFile {
     pub text: String,
     /// Which files belong to one package: those with one number.
     pub group: usize,
+}
+
+impl Drop for SourceFile {
+    fn drop(self) {
+        let SourceFile {
+            name: _,
+            text: _,
+            group: _,
+        } = self;
+    }
 }

@@ -7,10 +7,15 @@ use std::alloc::{AllocError, Global};
 use wac_wit_syntax::Span;
 
 /// Names, in lower case, with where they stand.
-#[derive(Drop)]
 pub struct Taken {
     alloc: Global,
     spans: IndexMap<String, Span>,
+}
+
+impl Drop for Taken {
+    fn drop(self) {
+        let Taken { alloc: _, spans: _ } = self;
+    }
 }
 
 impl Taken {

@@ -14,10 +14,15 @@ struct Part<'d> {
 }
 
 // The parts of what a path leads to, and how many stand before them that aren't written.
-#[derive(Drop)]
 struct Parts<'d> {
     hidden: usize,
     all: Vec<Part<'d>>,
+}
+
+impl Drop for Parts<'_> {
+    fn drop(self) {
+        let Parts { hidden: _, all: _ } = self;
+    }
 }
 
 impl<'d> Parts<'d> {

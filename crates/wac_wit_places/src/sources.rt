@@ -50,10 +50,15 @@ impl<'d> Decl<'d> {
 }
 
 /// The functions and types of an interface, by their names.
-#[derive(Drop)]
 pub(crate) struct Members<'d> {
     pub(crate) funcs: IndexMap<String, &'d FuncItem>,
     pub(crate) types: IndexMap<String, &'d TypeItem>,
+}
+
+impl Drop for Members<'_> {
+    fn drop(self) {
+        let Members { funcs: _, types: _ } = self;
+    }
 }
 
 impl<'d> Members<'d> {
@@ -97,10 +102,18 @@ impl Site<'_> {
 }
 
 /// The interfaces and the worlds of packages, by their identifiers.
-#[derive(Drop)]
 pub struct Sources<'d> {
     sites: IndexMap<String, Site<'d>>,
     members: Vec<Members<'d>>,
+}
+
+impl Drop for Sources<'_> {
+    fn drop(self) {
+        let Sources {
+            sites: _,
+            members: _,
+        } = self;
+    }
 }
 
 impl<'d> Sources<'d> {

@@ -7,12 +7,21 @@ use std::alloc::{AllocError, AllocFailed};
 pub const MAX_REFUSALS: usize = 20;
 
 /// What is wrong with a text, and where.
-#[derive(Debug, Drop)]
+#[derive(Debug)]
 pub struct Refusal {
     /// The place.
     pub span: Span,
     /// What is wrong, on one line.
     pub message: String,
+}
+
+impl Drop for Refusal {
+    fn drop(self) {
+        let Refusal {
+            span: _,
+            message: _,
+        } = self;
+    }
 }
 
 /// Why a text wasn't read.

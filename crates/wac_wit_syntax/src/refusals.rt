@@ -5,9 +5,14 @@ use super::positions::Span;
 use std::alloc::{AllocError, Global};
 
 /// The refusals of a text in the order of their places, at most one at a place.
-#[derive(Drop)]
 pub(crate) struct Refusals {
     found: Vec<Refusal>,
+}
+
+impl Drop for Refusals {
+    fn drop(self) {
+        let Refusals { found: _ } = self;
+    }
 }
 
 impl Refusals {
@@ -67,6 +72,7 @@ impl Refusals {
 
     /// The error of the text.
     pub(crate) fn into_error(self) -> SyntaxError {
-        SyntaxError::Refused(self.found)
+        let Refusals { found } = self;
+        SyntaxError::Refused(found)
     }
 }

@@ -29,12 +29,17 @@ impl Drop for Ident {
 }
 
 /// What stands in the parentheses of an attribute.
-#[derive(Drop)]
 pub struct Gate {
     /// The version or the feature.
     pub text: String,
     /// Where that stands.
     pub span: Span,
+}
+
+impl Drop for Gate {
+    fn drop(self) {
+        let Gate { text: _, span: _ } = self;
+    }
 }
 
 /// The documentation and the attributes of an item.
@@ -124,7 +129,6 @@ impl Drop for Document {
 }
 
 /// An item of a file or of a nested package.
-#[derive(Drop)]
 pub enum TopItem {
     /// Another name for an interface or a world, in this file.
     Use(TopUse),
@@ -134,8 +138,17 @@ pub enum TopItem {
     World(WorldDecl),
 }
 
+impl Drop for TopItem {
+    fn drop(self) {
+        match self {
+            TopItem::Use(_) => {}
+            TopItem::Interface(_) => {}
+            TopItem::World(_) => {}
+        }
+    }
+}
+
 /// `use PATH as NAME;` outside of interfaces and worlds.
-#[derive(Drop)]
 pub struct TopUse {
     /// What is used.
     pub path: Path,
@@ -143,8 +156,13 @@ pub struct TopUse {
     pub alias: Option<Ident>,
 }
 
+impl Drop for TopUse {
+    fn drop(self) {
+        let TopUse { path: _, alias: _ } = self;
+    }
+}
+
 /// `package NAME { .. }`.
-#[derive(Drop)]
 pub struct NestedPackage {
     /// The name.
     pub name: PackageName,
@@ -152,8 +170,13 @@ pub struct NestedPackage {
     pub items: Vec<TopItem>,
 }
 
+impl Drop for NestedPackage {
+    fn drop(self) {
+        let NestedPackage { name: _, items: _ } = self;
+    }
+}
+
 /// `interface NAME { .. }`.
-#[derive(Drop)]
 pub struct InterfaceDecl {
     /// The attributes.
     pub gates: Gates,
@@ -163,8 +186,17 @@ pub struct InterfaceDecl {
     pub items: Vec<InterfaceItem>,
 }
 
+impl Drop for InterfaceDecl {
+    fn drop(self) {
+        let InterfaceDecl {
+            gates: _,
+            name: _,
+            items: _,
+        } = self;
+    }
+}
+
 /// An item of an interface.
-#[derive(Drop)]
 pub enum InterfaceItem {
     /// Types of another interface.
     Use(UseItem),
@@ -174,8 +206,17 @@ pub enum InterfaceItem {
     Func(FuncItem),
 }
 
+impl Drop for InterfaceItem {
+    fn drop(self) {
+        match self {
+            InterfaceItem::Use(_) => {}
+            InterfaceItem::Type(_) => {}
+            InterfaceItem::Func(_) => {}
+        }
+    }
+}
+
 /// `use PATH.{NAME as NAME, ..};`.
-#[derive(Drop)]
 pub struct UseItem {
     /// The attributes.
     pub gates: Gates,
@@ -185,8 +226,17 @@ pub struct UseItem {
     pub names: Vec<Rename>,
 }
 
+impl Drop for UseItem {
+    fn drop(self) {
+        let UseItem {
+            gates: _,
+            path: _,
+            names: _,
+        } = self;
+    }
+}
+
 /// A name, and the name that it gets.
-#[derive(Drop)]
 pub struct Rename {
     /// The name.
     pub name: Ident,
@@ -194,8 +244,13 @@ pub struct Rename {
     pub alias: Option<Ident>,
 }
 
+impl Drop for Rename {
+    fn drop(self) {
+        let Rename { name: _, alias: _ } = self;
+    }
+}
+
 /// A type with a name.
-#[derive(Drop)]
 pub struct TypeItem {
     /// The attributes.
     pub gates: Gates,
@@ -207,8 +262,18 @@ pub struct TypeItem {
     pub span: Span,
 }
 
+impl Drop for TypeItem {
+    fn drop(self) {
+        let TypeItem {
+            gates: _,
+            name: _,
+            def: _,
+            span: _,
+        } = self;
+    }
+}
+
 /// What a type with a name is.
-#[derive(Drop)]
 pub enum TypeDef {
     /// `type NAME = TYPE;`.
     Alias(TypeExpr),
@@ -224,8 +289,20 @@ pub enum TypeDef {
     Resource(Vec<Method>),
 }
 
+impl Drop for TypeDef {
+    fn drop(self) {
+        match self {
+            TypeDef::Alias(_) => {}
+            TypeDef::Record(_) => {}
+            TypeDef::Variant(_) => {}
+            TypeDef::Flags(_) => {}
+            TypeDef::Enum(_) => {}
+            TypeDef::Resource(_) => {}
+        }
+    }
+}
+
 /// A field of a record or a parameter of a function.
-#[derive(Drop)]
 pub struct Field {
     /// The name.
     pub name: Ident,
@@ -235,8 +312,17 @@ pub struct Field {
     pub span: Span,
 }
 
+impl Drop for Field {
+    fn drop(self) {
+        let Field {
+            name: _,
+            ty: _,
+            span: _,
+        } = self;
+    }
+}
+
 /// A case of a variant.
-#[derive(Drop)]
 pub struct Case {
     /// The name.
     pub name: Ident,
@@ -244,6 +330,16 @@ pub struct Case {
     pub ty: Option<TypeExpr>,
     /// Where the name and the type stand.
     pub span: Span,
+}
+
+impl Drop for Case {
+    fn drop(self) {
+        let Case {
+            name: _,
+            ty: _,
+            span: _,
+        } = self;
+    }
 }
 
 /// What a function of a resource is.
@@ -258,7 +354,6 @@ pub enum MethodKind {
 }
 
 /// A function of a resource.
-#[derive(Drop)]
 pub struct Method {
     /// The attributes.
     pub gates: Gates,
@@ -272,8 +367,19 @@ pub struct Method {
     pub span: Span,
 }
 
+impl Drop for Method {
+    fn drop(self) {
+        let Method {
+            gates: _,
+            kind: _,
+            name: _,
+            signature: _,
+            span: _,
+        } = self;
+    }
+}
+
 /// A function.
-#[derive(Drop)]
 pub struct FuncItem {
     /// The attributes.
     pub gates: Gates,
@@ -283,6 +389,17 @@ pub struct FuncItem {
     pub signature: Signature,
     /// Where it stands, without its attributes.
     pub span: Span,
+}
+
+impl Drop for FuncItem {
+    fn drop(self) {
+        let FuncItem {
+            gates: _,
+            name: _,
+            signature: _,
+            span: _,
+        } = self;
+    }
 }
 
 /// The parameters and the result of a function.
@@ -309,7 +426,6 @@ impl Drop for Signature {
 }
 
 /// `world NAME { .. }`.
-#[derive(Drop)]
 pub struct WorldDecl {
     /// The attributes.
     pub gates: Gates,
@@ -319,8 +435,17 @@ pub struct WorldDecl {
     pub items: Vec<WorldItem>,
 }
 
+impl Drop for WorldDecl {
+    fn drop(self) {
+        let WorldDecl {
+            gates: _,
+            name: _,
+            items: _,
+        } = self;
+    }
+}
+
 /// An item of a world.
-#[derive(Drop)]
 pub enum WorldItem {
     /// Types of an interface.
     Use(UseItem),
@@ -334,8 +459,19 @@ pub enum WorldItem {
     Export(ExternItem),
 }
 
+impl Drop for WorldItem {
+    fn drop(self) {
+        match self {
+            WorldItem::Use(_) => {}
+            WorldItem::Type(_) => {}
+            WorldItem::Include(_) => {}
+            WorldItem::Import(_) => {}
+            WorldItem::Export(_) => {}
+        }
+    }
+}
+
 /// `include PATH with { NAME as NAME, .. };`.
-#[derive(Drop)]
 pub struct IncludeItem {
     /// The attributes.
     pub gates: Gates,
@@ -345,8 +481,17 @@ pub struct IncludeItem {
     pub renames: Vec<Rename>,
 }
 
+impl Drop for IncludeItem {
+    fn drop(self) {
+        let IncludeItem {
+            gates: _,
+            path: _,
+            renames: _,
+        } = self;
+    }
+}
+
 /// An import or an export.
-#[derive(Drop)]
 pub struct ExternItem {
     /// The attributes.
     pub gates: Gates,
@@ -356,8 +501,17 @@ pub struct ExternItem {
     pub span: Span,
 }
 
+impl Drop for ExternItem {
+    fn drop(self) {
+        let ExternItem {
+            gates: _,
+            what: _,
+            span: _,
+        } = self;
+    }
+}
+
 /// What is imported or exported.
-#[derive(Drop)]
 pub enum Extern {
     /// An interface, under its identifier.
     Path(Path),
@@ -367,6 +521,17 @@ pub enum Extern {
     Inline(Ident, Vec<InterfaceItem>),
     /// An interface that is written elsewhere, under a name.
     Named(Ident, Path),
+}
+
+impl Drop for Extern {
+    fn drop(self) {
+        match self {
+            Extern::Path(_) => {}
+            Extern::Func(_, _) => {}
+            Extern::Inline(_, _) => {}
+            Extern::Named(_, _) => {}
+        }
+    }
 }
 
 /// A type where one is used.

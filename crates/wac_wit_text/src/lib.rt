@@ -1,5 +1,5 @@
-//! Writes the entries of a collection as WIT text: types, functions, interfaces, worlds and
-//! packages, in one canonical form. What is written is read again as the same trees.
+//! Writes the entries of a collection as WIT text, in one canonical form: types, functions,
+//! interfaces and worlds, and the heads of the packages around them.
 //!
 //! A [`Printer`] holds the text so far. Types stand where a collection lists them, those that are
 //! used first, and the functions of a resource stand in it. An interface of the package that is
