@@ -1,0 +1,43 @@
+//! Asks the library, of items that may not stand.
+
+use std::alloc::Global;
+use std::collections::HashSet;
+use wac_component::{ItemKind, TargetError, Type, Types, WorldId};
+use wac_types::{SubtypeChecker, SubtypeError, TargetValidationResult, validate_target};
+use wac_wit_entries::EntryError;
+
+/// Why an item doesn't fit where another one of its collection is asked for; nothing where it does.
+pub(crate) fn misfit(
+    alloc: Global,
+    types: &Types,
+    given: &ItemKind,
+    wanted: &ItemKind,
+) -> Result<Option<SubtypeError>, EntryError> {
+    if !types.contains_item(*given) || !types.contains_item(*wanted) {
+        return Err(EntryError::Missing);
+    }
+    let mut cache = HashSet::new(alloc);
+    match SubtypeChecker::new(&mut cache).is_subtype(alloc, *given, types, *wanted, types) {
+        Ok(()) => Ok(None),
+        Err(SubtypeError::Memory) => Err(EntryError::Memory),
+        Err(error) => Ok(Some(error)),
+    }
+}
+
+/// Whether a component that imports and exports all of a world runs where another one of its
+/// collection is the target.
+pub(crate) fn fits_target(
+    alloc: Global,
+    types: &Types,
+    component: WorldId,
+    target: WorldId,
+) -> Result<TargetValidationResult, EntryError> {
+    if !types.contains(Type::World(component)) || !types.contains(Type::World(target)) {
+        return Err(EntryError::Missing);
+    }
+    match validate_target(alloc, types, target, component) {
+        Ok(answer) => Ok(answer),
+        Err(TargetError::Memory) => Err(EntryError::Memory),
+        Err(TargetError::NoIdentifier { interface: _ }) => Err(EntryError::NoIdentifier),
+    }
+}
