@@ -284,12 +284,15 @@ impl Types {
         ensures resolved { IsResolved self.now result }
         ensures reached { IsMeantBy self.now ty result }
     {
-        match ty {
-            ValueType::Defined(id) => match &self[id] {
-                DefinedType::Alias(of) => self.resolve_value_type(*of),
-                _ => ty,
-            },
-            _ => ty,
+        let mut at = ty;
+        loop {
+            let ValueType::Defined(id) = at else {
+                return at;
+            };
+            let DefinedType::Alias(of) = &self[id] else {
+                return at;
+            };
+            at = *of;
         }
     }
 
@@ -301,10 +304,11 @@ impl Types {
         ensures root { IsRoot self.now result }
         ensures reached { IsSourceOf self.now id result }
     {
-        match self[id].alias {
-            Some(alias) => self.resolve_resource(alias.source),
-            None => id,
+        let mut at = id;
+        while let Some(alias) = self[at].alias {
+            at = alias.source;
         }
+        at
     }
 
     /// What is known of every collection; this does nothing.

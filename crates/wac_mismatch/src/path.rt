@@ -36,11 +36,8 @@ fn write_steps<W: fmt::Write>(
 ) -> fmt::Result
     ensures { WritesOnOk W.write_str_gives f.old result (steps_text frames.now fault.now) f.new }
 {
-    match frames {
-        [] => write!(f, "{fault}"),
-        [first, rest @ ..] => {
-            write!(f, "{first} / ")?;
-            write_steps(f, rest, fault)
-        }
+    for frame in frames {
+        write!(f, "{frame} / ")?;
     }
+    write!(f, "{fault}")
 }
