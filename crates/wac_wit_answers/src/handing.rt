@@ -6,8 +6,9 @@ ghost use Rattle.wac_wit_answers.specs.Calls.{AreHandedFrom};
 
 use super::failure::Failure;
 use super::merging::Source;
-use std::alloc::AllocError;
-use wac_types::{Call, ItemKind, Types};
+use indexmap::IndexMap;
+use std::alloc::{AllocError, Global};
+use wac_types::{Call, ItemKind, TypeAggregator, Types};
 use wac_wit_entries::world;
 
 /// What was handed in.
@@ -89,4 +90,40 @@ pub(crate) fn push_owner(
         owners.push(index)?;
     }
     Ok(())
+}
+
+/// The indices of the calls whose names lead to each merged import, by its name.
+pub(crate) type Leading = IndexMap<String, Vec<usize>>;
+
+/// The calls that lead to each import.
+pub(crate) fn leading_of(
+    alloc: Global,
+    calls: &[Call<'_>],
+    merged: &TypeAggregator,
+) -> Result<Leading, AllocError> {
+    let mut leading = IndexMap::new(alloc);
+    for (name, _) in merged.imports() {
+        leading.insert(String::from_str(alloc, name)?, Vec::new(alloc))?;
+    }
+    for (index, call) in calls.iter().enumerate() {
+        push_index(&mut leading, merged.canonical_import_name(call.name), index)?;
+    }
+    Ok(leading)
+}
+
+// Puts an index last among those of a name that has some.
+fn push_index(leading: &mut Leading, name: &str, index: usize) -> Result<(), AllocError> {
+    match leading.get_mut(name) {
+        Some(calls) => calls.push(index)?,
+        None => {}
+    }
+    Ok(())
+}
+
+/// The calls that lead to an import.
+pub(crate) fn calls_to<'l>(leading: &'l Leading, import: &str) -> &'l [usize] {
+    match leading.get(import) {
+        Some(calls) => calls.as_slice(),
+        None => &[],
+    }
 }

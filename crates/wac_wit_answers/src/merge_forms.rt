@@ -1,6 +1,6 @@
 //! Merged imports as JSON, and as a graph for Graphviz.
 
-use super::handing::Handed;
+use super::handing::{Handed, Leading, calls_to};
 use super::merge_text::merged_text;
 use serde_json::{Value, json};
 use std::alloc::{AllocError, Global};
@@ -12,14 +12,15 @@ pub(crate) fn merged_json(
     alloc: Global,
     handed: &Handed<'_>,
     merged: &TypeAggregator,
+    leading: &Leading,
 ) -> Result<Value, AllocError> {
     let mut imports = Vec::new(alloc);
     for (name, item) in merged.imports() {
-        let from = names_json(alloc, handed, merged, name)?;
+        let from = names_json(alloc, handed, calls_to(leading, name))?;
         let sort = sort_of(item);
         imports.push(json!(in alloc; {"name": name, "kind": sort, "from": from})?)?;
     }
-    let wit = merged_text(alloc, handed, merged)?;
+    let wit = merged_text(alloc, handed, merged, leading)?;
     json!(in alloc; {"merged": true, "imports": imports, "wit": wit})
 }
 
@@ -27,14 +28,11 @@ pub(crate) fn merged_json(
 fn names_json(
     alloc: Global,
     handed: &Handed<'_>,
-    merged: &TypeAggregator,
-    import: &str,
+    calls: &[usize],
 ) -> Result<Vec<Value>, AllocError> {
     let mut names = Vec::new(alloc);
-    for (index, call) in handed.calls.iter().enumerate() {
-        if merged.canonical_import_name(call.name) == import {
-            names.push(call_json(alloc, handed, index)?)?;
-        }
+    for index in calls {
+        names.push(call_json(alloc, handed, *index)?)?;
     }
     Ok(names)
 }
@@ -60,7 +58,7 @@ pub(crate) fn call_json(
 pub(crate) fn merged_dot(
     alloc: Global,
     handed: &Handed<'_>,
-    merged: &TypeAggregator,
+    leading: &Leading,
 ) -> Result<String, AllocError> {
     let mut out = String::from_str(alloc, "digraph merged {\n  rankdir=LR;\n")?;
     for (index, source) in handed.sources.iter().enumerate() {
@@ -71,15 +69,15 @@ pub(crate) fn merged_dot(
         out.push_str("\"];\n")?;
     }
     let mut number = 0usize;
-    for (name, _) in merged.imports() {
+    for name in leading.keys() {
         write!(out, "  import{number} [shape=box, label=\"")?;
         push_escaped(&mut out, name)?;
         out.push_str("\"];\n")?;
         number = number.saturating_add(1);
     }
     number = 0;
-    for (name, _) in merged.imports() {
-        push_arrows(&mut out, handed, merged, number, name)?;
+    for calls in leading.values() {
+        push_arrows(&mut out, handed, number, calls)?;
         number = number.saturating_add(1);
     }
     out.push_str("}\n")?;
@@ -90,12 +88,11 @@ pub(crate) fn merged_dot(
 fn push_arrows(
     out: &mut String,
     handed: &Handed<'_>,
-    merged: &TypeAggregator,
     number: usize,
-    import: &str,
+    calls: &[usize],
 ) -> Result<(), AllocError> {
-    for (call, owner) in handed.calls.iter().zip(handed.owners) {
-        if merged.canonical_import_name(call.name) == import {
+    for index in calls {
+        if let (Some(call), Some(owner)) = (handed.calls.get(*index), handed.owners.get(*index)) {
             write!(out, "  world{owner} -> import{number} [label=\"")?;
             push_escaped(out, call.name)?;
             out.push_str("\"];\n")?;

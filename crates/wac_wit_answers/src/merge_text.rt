@@ -1,8 +1,8 @@
 //! Merged imports as WIT text.
 
-use super::handing::Handed;
+use super::handing::{Handed, Leading, calls_to};
 use super::merging::Source;
-use indexmap::IndexMap;
+use indexmap::{IndexMap, IndexSet};
 use std::alloc::{AllocError, Global};
 use wac_component::{InterfaceId, ItemKind, UsedType};
 use wac_types::TypeAggregator;
@@ -15,6 +15,7 @@ pub(crate) fn merged_text(
     alloc: Global,
     handed: &Handed<'_>,
     merged: &TypeAggregator,
+    leading: &Leading,
 ) -> Result<String, AllocError> {
     let mut imports = IndexMap::new(alloc);
     for (name, item) in merged.imports() {
@@ -32,13 +33,13 @@ pub(crate) fn merged_text(
     // the types, and with them the functions of resources
     for (name, item) in &imports {
         if is_in_types(name, *item) {
-            put_comments(&mut printer, handed, merged, name)?;
+            put_comments(&mut printer, handed, calls_to(leading, name))?;
         }
     }
     printer.put_types(&imports, &uses)?;
     for (name, item) in &imports {
         if !is_in_types(name, *item) {
-            put_comments(&mut printer, handed, merged, name)?;
+            put_comments(&mut printer, handed, calls_to(leading, name))?;
             printer.put_extern("import ", name, item)?;
         }
     }
@@ -60,13 +61,10 @@ fn is_in_types(name: &str, item: ItemKind) -> bool {
 fn put_comments(
     printer: &mut Printer<'_>,
     handed: &Handed<'_>,
-    merged: &TypeAggregator,
-    import: &str,
+    calls: &[usize],
 ) -> Result<(), AllocError> {
-    for (index, call) in handed.calls.iter().enumerate() {
-        if merged.canonical_import_name(call.name) == import
-            && let Some(source) = handed.source_of(index)
-        {
+    for index in calls {
+        if let (Some(call), Some(source)) = (handed.calls.get(*index), handed.source_of(*index)) {
             printer.begin()?;
             let (world, path, name) = (&source.name, &source.input.path, call.name);
             write!(printer.text, "// {name} of {world} in ")?;
@@ -132,9 +130,10 @@ type Named<'t> = (&'t str, Parts<'t>, InterfaceId);
 fn interfaces_of(alloc: Global, merged: &TypeAggregator) -> Result<Vec<Named<'_>>, AllocError> {
     let types = merged.types();
     let mut interfaces = Vec::new(alloc);
+    let mut known = IndexSet::new(alloc);
     for (name, item) in merged.imports() {
         if let ItemKind::Instance(id) = item {
-            push_interface(&mut interfaces, name, id)?;
+            push_interface(&mut interfaces, &mut known, name, id)?;
         }
     }
     for (_, item) in merged.imports() {
@@ -144,7 +143,7 @@ fn interfaces_of(alloc: Global, merged: &TypeAggregator) -> Result<Vec<Named<'_>
             for used in of.uses.values() {
                 let id = interface_id(types, used.interface).unwrap_or("");
                 let name = merged.canonical_import_name(id);
-                push_interface(&mut interfaces, name, used.interface)?;
+                push_interface(&mut interfaces, &mut known, name, used.interface)?;
             }
         }
     }
@@ -154,16 +153,15 @@ fn interfaces_of(alloc: Global, merged: &TypeAggregator) -> Result<Vec<Named<'_>
 // Puts an interface last that isn't there, if it has the name of one of a package.
 fn push_interface<'t>(
     interfaces: &mut Vec<Named<'t>>,
+    known: &mut IndexSet<InterfaceId>,
     name: &'t str,
     id: InterfaceId,
 ) -> Result<(), AllocError> {
     let Some(parts) = parts_of(name) else {
         return Ok(());
     };
-    for (_, _, known) in interfaces.iter() {
-        if *known == id {
-            return Ok(());
-        }
+    if !known.insert(id)? {
+        return Ok(());
     }
     match interfaces.push((name, parts, id)) {
         Ok(()) => Ok(()),
@@ -177,32 +175,66 @@ fn put_packages<'t>(
     printer: &mut Printer<'t>,
     interfaces: &[Named<'t>],
 ) -> Result<(), AllocError> {
-    let mut done: Vec<(&str, Option<&str>)> = Vec::new(alloc);
-    for (_, parts, _) in interfaces {
-        let package = (parts.package, parts.version);
-        if !done.iter().any(|it| *it == package) {
-            done.push(package)?;
-            put_package(alloc, printer, package, interfaces)?;
-        }
+    for indices in by_package(alloc, interfaces)?.values() {
+        put_package(printer, interfaces, indices)?;
     }
     Ok(())
 }
 
-fn put_package<'t>(
+// The indices of the interfaces of each package: of each name the first one's.
+fn by_package(
     alloc: Global,
-    printer: &mut Printer<'t>,
-    package: (&'t str, Option<&'t str>),
-    interfaces: &[Named<'t>],
+    interfaces: &[Named<'_>],
+) -> Result<IndexMap<String, Vec<usize>>, AllocError> {
+    let mut names = IndexSet::new(alloc);
+    let mut packages = IndexMap::new(alloc);
+    for (index, (name, parts, _)) in interfaces.iter().enumerate() {
+        if names.insert(String::from_str(alloc, name)?)? {
+            let package = package_key(alloc, parts)?;
+            push_index(alloc, &mut packages, package, index)?;
+        }
+    }
+    Ok(packages)
+}
+
+// A package with its version.
+fn package_key(alloc: Global, parts: &Parts<'_>) -> Result<String, AllocError> {
+    let package = parts.package;
+    match parts.version {
+        Some(version) => format!(in alloc; "{package}@{version}"),
+        None => String::from_str(alloc, package),
+    }
+}
+
+// Puts an index last among those of a package.
+fn push_index(
+    alloc: Global,
+    packages: &mut IndexMap<String, Vec<usize>>,
+    package: String,
+    index: usize,
 ) -> Result<(), AllocError> {
-    printer.put("\n")?;
-    printer.open_package(package.0, package.1, true)?;
-    let mut done: Vec<&str> = Vec::new(alloc);
-    for (name, parts, id) in interfaces {
-        let is_done = done.iter().any(|it| *it == *name);
-        if (parts.package, parts.version) == package && !is_done {
-            printer.put(if done.is_empty() { "" } else { "\n" })?;
+    if let Some(indices) = packages.get_mut(package.as_str()) {
+        indices.push(index)?;
+        return Ok(());
+    }
+    packages.insert(package, vec![in alloc; index]?)?;
+    Ok(())
+}
+
+fn put_package<'t>(
+    printer: &mut Printer<'t>,
+    interfaces: &[Named<'t>],
+    indices: &[usize],
+) -> Result<(), AllocError> {
+    let mut is_first = true;
+    for index in indices {
+        if let Some((_, parts, id)) = interfaces.get(*index) {
+            printer.put("\n")?;
+            if is_first {
+                printer.open_package(parts.package, parts.version, true)?;
+            }
             printer.put_interface(parts.name, *id)?;
-            done.push(*name)?;
+            is_first = false;
         }
     }
     printer.close()

@@ -6,7 +6,7 @@ ghost use Rattle.wac_wit_answers.specs.Calls.{AreHandedFrom};
 use super::answer::{Answer, json_text};
 use super::failure::Failure;
 use super::finding::find_world;
-use super::handing::{Handed, push_imports, push_owner};
+use super::handing::{Handed, leading_of, push_imports, push_owner};
 use super::input::{Input, Texts};
 use super::merge_forms::{merged_dot, merged_json};
 use super::merge_refusal::{refusal_json, refusal_text};
@@ -131,9 +131,10 @@ fn accepted_text(
     merged: &TypeAggregator,
     form: Form,
 ) -> Result<String, Failure> {
+    let leading = leading_of(alloc, handed.calls, merged)?;
     Ok(match form {
-        Form::Text => merged_text(alloc, handed, merged)?,
-        Form::Json => json_text(alloc, &merged_json(alloc, handed, merged)?)?,
-        Form::Dot => merged_dot(alloc, handed, merged)?,
+        Form::Text => merged_text(alloc, handed, merged, &leading)?,
+        Form::Json => json_text(alloc, &merged_json(alloc, handed, merged, &leading)?)?,
+        Form::Dot => merged_dot(alloc, handed, &leading)?,
     })
 }

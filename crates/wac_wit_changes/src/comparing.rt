@@ -2,11 +2,12 @@
 
 use super::checking::{fits_target, misfit};
 use super::problem::{Problem, fault_text, steps_of};
+use super::tracks::{by_tracks, on_track};
 use indexmap::IndexMap;
 use std::alloc::{AllocError, Global};
 use wac_component::{ExternKind, InterfaceId, ItemKind, Types, WorldId};
-use wac_types::{SubtypeError, TargetValidationReport, are_semver_compatible};
-use wac_wit_entries::{EntryError, interface, parts_of, sort_of, world};
+use wac_types::{SubtypeError, TargetValidationReport};
+use wac_wit_entries::{EntryError, interface, sort_of, world};
 use wac_wit_places::{Map, Place, Side, places_of};
 
 /// What is compared, of one collection: the old package and the new one, or a component's package
@@ -77,6 +78,18 @@ pub(crate) struct Worlds {
     pub(crate) component: WorldId,
     pub(crate) before: WorldId,
     pub(crate) after: WorldId,
+}
+
+// What the component's world and the other one import or export, by the tracks of the names.
+struct Tracks {
+    old: IndexMap<String, ItemKind>,
+    new: IndexMap<String, ItemKind>,
+}
+
+impl Drop for Tracks {
+    fn drop(self) {
+        let Tracks { old: _, new: _ } = self;
+    }
 }
 
 impl<'s, 'd> Pair<'s, 'd> {
@@ -234,10 +247,33 @@ impl<'s, 'd> Pair<'s, 'd> {
             let problem = Problem::new(self.alloc, fault, here, place)?;
             problems.push(self.under(problem, ExternKind::Export, name)?)?;
         }
+        self.push_mismatches(problems, worlds, report)
+    }
+
+    // Puts last why imports and exports don't fit.
+    fn push_mismatches(
+        &self,
+        problems: &mut Vec<Problem>,
+        worlds: &Worlds,
+        report: &TargetValidationReport,
+    ) -> Result<(), EntryError> {
+        let imports = self.tracks(worlds, ExternKind::Import)?;
+        let exports = self.tracks(worlds, ExternKind::Export)?;
         for (name, kind, _) in report.mismatched_types() {
-            self.push_extern(problems, worlds, *kind, name)?;
+            let tracks = match kind {
+                ExternKind::Import => &imports,
+                ExternKind::Export => &exports,
+            };
+            self.push_extern(problems, worlds, *kind, name, tracks)?;
         }
         Ok(())
+    }
+
+    fn tracks(&self, worlds: &Worlds, kind: ExternKind) -> Result<Tracks, EntryError> {
+        Ok(Tracks {
+            old: by_tracks(self.alloc, self.externs(worlds.component, kind)?)?,
+            new: by_tracks(self.alloc, self.externs(worlds.after, kind)?)?,
+        })
     }
 
     // Puts last why an import or an export doesn't fit.
@@ -247,9 +283,10 @@ impl<'s, 'd> Pair<'s, 'd> {
         worlds: &Worlds,
         kind: ExternKind,
         name: &str,
+        tracks: &Tracks,
     ) -> Result<(), EntryError> {
-        let old = self.extern_of(worlds.component, kind, name)?;
-        let new = self.extern_of(worlds.after, kind, name)?;
+        let old = self.extern_of(worlds.component, kind, name, &tracks.old)?;
+        let new = self.extern_of(worlds.after, kind, name, &tracks.new)?;
         let both = Both {
             old,
             new,
@@ -275,17 +312,31 @@ impl<'s, 'd> Pair<'s, 'd> {
     }
 
     // What a world imports or exports under a name, or else under one on the track of the name.
-    fn extern_of(&self, id: WorldId, kind: ExternKind, name: &str) -> Result<ItemKind, EntryError> {
+    fn extern_of(
+        &self,
+        id: WorldId,
+        kind: ExternKind,
+        name: &str,
+        tracks: &IndexMap<String, ItemKind>,
+    ) -> Result<ItemKind, EntryError> {
+        match on_track(self.alloc, self.externs(id, kind)?, tracks, name)? {
+            Some(item) => Ok(item),
+            None => Err(EntryError::Missing),
+        }
+    }
+
+    // What a world imports or exports.
+    fn externs(
+        &self,
+        id: WorldId,
+        kind: ExternKind,
+    ) -> Result<&'s IndexMap<String, ItemKind>, EntryError> {
         let Some(of) = world(self.types, id) else {
             return Err(EntryError::Missing);
         };
-        let items = match kind {
-            ExternKind::Import => &of.imports,
-            ExternKind::Export => &of.exports,
-        };
-        match on_track(self.alloc, items, name)? {
-            Some(item) => Ok(item),
-            None => Err(EntryError::Missing),
+        match kind {
+            ExternKind::Import => Ok(&of.imports),
+            ExternKind::Export => Ok(&of.exports),
         }
     }
 
@@ -355,24 +406,4 @@ fn places(
             Ok((before, after))
         }
     }
-}
-
-// The item under a name, or else one on the track of the name.
-fn on_track(
-    alloc: Global,
-    items: &IndexMap<String, ItemKind>,
-    name: &str,
-) -> Result<Option<ItemKind>, AllocError> {
-    if let Some(item) = items.get(name) {
-        return Ok(Some(*item));
-    }
-    if parts_of(name).is_none() {
-        return Ok(None);
-    }
-    for (other, item) in items {
-        if are_semver_compatible(alloc, other, name)? {
-            return Ok(Some(*item));
-        }
-    }
-    Ok(None)
 }

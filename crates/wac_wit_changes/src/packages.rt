@@ -3,13 +3,12 @@
 use super::comparing::{Pair, Question, Worlds};
 use super::problem::Problem;
 use super::report::{Added, Compared, PackageReport, Promise, Sort};
-use super::tracks::{Counterpart, counterpart_of, moved_world};
+use super::tracks::{Counterpart, NewPackages, by_tracks, moved_world, on_track};
 use indexmap::IndexMap;
 use std::alloc::{AllocError, Global};
 use wac_component::{InterfaceId, ItemKind, Types, WorldId};
-use wac_types::are_semver_compatible;
 use wac_wit::{SourceFile, Wit, WitPackage};
-use wac_wit_entries::{EntryError, interface, parts_of, sort_of, world};
+use wac_wit_entries::{EntryError, interface, sort_of, world};
 use wac_wit_places::{Map, Sources, syntax_of};
 use wac_wit_syntax::Document;
 
@@ -115,9 +114,10 @@ fn moves_of(
     old: &Wit,
     new: &Wit,
 ) -> Result<Vec<Move>, EntryError> {
+    let packages = NewPackages::new(alloc, &new.packages)?;
     let mut moves = Vec::new(alloc);
     for package in &old.packages {
-        let found = counterpart_of(alloc, package, new)?;
+        let found = packages.counterpart(alloc, package)?;
         let is_moved = match found {
             Some(it) => !it.is_on_track,
             None => false,
@@ -125,7 +125,7 @@ fn moves_of(
         let mut worlds = Vec::new(alloc);
         for id in package.worlds.values() {
             worlds.push(if is_moved {
-                moved_world(alloc, types, *id, new)?
+                moved_world(alloc, types, *id, new, &packages)?
             } else {
                 *id
             })?;
@@ -345,31 +345,12 @@ fn push_new_items(
     old: &IndexMap<String, ItemKind>,
     new: &IndexMap<String, ItemKind>,
 ) -> Result<(), AllocError> {
+    let tracks = by_tracks(alloc, old)?;
     for (name, item) in new {
-        if !has_on_track(alloc, old, name)? {
+        if on_track(alloc, old, &tracks, name)?.is_none() {
             let sort = sort_of(*item);
             added.push(format!(in alloc; "{before}{sort} `{name}`")?)?;
         }
     }
     Ok(())
-}
-
-// Whether an item stands under a name, or under one on its track.
-fn has_on_track(
-    alloc: Global,
-    items: &IndexMap<String, ItemKind>,
-    name: &str,
-) -> Result<bool, AllocError> {
-    if items.get(name).is_some() {
-        return Ok(true);
-    }
-    if parts_of(name).is_none() {
-        return Ok(false);
-    }
-    for other in items.keys() {
-        if are_semver_compatible(alloc, other, name)? {
-            return Ok(true);
-        }
-    }
-    Ok(false)
 }

@@ -3,7 +3,7 @@
 use indexmap::IndexMap;
 use std::alloc::{AllocError, Global};
 use wac_component::{ItemKind, Types, WorldId};
-use wac_types::are_semver_compatible;
+use wac_types::track_of;
 use wac_wit::{Wit, WitPackage};
 use wac_wit_entries::{EntryError, parts_of, version_of, world};
 
@@ -16,42 +16,92 @@ pub(crate) struct Counterpart {
     pub(crate) is_on_track: bool,
 }
 
-// Whether two versions of a package are on one track.
-fn are_on_one_track(alloc: Global, old: &WitPackage, new: &WitPackage) -> Result<bool, AllocError> {
-    match (version_of(&old.version), version_of(&new.version)) {
-        (Some(old_version), Some(new_version)) => {
-            let (old_name, new_name) = (old.name.as_str(), new.name.as_str());
-            let a = format!(in alloc; "{old_name}/a@{old_version}")?;
-            let b = format!(in alloc; "{new_name}/a@{new_version}")?;
-            are_semver_compatible(alloc, &a, &b)
-        }
-        (None, None) => Ok(true),
-        _ => Ok(false),
+/// The indices of new packages, by what is known of them.
+pub(crate) struct NewPackages {
+    // the last of each name
+    names: IndexMap<String, usize>,
+    // that of each name and version, as an interface `a` in it is identified
+    versions: IndexMap<String, usize>,
+    // the first on each track
+    tracks: IndexMap<String, usize>,
+}
+
+impl Drop for NewPackages {
+    fn drop(self) {
+        let NewPackages {
+            names: _,
+            versions: _,
+            tracks: _,
+        } = self;
     }
 }
 
-/// The new package of an old one's name: of several one of its version, or else one on its track,
-/// or else the last.
-pub(crate) fn counterpart_of(
-    alloc: Global,
-    old: &WitPackage,
-    new: &Wit,
-) -> Result<Option<Counterpart>, AllocError> {
-    let mut found: Option<Counterpart> = None;
-    for (index, package) in new.packages.iter().enumerate() {
-        if package.name == old.name {
-            let is_on_track = are_on_one_track(alloc, old, package)?;
-            let this = Counterpart { index, is_on_track };
-            if package.version == old.version {
-                return Ok(Some(this));
-            }
-            found = match found {
-                Some(other) if other.is_on_track => Some(other),
-                _ => Some(this),
-            };
+impl NewPackages {
+    /// Those of these packages.
+    pub(crate) fn new(alloc: Global, packages: &[WitPackage]) -> Result<NewPackages, AllocError> {
+        let mut known = NewPackages {
+            names: IndexMap::new(alloc),
+            versions: IndexMap::new(alloc),
+            tracks: IndexMap::new(alloc),
+        };
+        for (index, package) in packages.iter().enumerate() {
+            known.add(alloc, package, index)?;
+        }
+        Ok(known)
+    }
+
+    fn add(&mut self, alloc: Global, package: &WitPackage, index: usize) -> Result<(), AllocError> {
+        let version = id_in(alloc, &package.name, version_of(&package.version))?;
+        if let Some(track) = track_of(alloc, &version)?
+            && self.tracks.get(track).is_none()
+        {
+            self.tracks.insert(String::from_str(alloc, track)?, index)?;
+        }
+        self.versions.insert(version, index)?;
+        self.names.insert(package.name.clone()?, index)?;
+        Ok(())
+    }
+
+    // The package of a version, or else the first on its track.
+    fn on_track(&self, alloc: Global, version: &str) -> Result<Option<usize>, AllocError> {
+        if let Some(index) = self.versions.get(version) {
+            return Ok(Some(*index));
+        }
+        match track_of(alloc, version)? {
+            Some(track) => Ok(self.tracks.get(track).copied()),
+            None => Ok(None),
         }
     }
-    Ok(found)
+
+    /// The new package of an old one's name: of several one of its version, or else one on its
+    /// track, or else the last.
+    pub(crate) fn counterpart(
+        &self,
+        alloc: Global,
+        old: &WitPackage,
+    ) -> Result<Option<Counterpart>, AllocError> {
+        let version = id_in(alloc, &old.name, version_of(&old.version))?;
+        if let Some(index) = self.on_track(alloc, &version)? {
+            let is_on_track = true;
+            return Ok(Some(Counterpart { index, is_on_track }));
+        }
+        let is_on_track = false;
+        match self.names.get(old.name.as_str()) {
+            Some(index) => Ok(Some(Counterpart {
+                index: *index,
+                is_on_track,
+            })),
+            None => Ok(None),
+        }
+    }
+}
+
+// The identifier of an interface `a` in a package.
+fn id_in(alloc: Global, package: &str, version: Option<&str>) -> Result<String, AllocError> {
+    match version {
+        Some(version) => format!(in alloc; "{package}/a@{version}"),
+        None => format!(in alloc; "{package}/a"),
+    }
 }
 
 /// A world whose imports and exports have the versions that new packages have, where no new package
@@ -61,13 +111,14 @@ pub(crate) fn moved_world(
     types: &mut Types,
     id: WorldId,
     new: &Wit,
+    packages: &NewPackages,
 ) -> Result<WorldId, EntryError> {
     let Some(old) = world(types, id) else {
         return Err(EntryError::Missing);
     };
     let mut moved = old.clone()?;
-    moved.imports = moved_names(alloc, &moved.imports, new)?;
-    moved.exports = moved_names(alloc, &moved.exports, new)?;
+    moved.imports = moved_names(alloc, &moved.imports, new, packages)?;
+    moved.exports = moved_names(alloc, &moved.exports, new, packages)?;
     if !types.can_add_world(&moved) {
         return Err(EntryError::Missing);
     }
@@ -78,31 +129,71 @@ fn moved_names(
     alloc: Global,
     items: &IndexMap<String, ItemKind>,
     new: &Wit,
+    packages: &NewPackages,
 ) -> Result<IndexMap<String, ItemKind>, AllocError> {
     let mut moved = IndexMap::new(alloc);
     for (name, item) in items {
-        moved.insert(moved_name(alloc, name, new)?, *item)?;
+        moved.insert(moved_name(alloc, name, new, packages)?, *item)?;
     }
     Ok(moved)
 }
 
-fn moved_name(alloc: Global, id: &str, new: &Wit) -> Result<String, AllocError> {
-    let mut moved = String::from_str(alloc, id)?;
+fn moved_name(
+    alloc: Global,
+    id: &str,
+    new: &Wit,
+    packages: &NewPackages,
+) -> Result<String, AllocError> {
     let Some(parts) = parts_of(id) else {
-        return Ok(moved);
+        return String::from_str(alloc, id);
     };
-    for package in &new.packages {
-        if package.name.as_str() == parts.package {
-            let (of, name) = (parts.package, parts.name);
-            let there = match version_of(&package.version) {
-                Some(version) => format!(in alloc; "{of}/{name}@{version}")?,
-                None => format!(in alloc; "{of}/{name}")?,
-            };
-            if are_semver_compatible(alloc, &there, id)? {
-                return String::from_str(alloc, id);
-            }
-            moved = there;
+    let version = id_in(alloc, parts.package, parts.version)?;
+    if packages.on_track(alloc, &version)?.is_some() {
+        return String::from_str(alloc, id);
+    }
+    let Some(package) = last_named(new, packages, parts.package) else {
+        return String::from_str(alloc, id);
+    };
+    let (of, name) = (parts.package, parts.name);
+    match version_of(&package.version) {
+        Some(version) => format!(in alloc; "{of}/{name}@{version}"),
+        None => format!(in alloc; "{of}/{name}"),
+    }
+}
+
+// The last new package of a name.
+fn last_named<'n>(new: &'n Wit, packages: &NewPackages, name: &str) -> Option<&'n WitPackage> {
+    new.packages.get(*packages.names.get(name)?)
+}
+
+/// Items of a world by the tracks of their names, of several the first.
+pub(crate) fn by_tracks(
+    alloc: Global,
+    items: &IndexMap<String, ItemKind>,
+) -> Result<IndexMap<String, ItemKind>, AllocError> {
+    let mut tracks = IndexMap::new(alloc);
+    for (name, item) in items {
+        if let Some(track) = track_of(alloc, name)?
+            && tracks.get(track).is_none()
+        {
+            tracks.insert(String::from_str(alloc, track)?, *item)?;
         }
     }
-    Ok(moved)
+    Ok(tracks)
+}
+
+/// The item under a name, or else the one on its track, of items and the same by their tracks.
+pub(crate) fn on_track(
+    alloc: Global,
+    items: &IndexMap<String, ItemKind>,
+    tracks: &IndexMap<String, ItemKind>,
+    name: &str,
+) -> Result<Option<ItemKind>, AllocError> {
+    if let Some(item) = items.get(name) {
+        return Ok(Some(*item));
+    }
+    match track_of(alloc, name)? {
+        Some(track) => Ok(tracks.get(track).copied()),
+        None => Ok(None),
+    }
 }
