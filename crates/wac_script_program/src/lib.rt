@@ -31,5 +31,5 @@ mod status;
 pub use benchmarks::{BenchError, Benchmark, bench};
 pub use check::check_script;
 pub use command_line::run;
-pub use replaying::replay;
+pub use replaying::{go_on, replay};
 pub use status::{DIFFERING, DONE, FAILED, MALFORMED, usage};

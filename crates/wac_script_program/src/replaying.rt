@@ -20,8 +20,20 @@ pub fn replay<R: BufRead + Drop, W: Write, E: Write>(
     err: &mut E,
 ) -> u8 {
     let mut session = Session::new(alloc);
+    go_on(alloc, &mut session, reader, out, err)
+}
+
+/// Goes on with a script: as `replay`, over what a session has built so far. The lines before one
+/// that is refused, or that fails, have been carried out.
+pub fn go_on<R: BufRead + Drop, W: Write, E: Write>(
+    alloc: Global,
+    session: &mut Session,
+    reader: R,
+    out: &mut W,
+    err: &mut E,
+) -> u8 {
     for (i, line) in reader.lines(alloc).enumerate() {
-        match take(alloc, &mut session, i, &line, out, err) {
+        match take(alloc, session, i, &line, out, err) {
             DONE => {}
             status => return status,
         }

@@ -1,0 +1,20 @@
+-- What the calls of a session do, by the number that they return.
+use Rattle.std.specs.Prelude.{◌≡◌, ℤ, pos, negsuc}
+use Rattle.std.specs.declared.option.Option.{Option}
+use Rattle.std.specs.declared.option.Option.TheVariants.{None, Some}
+use Rattle.wac_dialogue.specs.declared.Dialogue.{Dialogue}
+
+-- there is a session
+abbrev pub IsThere : Option Dialogue → Type 0
+IsThere None = ⊥
+IsThere (Some d) = Unit {0}
+
+-- 0: a session has begun;  else nothing has changed
+abbrev pub IsBegun : Option Dialogue → Option Dialogue → ℤ → Type 0
+IsBegun old new (pos n) = (n ≡ 0) × IsThere new
+IsBegun old new (negsuc n) = new ≡ old
+
+-- a session that is there stays, and where there is none, the number says so
+abbrev pub IsKept : Option Dialogue → Option Dialogue → ℤ → Type 0
+IsKept None new r = (new ≡ None) × (r ≡ negsuc 2)
+IsKept (Some d) new r = IsThere new
