@@ -15,7 +15,7 @@
 #include <string.h>
 #include <unistd.h>
 
-#define ROOM (1 << 25)
+#define ROOM (1 << 20)
 #define BEHIND 64
 
 static uint8_t given[ROOM], out[ROOM + BEHIND], half[ROOM + BEHIND];
