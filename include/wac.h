@@ -14,7 +14,9 @@
  * Every input gets an answer or such a number: that the functions are safe and return is proved, for
  * each text, of what the compiler is given. They print nothing and read no file, and but for sessions
  * they keep nothing between calls, so threads may call them at the same time. They take memory by
- * `malloc` and `realloc`, and give all of it back before they return.
+ * `malloc` and `realloc`, and give back what isn't a session's before they return. These two and `free`
+ * have to be one allocator's, whose blocks are aligned as C asks, to 16 bytes where they have as many.
+ * No call comes from a signal handler, or from the forked child of a process with threads.
  */
 #ifndef WAC_H
 #define WAC_H
