@@ -7,6 +7,7 @@
 //! case or parameter that its fault speaks of.
 #![tactic(auto)]
 
+mod members;
 mod parts;
 mod sides;
 mod sources;

@@ -3,6 +3,7 @@
 use super::sides::Side;
 use super::sources::Place;
 use super::walking::Node;
+use indexmap::IndexSet;
 use std::alloc::{AllocError, Global};
 use wac_wit_syntax::{Case, Field, Ident, Span, TypeDef};
 
@@ -91,10 +92,18 @@ impl<'d> Parts<'d> {
         None
     }
 
-    // The first part whose name others don't have.
-    fn first_not_in(&self, others: &Parts<'_>) -> Option<Place> {
+    fn names(&self, alloc: Global) -> Result<IndexSet<String>, AllocError> {
+        let mut names = IndexSet::new(alloc);
         for part in &self.all {
-            if others.place_of(part.name).is_none() {
+            names.insert(String::from_str(alloc, part.name)?)?;
+        }
+        Ok(names)
+    }
+
+    // The first part whose name isn't among these.
+    fn first_not_in(&self, names: &IndexSet<String>) -> Option<Place> {
+        for part in &self.all {
+            if !names.contains(part.name) {
                 return Some(part.place);
             }
         }
@@ -130,10 +139,12 @@ pub(crate) fn added(
     let all_expected = parts_at(alloc, expected)?;
     let all_found = parts_at(alloc, found)?;
     if all_found.all.len() > all_expected.all.len() {
-        let place = all_found.first_not_in(&all_expected).or(whole(found));
+        let names = all_expected.names(alloc)?;
+        let place = all_found.first_not_in(&names).or(whole(found));
         return Ok((whole(expected), place));
     }
-    let place = all_expected.first_not_in(&all_found).or(whole(expected));
+    let names = all_found.names(alloc)?;
+    let place = all_expected.first_not_in(&names).or(whole(expected));
     Ok((place, whole(found)))
 }
 

@@ -1,12 +1,13 @@
 //! Where interfaces and worlds stand in the files of packages.
 
+use super::members::Members;
 use indexmap::IndexMap;
 use std::alloc::{AllocError, Global};
 use wac_wit_entries::EntryError;
 use wac_wit_names::SourceFile;
 use wac_wit_syntax::{
-    Document, FuncItem, Ident, InterfaceDecl, InterfaceItem, PackageName, Span, SyntaxError,
-    TopItem, TypeItem, WorldDecl, parse,
+    Document, Extern, Ident, InterfaceDecl, PackageName, Span, SyntaxError, TopItem, WorldDecl,
+    WorldItem, parse,
 };
 
 /// A place in a file of packages.
@@ -49,45 +50,12 @@ impl<'d> Decl<'d> {
     }
 }
 
-/// The functions and types of an interface, by their names.
-pub(crate) struct Members<'d> {
-    pub(crate) funcs: IndexMap<String, &'d FuncItem>,
-    pub(crate) types: IndexMap<String, &'d TypeItem>,
-}
-
-impl Drop for Members<'_> {
-    fn drop(self) {
-        let Members { funcs: _, types: _ } = self;
-    }
-}
-
-impl<'d> Members<'d> {
-    fn new(alloc: Global, items: &'d [InterfaceItem]) -> Result<Members<'d>, AllocError> {
-        let mut members = Members {
-            funcs: IndexMap::new(alloc),
-            types: IndexMap::new(alloc),
-        };
-        for item in items {
-            match item {
-                InterfaceItem::Func(it) => {
-                    members.funcs.insert(it.name.name.clone()?, it)?;
-                }
-                InterfaceItem::Type(it) => {
-                    members.types.insert(it.name.name.clone()?, it)?;
-                }
-                InterfaceItem::Use(_) => {}
-            }
-        }
-        Ok(members)
-    }
-}
-
 /// An interface or a world, and the file that it stands in.
 #[derive(Clone, Copy)]
 pub(crate) struct Site<'d> {
     pub(crate) file: usize,
     pub(crate) decl: Decl<'d>,
-    /// The index of an interface's members.
+    /// The index of its members.
     pub(crate) members: usize,
 }
 
@@ -153,8 +121,11 @@ impl<'d> Sources<'d> {
                 TopItem::Use(_) => continue,
             };
             let members = self.members.len();
-            if let Decl::Interface(it) = decl {
-                self.members.push(Members::new(alloc, &it.items)?)?;
+            match decl {
+                Decl::Interface(it) => {
+                    self.members.push(Members::of_interface(alloc, &it.items)?)?;
+                }
+                Decl::World(it) => self.push_world(alloc, &it.items)?,
             }
             let id = id_of(alloc, package, &decl.name().name)?;
             self.sites.insert(
@@ -169,7 +140,23 @@ impl<'d> Sources<'d> {
         Ok(())
     }
 
-    /// The members of an interface, by their index.
+    // Puts the members of a world last, and after them those of the interfaces that are written in
+    // it, in their order.
+    fn push_world(&mut self, alloc: Global, items: &'d [WorldItem]) -> Result<(), AllocError> {
+        let written = self.members.len().saturating_add(1);
+        self.members
+            .push(Members::of_world(alloc, items, written)?)?;
+        for item in items {
+            if let WorldItem::Import(it) | WorldItem::Export(it) = item
+                && let Extern::Inline(_, items) = &it.what
+            {
+                self.members.push(Members::of_interface(alloc, items)?)?;
+            }
+        }
+        Ok(())
+    }
+
+    /// The members of an interface or a world, by their index.
     pub(crate) fn members(&self, index: usize) -> Option<&Members<'d>> {
         self.members.get(index)
     }

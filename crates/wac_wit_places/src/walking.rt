@@ -1,26 +1,16 @@
 //! Goes along the path of a check through the syntax, so that each of its steps has a place.
 
+use super::members::{Member, Members};
 use super::sources::{Decl, Place, Sources};
 use wac_component::{InterfaceId, ItemKind, Types, UsedType, WorldId};
 use wac_types::Frame;
-use wac_wit_entries::{interface, interface_id, parts_of, world};
+use wac_wit_entries::{interface, interface_id, world};
 use wac_wit_syntax::{
-    Case, Extern, ExternItem, Field, FuncItem, Ident, InterfaceItem, Method, MethodKind, Signature,
-    Span, TypeDef, TypeExpr, TypeItem, WorldItem,
+    Case, Extern, Field, Ident, MethodKind, Signature, Span, TypeDef, TypeExpr, TypeItem,
 };
 
 // How many names of one type are followed, of which each leads to another.
 const MAX_ALIASES: usize = 1000;
-
-/// The items among which the names of types are looked up.
-#[derive(Clone, Copy)]
-pub(crate) enum Items<'d> {
-    /// Those of an interface of a package, by their index among the members.
-    Members(usize),
-    /// Those of an interface that is written in a world.
-    Inline(&'d [InterfaceItem]),
-    World(&'d [WorldItem]),
-}
 
 /// What knows where used types come from.
 #[derive(Clone, Copy)]
@@ -50,7 +40,8 @@ pub struct Walk<'d> {
     pub(crate) node: Node<'d>,
     /// Where it stands.
     pub place: Place,
-    items: Items<'d>,
+    // The index of the members of what it stands in.
+    members: usize,
     users: Users,
 }
 
@@ -70,7 +61,7 @@ impl<'d> Walk<'d> {
         Walk {
             node,
             place: Place { file, span },
-            items: self.items,
+            members: self.members,
             users: self.users,
         }
     }
@@ -120,7 +111,7 @@ impl<'d> Map<'_, 'd> {
         Some(Walk {
             node: Node::Items,
             place: site.place(),
-            items: Items::Members(site.members),
+            members: site.members,
             users: Users::Interface(id),
         })
     }
@@ -130,13 +121,13 @@ impl<'d> Map<'_, 'd> {
         let of = world(self.types, id)?;
         let name = of.id.as_ref()?;
         let site = self.sources.get(name)?;
-        let Decl::World(decl) = site.decl else {
+        let Decl::World(_) = site.decl else {
             return None;
         };
         Some(Walk {
             node: Node::Items,
             place: site.place(),
-            items: Items::World(&decl.items),
+            members: site.members,
             users: Users::World(id),
         })
     }
@@ -150,7 +141,7 @@ impl<'d> Map<'_, 'd> {
         if let Some(there) = self.at_instance(item) {
             return Some(there);
         }
-        match step(&walk, name, item) {
+        match self.written(&walk, name, item) {
             Some(there) => Some(there),
             None => Some(walk.leaf(walk.place.span)),
         }
@@ -178,7 +169,7 @@ impl<'d> Map<'_, 'd> {
         let Some(walk) = self.at_world(world) else {
             return None;
         };
-        if let Some(span) = span_among(walk.items, name) {
+        if let Some(span) = self.members(&walk)?.extern_span(name) {
             let file = walk.place.file;
             return Some(Place { file, span });
         }
@@ -193,7 +184,7 @@ impl<'d> Map<'_, 'd> {
         let mut at = Walk {
             node: walk.node,
             place: walk.place,
-            items: walk.items,
+            members: walk.members,
             users: walk.users,
         };
         for frame in frames {
@@ -221,57 +212,37 @@ impl<'d> Map<'_, 'd> {
         }
     }
 
+    // What stands where a position is, by its names.
+    fn members(&self, walk: &Walk<'d>) -> Option<&Members<'d>> {
+        self.sources.members(walk.members)
+    }
+
+    // From a world to an interface or a function that is written in it.
+    fn written(&self, walk: &Walk<'d>, name: &str, item: &ItemKind) -> Option<Walk<'d>> {
+        let found = self.members(walk)?.externs.get(name)?;
+        match &found.item.what {
+            Extern::Func(name, signature) => Some(walk.to(Node::Func(signature, false), name.span)),
+            Extern::Inline(name, _) => inline(walk, name, found.members, item),
+            Extern::Named(name, _) => Some(walk.leaf(name.span)),
+            Extern::Path(_) => None,
+        }
+    }
+
     /// To a member of an interface.
     pub(crate) fn member(&self, walk: &Walk<'d>, name: &str) -> Option<Walk<'d>> {
-        if let Some(method) = self.method_named(walk.items, name) {
-            let is_method = method.kind == MethodKind::Method;
-            return Some(walk.to(Node::Func(&method.signature, is_method), method.name.span));
+        match self.members(walk)?.names.get(name) {
+            Some(Member::Func(it)) => Some(walk.to(Node::Func(&it.signature, false), it.name.span)),
+            Some(Member::Method(it)) => {
+                let is_method = it.kind == MethodKind::Method;
+                Some(walk.to(Node::Func(&it.signature, is_method), it.name.span))
+            }
+            _ => self.type_named(walk, name),
         }
-        if let Some(func) = self.func_named(walk.items, name) {
-            return Some(walk.to(Node::Func(&func.signature, false), func.name.span));
-        }
-        self.type_named(walk, name)
-    }
-
-    // The function of a name.
-    fn func_named(&self, items: Items<'d>, name: &str) -> Option<&'d FuncItem> {
-        match items {
-            Items::Members(index) => self.sources.members(index)?.funcs.get(name).copied(),
-            Items::Inline(items) => func_among(items, name),
-            Items::World(_) => None,
-        }
-    }
-
-    // The type that is defined under a name.
-    fn typedef_named(&self, items: Items<'d>, name: &str) -> Option<&'d TypeItem> {
-        match items {
-            Items::Members(index) => self.sources.members(index)?.types.get(name).copied(),
-            Items::Inline(items) => typedef_among(items, name),
-            Items::World(items) => typedef_in_world(items, name),
-        }
-    }
-
-    // The function of a resource, as of `[method]r.f`.
-    fn method_named(&self, items: Items<'d>, full: &str) -> Option<&'d Method> {
-        let (word, rest) = full.strip_prefix('[')?.split_once(']')?;
-        let kind = match word {
-            "constructor" => MethodKind::Constructor,
-            "static" => MethodKind::Static,
-            _ => MethodKind::Method,
-        };
-        let (resource, name) = match rest.split_once('.') {
-            Some(parts) => parts,
-            None => (rest, word),
-        };
-        let TypeDef::Resource(methods) = &self.typedef_named(items, resource)?.def else {
-            return None;
-        };
-        method_among(methods, kind, name)
     }
 
     // To the definition of a type, in the interface that it comes from.
     fn type_named(&self, walk: &Walk<'d>, name: &str) -> Option<Walk<'d>> {
-        if let Some(item) = self.typedef_named(walk.items, name) {
+        if let Some(item) = self.members(walk)?.typedef(name) {
             return Some(walk.to(Node::Type(item), item.name.span));
         }
         let used = self.used(walk.users, name)?;
@@ -282,7 +253,7 @@ impl<'d> Map<'_, 'd> {
             Some(name) => name.as_str(),
             None => name,
         };
-        let item = self.typedef_named(root.items, name)?;
+        let item = self.members(&root)?.typedef(name)?;
         Some(root.to(Node::Type(item), item.name.span))
     }
 
@@ -353,27 +324,8 @@ impl<'d> Map<'_, 'd> {
     }
 }
 
-// From a world to an interface or a function that is written in it.
-fn step<'d>(walk: &Walk<'d>, name: &str, item: &ItemKind) -> Option<Walk<'d>> {
-    let Items::World(items) = walk.items else {
-        return None;
-    };
-    let extern_item = extern_named(items, name)?;
-    match &extern_item.what {
-        Extern::Func(name, signature) => Some(walk.to(Node::Func(signature, false), name.span)),
-        Extern::Inline(name, items) => inline(walk, name, items, item),
-        Extern::Named(name, _) => Some(walk.leaf(name.span)),
-        Extern::Path(_) => None,
-    }
-}
-
 // To an interface that is written in a world.
-fn inline<'d>(
-    walk: &Walk<'d>,
-    name: &'d Ident,
-    items: &'d [InterfaceItem],
-    item: &ItemKind,
-) -> Option<Walk<'d>> {
+fn inline<'d>(walk: &Walk<'d>, name: &Ident, members: usize, item: &ItemKind) -> Option<Walk<'d>> {
     let ItemKind::Instance(id) = item else {
         return None;
     };
@@ -382,7 +334,7 @@ fn inline<'d>(
     Some(Walk {
         node: Node::Items,
         place: Place { file, span },
-        items: Items::Inline(items),
+        members,
         users: Users::Interface(*id),
     })
 }
@@ -405,15 +357,6 @@ fn case_named<'d>(cases: &'d [Case], name: &str) -> Option<&'d Case> {
     None
 }
 
-fn method_among<'d>(methods: &'d [Method], kind: MethodKind, name: &str) -> Option<&'d Method> {
-    for method in methods {
-        if method.kind == kind && method.name.name.as_str() == name {
-            return Some(method);
-        }
-    }
-    None
-}
-
 // The part of a type without name to which a step leads.
 fn part_of<'d>(ty: &'d TypeExpr, frame: &Frame) -> Option<&'d TypeExpr> {
     match (ty, frame) {
@@ -429,82 +372,4 @@ fn part_of<'d>(ty: &'d TypeExpr, frame: &Frame) -> Option<&'d TypeExpr> {
         (TypeExpr::Tuple(items, _), Frame::Item(index)) => items.get(*index),
         _ => None,
     }
-}
-
-fn extern_named<'d>(items: &'d [WorldItem], name: &str) -> Option<&'d ExternItem> {
-    for item in items {
-        if let WorldItem::Import(it) | WorldItem::Export(it) = item
-            && let Some(ident) = name_of(it)
-            && ident.name.as_str() == name
-        {
-            return Some(it);
-        }
-    }
-    None
-}
-
-// Where an import or an export stands among the items of a world.
-fn span_among(items: Items<'_>, name: &str) -> Option<Span> {
-    match items {
-        Items::World(items) => extern_span(items, name),
-        _ => None,
-    }
-}
-
-// Where an import or an export stands, by its name or by the last name of its identifier.
-fn extern_span(items: &[WorldItem], name: &str) -> Option<Span> {
-    if let Some(item) = extern_named(items, name) {
-        return Some(name_of(item)?.span);
-    }
-    let last = parts_of(name)?.name;
-    for item in items {
-        if let WorldItem::Import(it) | WorldItem::Export(it) = item
-            && let Extern::Path(path) = &it.what
-            && path.name.name.as_str() == last
-        {
-            return Some(path.span);
-        }
-    }
-    None
-}
-
-// The name of an import or an export that has one of its own.
-fn name_of(item: &ExternItem) -> Option<&Ident> {
-    match &item.what {
-        Extern::Path(_) => None,
-        Extern::Func(name, _) | Extern::Inline(name, _) | Extern::Named(name, _) => Some(name),
-    }
-}
-
-fn func_among<'d>(items: &'d [InterfaceItem], name: &str) -> Option<&'d FuncItem> {
-    for item in items {
-        if let InterfaceItem::Func(it) = item
-            && it.name.name.as_str() == name
-        {
-            return Some(it);
-        }
-    }
-    None
-}
-
-fn typedef_among<'d>(items: &'d [InterfaceItem], name: &str) -> Option<&'d TypeItem> {
-    for item in items {
-        if let InterfaceItem::Type(it) = item
-            && it.name.name.as_str() == name
-        {
-            return Some(it);
-        }
-    }
-    None
-}
-
-fn typedef_in_world<'d>(items: &'d [WorldItem], name: &str) -> Option<&'d TypeItem> {
-    for item in items {
-        if let WorldItem::Type(it) = item
-            && it.name.name.as_str() == name
-        {
-            return Some(it);
-        }
-    }
-    None
 }
