@@ -21,6 +21,17 @@ pub fn compat(
     let mut types = Types::new(alloc, 1);
     let old = Input::read(alloc, &mut types, old, options.features)?;
     let new = Input::read(alloc, &mut types, new, options.features)?;
+    compared(alloc, &mut types, &old, &new, options.form)
+}
+
+// Compares what was read.
+fn compared(
+    alloc: Global,
+    types: &mut Types,
+    old: &Input,
+    new: &Input,
+    form: Form,
+) -> Result<Answer, Failure> {
     let before = Read {
         files: &old.files,
         wit: &old.wit,
@@ -29,10 +40,10 @@ pub fn compat(
         files: &new.files,
         wit: &new.wit,
     };
-    let reports = compare(alloc, &mut types, before, after)?;
-    let text = match options.form {
-        Form::Json => json_text(alloc, &reports_json(alloc, &old, &new, &reports)?)?,
-        _ => reports_text(alloc, &old, &new, &reports)?,
+    let reports = compare(alloc, types, before, after)?;
+    let text = match form {
+        Form::Json => json_text(alloc, &reports_json(alloc, old, new, &reports)?)?,
+        _ => reports_text(alloc, old, new, &reports)?,
     };
     let is_yes = reports.iter().all(|it| it.is_kept());
     Ok(Answer { is_yes, text })

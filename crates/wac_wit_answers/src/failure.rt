@@ -10,7 +10,7 @@ pub enum Failure {
     Refused(String),
     /// An allocation failed.
     Memory,
-    /// An entry isn't where another one says, which doesn't happen.
+    /// An entry isn't where another one says. No text is known that leads to this.
     Missing,
     /// A type is used from an interface without identifier, so that no target is checked.
     NoIdentifier,

@@ -17,6 +17,7 @@ mod input;
 mod lines;
 mod listing;
 mod merge_forms;
+mod merge_packages;
 mod merge_refusal;
 mod merge_text;
 mod merging;

@@ -19,10 +19,19 @@ pub fn list(
 ) -> Result<Answer, Failure> {
     let mut types = Types::new(alloc, 1);
     let input = Input::read(alloc, &mut types, texts, options.features)?;
+    listed(alloc, &types, &input, item)
+}
+
+fn listed(
+    alloc: Global,
+    types: &Types,
+    input: &Input,
+    item: Option<&str>,
+) -> Result<Answer, Failure> {
     let mut text = String::from_str(alloc, "script wit\ncoll 1\n")?;
     match item {
-        None => push_all(alloc, &mut text, &types)?,
-        Some(name) => push_named(alloc, &mut text, &types, &input, name)?,
+        None => push_all(alloc, &mut text, types)?,
+        Some(name) => push_named(alloc, &mut text, types, input, name)?,
     }
     let is_yes = true;
     Ok(Answer { is_yes, text })

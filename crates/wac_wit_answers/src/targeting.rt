@@ -25,23 +25,31 @@ pub fn targets(
     let to = Input::read(alloc, &mut types, target.1, options.features)?;
     let wanted = find_world(alloc, &types, &to, target.0)?;
     let problems = target_problems(alloc, &types, (&from.files, given), (&to.files, wanted))?;
-    let mut pointer = Pointer::new(alloc, &from, &to, Sides::Target);
-    let text = match options.form {
-        Form::Json => problems_json(alloc, &pointer, &problems)?,
-        _ => problems_text(alloc, &mut pointer, component.0, target.0, &problems)?,
+    let pointer = Pointer::new(alloc, &from, &to, Sides::Target);
+    verdict_of(pointer, (component.0, target.0), &problems, options.form)
+}
+
+fn verdict_of(
+    mut pointer: Pointer<'_>,
+    names: (&str, &str),
+    problems: &[Problem],
+    form: Form,
+) -> Result<Answer, Failure> {
+    let text = match form {
+        Form::Json => problems_json(&pointer, problems)?,
+        _ => problems_text(&mut pointer, names, problems)?,
     };
     let is_yes = problems.is_empty();
     Ok(Answer { is_yes, text })
 }
 
 fn problems_text(
-    alloc: Global,
     pointer: &mut Pointer<'_>,
-    component: &str,
-    target: &str,
+    names: (&str, &str),
     problems: &[Problem],
 ) -> Result<String, AllocError> {
-    let mut out = String::new(alloc);
+    let (component, target) = names;
+    let mut out = String::new(pointer.alloc);
     let verdict = if problems.is_empty() {
         "run"
     } else {
@@ -55,11 +63,8 @@ fn problems_text(
     Ok(out)
 }
 
-fn problems_json(
-    alloc: Global,
-    pointer: &Pointer<'_>,
-    problems: &[Problem],
-) -> Result<String, AllocError> {
+fn problems_json(pointer: &Pointer<'_>, problems: &[Problem]) -> Result<String, AllocError> {
+    let alloc = pointer.alloc;
     let mut all = Vec::new(alloc);
     for problem in problems {
         all.push(pointer.json(problem)?)?;

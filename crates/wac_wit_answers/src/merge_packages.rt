@@ -1,0 +1,129 @@
+//! The packages of merged interfaces as WIT text.
+
+use indexmap::{IndexMap, IndexSet};
+use std::alloc::{AllocError, Global};
+use wac_component::{InterfaceId, ItemKind};
+use wac_types::TypeAggregator;
+use wac_wit_entries::{Parts, interface, interface_id, parts_of};
+use wac_wit_text::Printer;
+
+/// An interface of a package, under the name that leads to it.
+pub(crate) type Named<'t> = (&'t str, Parts<'t>, InterfaceId);
+
+/// The interfaces of packages that are imported, and those whose types they use. An interface keeps
+/// the identifier of the first that was merged into it, and is imported under the highest one.
+pub(crate) fn interfaces_of(
+    alloc: Global,
+    merged: &TypeAggregator,
+) -> Result<Vec<Named<'_>>, AllocError> {
+    let types = merged.types();
+    let mut interfaces = Vec::new(alloc);
+    let mut known = IndexSet::new(alloc);
+    for (name, item) in merged.imports() {
+        if let ItemKind::Instance(id) = item {
+            push_interface(&mut interfaces, &mut known, name, id)?;
+        }
+    }
+    for (_, item) in merged.imports() {
+        if let ItemKind::Instance(id) = item
+            && let Some(of) = interface(types, id)
+        {
+            for used in of.uses.values() {
+                let id = interface_id(types, used.interface).unwrap_or("");
+                let name = merged.canonical_import_name(id);
+                push_interface(&mut interfaces, &mut known, name, used.interface)?;
+            }
+        }
+    }
+    Ok(interfaces)
+}
+
+// Puts an interface last that isn't there, if it has the name of one of a package.
+fn push_interface<'t>(
+    interfaces: &mut Vec<Named<'t>>,
+    known: &mut IndexSet<InterfaceId>,
+    name: &'t str,
+    id: InterfaceId,
+) -> Result<(), AllocError> {
+    let Some(parts) = parts_of(name) else {
+        return Ok(());
+    };
+    if !known.insert(id)? {
+        return Ok(());
+    }
+    match interfaces.push((name, parts, id)) {
+        Ok(()) => Ok(()),
+        Err(_) => Err(AllocError),
+    }
+}
+
+/// Writes the interfaces of each package in braces.
+pub(crate) fn put_packages<'t>(
+    alloc: Global,
+    printer: &mut Printer<'t>,
+    interfaces: &[Named<'t>],
+) -> Result<(), AllocError> {
+    for indices in by_package(alloc, interfaces)?.values() {
+        put_package(printer, interfaces, indices)?;
+    }
+    Ok(())
+}
+
+// The indices of the interfaces of each package: of each name the first one's.
+fn by_package(
+    alloc: Global,
+    interfaces: &[Named<'_>],
+) -> Result<IndexMap<String, Vec<usize>>, AllocError> {
+    let mut names = IndexSet::new(alloc);
+    let mut packages = IndexMap::new(alloc);
+    for (index, (name, parts, _)) in interfaces.iter().enumerate() {
+        if names.insert(String::from_str(alloc, name)?)? {
+            let package = package_key(alloc, parts)?;
+            push_index(alloc, &mut packages, package, index)?;
+        }
+    }
+    Ok(packages)
+}
+
+// A package with its version.
+fn package_key(alloc: Global, parts: &Parts<'_>) -> Result<String, AllocError> {
+    let package = parts.package;
+    match parts.version {
+        Some(version) => format!(in alloc; "{package}@{version}"),
+        None => String::from_str(alloc, package),
+    }
+}
+
+// Puts an index last among those of a package.
+fn push_index(
+    alloc: Global,
+    packages: &mut IndexMap<String, Vec<usize>>,
+    package: String,
+    index: usize,
+) -> Result<(), AllocError> {
+    if let Some(indices) = packages.get_mut(package.as_str()) {
+        indices.push(index)?;
+        return Ok(());
+    }
+    packages.insert(package, vec![in alloc; index]?)?;
+    Ok(())
+}
+
+fn put_package<'t>(
+    printer: &mut Printer<'t>,
+    interfaces: &[Named<'t>],
+    indices: &[usize],
+) -> Result<(), AllocError> {
+    let mut is_first = true;
+    for index in indices {
+        if let Some((_, parts, id)) = interfaces.get(*index) {
+            printer.put("\n")?;
+            if is_first {
+                printer.open_package(parts.package, parts.version, true)?;
+            }
+            printer.put_interface(parts.name, *id)?;
+            is_first = false;
+        }
+    }
+    printer.close()
+}
