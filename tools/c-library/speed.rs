@@ -2,8 +2,9 @@
 //! or asked of a session that was fed that once. A question is whether an instance of COUNT functions
 //! fits where an equal one of another collection is asked for.
 //!
-//!     rustc --edition 2024 -O tools/c-library/speed.rs -Lnative=crates/wac_c/out -Lnative="$KIT/c" \
-//!         -lstatic=wac_c -lstatic=libc_c && ./speed [COUNT]...
+//!     tools/c-library/build OUT
+//!     rustc --edition 2024 -O tools/c-library/speed.rs -Lnative=OUT -lstatic=wac_c -lstatic=libc_c
+//!     ./speed [COUNT]...
 //!
 //! Prints a line for each COUNT, with nanoseconds a question: the least of many short samples.
 

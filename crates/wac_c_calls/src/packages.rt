@@ -1,9 +1,10 @@
 //! Answers about packages of WIT.
 
-use super::answer::{NoAnswer, text_of};
+use super::answer::{NoAnswer, put_answer, text_of};
 use std::alloc::Global;
 use wac_wit::{Features, SourceFile};
-use wac_wit_answers::{Answer, Failure, Form, Options, Texts, compat, merge, targets};
+use wac_wit_answers as wit;
+use wac_wit_answers::{Answer, Failure, Form, Options, Texts};
 
 // Answers are JSON, and what stands behind `@unstable` is off.
 static OPTIONS: Options<'static> = Options {
@@ -11,15 +12,30 @@ static OPTIONS: Options<'static> = Options {
     form: Form::Json,
 };
 
-/// What breaks in new packages.
-pub(crate) fn compat_answer(alloc: Global, old: &[u8], new: &[u8]) -> Result<String, NoAnswer> {
-    let old = texts(alloc, "old.wit", old)?;
-    let new = texts(alloc, "new.wit", new)?;
-    said(alloc, compat(alloc, old, new, &OPTIONS))
+/// Says whether the packages of the text `new` serve whoever was built against those of `old`, as
+/// `wac-wit compat --json` prints it.
+pub fn compat(alloc: Global, old: &[u8], new: &[u8], out: &mut [u8]) -> isize {
+    put_answer(compat_answer(alloc, old, new), out)
 }
 
-/// Whether components of a world run in another. Each is given by its name and its text.
-pub(crate) fn targets_answer(
+fn compat_answer(alloc: Global, old: &[u8], new: &[u8]) -> Result<String, NoAnswer> {
+    let old = texts(alloc, "old.wit", old)?;
+    let new = texts(alloc, "new.wit", new)?;
+    said(alloc, wit::compat(alloc, old, new, &OPTIONS))
+}
+
+/// Says whether a component that imports and exports all of a world runs where another is the
+/// target, as `wac-wit targets --json` prints it. Each is given by its name and its text.
+pub fn targets(
+    alloc: Global,
+    component: (&[u8], &[u8]),
+    target: (&[u8], &[u8]),
+    out: &mut [u8],
+) -> isize {
+    put_answer(targets_answer(alloc, component, target), out)
+}
+
+fn targets_answer(
     alloc: Global,
     component: (&[u8], &[u8]),
     target: (&[u8], &[u8]),
@@ -29,17 +45,22 @@ pub(crate) fn targets_answer(
         texts(alloc, "component.wit", component.1)?,
     );
     let target = (text_of(target.0)?, texts(alloc, "target.wit", target.1)?);
-    said(alloc, targets(alloc, component, target, &OPTIONS))
+    said(alloc, wit::targets(alloc, component, target, &OPTIONS))
 }
 
-/// The merged imports of worlds of one text.
-pub(crate) fn merge_answer(alloc: Global, worlds: &[u8], wit: &[u8]) -> Result<String, NoAnswer> {
+/// Merges the imports of components of worlds, whose names stand in `worlds` with blanks between
+/// them, as `wac-wit merge --json` prints them.
+pub fn merge(alloc: Global, worlds: &[u8], text: &[u8], out: &mut [u8]) -> isize {
+    put_answer(merge_answer(alloc, worlds, text), out)
+}
+
+fn merge_answer(alloc: Global, worlds: &[u8], text: &[u8]) -> Result<String, NoAnswer> {
     let mut named = Vec::new(alloc);
     for name in text_of(worlds)?.split_whitespace() {
         let name = String::from_str(alloc, name)?;
-        named.push((name, texts(alloc, "worlds.wit", wit)?))?;
+        named.push((name, texts(alloc, "worlds.wit", text)?))?;
     }
-    said(alloc, merge(alloc, named, &OPTIONS))
+    said(alloc, wit::merge(alloc, named, &OPTIONS))
 }
 
 // A text as the only one of its packages.

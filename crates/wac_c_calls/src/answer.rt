@@ -43,7 +43,7 @@ pub(crate) fn length_of(bytes: &[u8]) -> isize {
 }
 
 /// Writes the bytes that fit into a buffer, and gives the number of all.
-pub(crate) fn put(bytes: &[u8], out: &mut [u8]) -> isize
+pub fn put(bytes: &[u8], out: &mut [u8]) -> isize
     ensures { out.new ≡ take (length out.old) bytes.now ++ drop (length bytes.now) out.old }
 {
     if bytes.len() <= out.len() {

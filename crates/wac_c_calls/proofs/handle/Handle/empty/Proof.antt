@@ -1,10 +1,10 @@
 -- `empty` makes a handle that owns nothing.
-use Rattle.wac_c.proofs.Steps.{◌≡◌, List, [], ◌∷◌, ◌++◌, refl, sym, subst, Val, SProp, ent, emp, id⊢, ftrue, WpFn, ‵, raw, ◌⊛◌, ◌$◌, ◌∵◌, !, qed, by, move, keep, split, fsplit, fjoin, suffices, use0, feq_i, lit, no_more, and_then, returns, enter, alloc_all, pass_all, free_all, look_at, get, sets, agg, fact, fact_i, tables, yes, owns, plain, Ptr, null_ptr, ptr_val, nothing, Stays, stay_dropped, walk_of, Goes-dropped, handle_tells, proved_at, leaves, None, both}
-use Rattle.wac_c.proofs.Values.{Z, al, handle_good, handle_in}
-use Rattle.wac_c.specs.contracts.handle.Handle.empty as f
-use Rattle.wac_c.specs.contracts.handle.Handle.empty.Key.{name as #self}
-use Rattle.wac_c.proofs.handle.Handle.empty.Statement.{statement}
-use Rattle.wac_c.proofs.handle.Handle.empty.Code as code
+use Rattle.wac_c_calls.proofs.Steps.{◌≡◌, List, [], ◌∷◌, ◌++◌, refl, sym, subst, Val, SProp, ent, emp, id⊢, ftrue, WpFn, ‵, raw, ◌⊛◌, ◌$◌, ◌∵◌, !, qed, by, move, keep, split, fsplit, fjoin, suffices, use0, feq_i, lit, no_more, and_then, returns, enter, alloc_all, pass_all, free_all, look_at, get, sets, agg, fact, fact_i, tables, yes, owns, plain, Ptr, null_ptr, ptr_val, nothing, Stays, stay_dropped, walk_of, Goes-dropped, handle_tells, proved_at, leaves, None, both}
+use Rattle.wac_c_calls.proofs.Values.{Z, al, handle_good, handle_in}
+use Rattle.wac_c_calls.specs.contracts.handle.Handle.empty as f
+use Rattle.wac_c_calls.specs.contracts.handle.Handle.empty.Key.{name as #self}
+use Rattle.wac_c_calls.proofs.handle.Handle.empty.Statement.{statement}
+use Rattle.wac_c_calls.proofs.handle.Handle.empty.Code as code
 
 abbrev hs : Stays f.ended.signature.params f.ended.kept
 hs = (stay_dropped (plain (λ _. Z)) yes, tt)

@@ -25,7 +25,7 @@ use Rattle.std.specs.declared.option.Option.{Option}
 use Rattle.wac_raw_box.proofs.Values.{both}
 use Rattle.wac_raw_box.specs.Ownership.{handle_owns}
 use Rattle.wac_dialogue.specs.contracts.Dialogue.{the_row as R}
-use Rattle.wac_c.specs.contracts.handle.Handle as handle
+use Rattle.wac_c_calls.specs.contracts.handle.Handle as handle
 
 abbrev pub Z : RattleType
 Z = heap.the_row

@@ -4,6 +4,13 @@ use super::answer::{NO_MEMORY, NO_TEXT, length_of, put, text_of};
 use std::alloc::Global;
 use wac_dialogue::Dialogue;
 
+/// Gives the answers of a script, as `wac-replay` prints them: a line or more for each question. A
+/// line that is malformed, or that names what isn't there, ends them, with a last line that says
+/// its number and what is wrong with it.
+pub fn answer_script(alloc: Global, script: &[u8], out: &mut [u8]) -> isize {
+    ask(alloc, &mut Dialogue::new(alloc), script, out)
+}
+
 /// Carries out a piece of a script, and gives the length of its answer, or why there is none.
 pub(crate) fn feed(alloc: Global, dialogue: &mut Dialogue, script: &[u8]) -> isize {
     if text_of(script).is_err() {

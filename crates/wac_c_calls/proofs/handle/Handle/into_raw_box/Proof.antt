@@ -1,10 +1,10 @@
 -- `into_raw_box` tests the pointer, and has the box where it is not null.
-use Rattle.wac_c.proofs.Steps.{◌≡◌, List, [], ◌∷◌, ◌++◌, refl, sym, ap, ◌∙◌, subst, lit<, Val, vptr, vcons, vnil, SProp, ent, emp, id⊢, ftrue, WpFn, ‵, raw, ◌⊛◌, at_ret, ◌$◌, ◌∵◌, !, qed, by, move, keep, split, fsplit, fjoin, suffices, use0, use1, stop, fld, lit, of_opd, bin, no_more, and_then, first, branches, exec, returns, enter, alloc_all, pass_all, free_all, look_at, get, get_in, sets, sets_last, env, agg, sub, whole, live, fact, fact_i, tables, yes, RattleType, owns, plain, type_at, Ptr, block_ptr, null_ptr, ptr_val, tests_null, nothing, layout, Stays, stay_dropped, walk_of, Goes-dropped, after, Good, Some-of, none_of, and_tt, proved_at, leaves, None, Some, both, R, RawBox, raw_box_good, raw_box_in, ghosts, handle_cases}
-use Rattle.wac_c.proofs.Values.{Z, LZ, Handle, handle_good, handle_out}
-use Rattle.wac_c.specs.contracts.handle.Handle.into_raw_box as f
-use Rattle.wac_c.specs.contracts.handle.Handle.into_raw_box.Key.{name as #self}
-use Rattle.wac_c.proofs.handle.Handle.into_raw_box.Statement.{statement}
-use Rattle.wac_c.proofs.handle.Handle.into_raw_box.Code as code
+use Rattle.wac_c_calls.proofs.Steps.{◌≡◌, List, [], ◌∷◌, ◌++◌, refl, sym, ap, ◌∙◌, subst, lit<, Val, vptr, vcons, vnil, SProp, ent, emp, id⊢, ftrue, WpFn, ‵, raw, ◌⊛◌, at_ret, ◌$◌, ◌∵◌, !, qed, by, move, keep, split, fsplit, fjoin, suffices, use0, use1, stop, fld, lit, of_opd, bin, no_more, and_then, first, branches, exec, returns, enter, alloc_all, pass_all, free_all, look_at, get, get_in, sets, sets_last, env, agg, sub, whole, live, fact, fact_i, tables, yes, RattleType, owns, plain, type_at, Ptr, block_ptr, null_ptr, ptr_val, tests_null, nothing, layout, Stays, stay_dropped, walk_of, Goes-dropped, after, Good, Some-of, none_of, and_tt, proved_at, leaves, None, Some, both, R, RawBox, raw_box_good, raw_box_in, ghosts, handle_cases}
+use Rattle.wac_c_calls.proofs.Values.{Z, LZ, Handle, handle_good, handle_out}
+use Rattle.wac_c_calls.specs.contracts.handle.Handle.into_raw_box as f
+use Rattle.wac_c_calls.specs.contracts.handle.Handle.into_raw_box.Key.{name as #self}
+use Rattle.wac_c_calls.proofs.handle.Handle.into_raw_box.Statement.{statement}
+use Rattle.wac_c_calls.proofs.handle.Handle.into_raw_box.Code as code
 
 abbrev Lr : RattleType
 Lr = RawBox R Z LZ ghosts

@@ -1,10 +1,10 @@
 -- `of` takes the pointer and the right to the box.
-use Rattle.wac_c.proofs.Steps.{◌≡◌, List, [], ◌∷◌, ◌++◌, refl, sym, subst, Val, vptr, SProp, ent, emp, id⊢, ftrue, WpFn, ‵, raw, ◌⊛◌, ◌$◌, ◌∵◌, !, qed, by, move, keep, split, fsplit, fjoin, suffices, use0, stop, fld, of_opd, no_more, and_then, returns, enter, alloc_all, pass_all, free_all, look_at, get, get_in, sets, agg, sub, whole, fact, fact_i, tables, yes, RattleType, owns, plain, block_ptr, nothing, Stays, stay_dropped, walk_of, Goes-dropped, proved_at, leaves, Some, both, R, RawBox, raw_box_good, raw_box_out, ghosts}
-use Rattle.wac_c.proofs.Values.{Z, LZ, handle_good, handle_in}
-use Rattle.wac_c.specs.contracts.handle.Handle.of as f
-use Rattle.wac_c.specs.contracts.handle.Handle.of.Key.{name as #self}
-use Rattle.wac_c.proofs.handle.Handle.of.Statement.{statement}
-use Rattle.wac_c.proofs.handle.Handle.of.Code as code
+use Rattle.wac_c_calls.proofs.Steps.{◌≡◌, List, [], ◌∷◌, ◌++◌, refl, sym, subst, Val, vptr, SProp, ent, emp, id⊢, ftrue, WpFn, ‵, raw, ◌⊛◌, ◌$◌, ◌∵◌, !, qed, by, move, keep, split, fsplit, fjoin, suffices, use0, stop, fld, of_opd, no_more, and_then, returns, enter, alloc_all, pass_all, free_all, look_at, get, get_in, sets, agg, sub, whole, fact, fact_i, tables, yes, RattleType, owns, plain, block_ptr, nothing, Stays, stay_dropped, walk_of, Goes-dropped, proved_at, leaves, Some, both, R, RawBox, raw_box_good, raw_box_out, ghosts}
+use Rattle.wac_c_calls.proofs.Values.{Z, LZ, handle_good, handle_in}
+use Rattle.wac_c_calls.specs.contracts.handle.Handle.of as f
+use Rattle.wac_c_calls.specs.contracts.handle.Handle.of.Key.{name as #self}
+use Rattle.wac_c_calls.proofs.handle.Handle.of.Statement.{statement}
+use Rattle.wac_c_calls.proofs.handle.Handle.of.Code as code
 
 abbrev Lr : RattleType
 Lr = RawBox R Z LZ ghosts
