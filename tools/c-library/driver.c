@@ -105,6 +105,8 @@ static int holds_in_less(char kind, const struct text *texts, ptrdiff_t length)
     if (ask(kind, texts, half, 0) != length)
         return 0;
     size_t room = length > 0 ? (size_t)length / 2 : BEHIND;
+    if (room > ROOM)
+        room = ROOM;
     memset(half, 0xa5, room + BEHIND);
     if (ask(kind, texts, half, room) != length)
         return 0;
