@@ -1,2 +1,4 @@
+mod Handles
+mod RawBoxes
 mod Steps
 mod Values

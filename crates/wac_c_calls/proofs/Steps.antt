@@ -26,6 +26,6 @@ pub use Rattle.std.proofs.ResultValues.{and_tt}
 pub use Rattle.std.proofs.raw_atomic.Walks.{proved_at, leaves}
 pub use Rattle.std.specs.contracts.impls.GlobalAllocator.TheImpl.{ghosts}
 pub use Rattle.std.specs.declared.option.Option.TheVariants.{None, Some}
-pub use Rattle.wac_dialogue.specs.contracts.Dialogue.{the_row as R}
-pub use Rattle.wac_raw_box.proofs.Values.{both, RawBox, raw_box_good, raw_box_in, raw_box_out}
-pub use Rattle.wac_raw_box.proofs.Handles.{handle_cases}
+pub use Rattle.wac_script_program.specs.contracts.dialogue.Dialogue.{the_row as R}
+pub use Rattle.wac_c_calls.proofs.RawBoxes.{both, RawBox, raw_box_good, raw_box_in, raw_box_out}
+pub use Rattle.wac_c_calls.proofs.Handles.{handle_cases}

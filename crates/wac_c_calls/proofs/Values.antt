@@ -22,9 +22,9 @@ use Rattle.std.proofs.alloc.Global.TheLaws as heap_laws
 use Rattle.std.specs.contracts.impls.GlobalAllocator.TheImpl.{ghosts}
 use Rattle.std.proofs.ResultValues.{and_tt}
 use Rattle.std.specs.declared.option.Option.{Option}
-use Rattle.wac_raw_box.proofs.Values.{both}
-use Rattle.wac_raw_box.specs.Ownership.{handle_owns}
-use Rattle.wac_dialogue.specs.contracts.Dialogue.{the_row as R}
+use Rattle.wac_c_calls.proofs.RawBoxes.{both}
+use Rattle.wac_c_calls.specs.Ownership.{handle_owns}
+use Rattle.wac_script_program.specs.contracts.dialogue.Dialogue.{the_row as R}
 use Rattle.wac_c_calls.specs.contracts.handle.Handle as handle
 
 abbrev pub Z : RattleType

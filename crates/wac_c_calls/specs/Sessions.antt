@@ -2,7 +2,7 @@
 use Rattle.std.specs.Prelude.{◌≡◌, ℤ, pos, negsuc}
 use Rattle.std.specs.declared.option.Option.{Option}
 use Rattle.std.specs.declared.option.Option.TheVariants.{None, Some}
-use Rattle.wac_dialogue.specs.declared.Dialogue.{Dialogue}
+use Rattle.wac_script_program.specs.declared.dialogue.Dialogue.{Dialogue}
 
 -- there is a session
 abbrev pub IsThere : Option Dialogue → Type 0

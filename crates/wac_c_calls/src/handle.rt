@@ -6,15 +6,15 @@ ghost use Rattle.std.specs.Option.{MatchOption};
 ghost use Rattle.std.specs.declared.option.Option.{Option as Maybe};
 ghost use Rattle.std.specs.declared.option.Option.TheVariants.{None, Some};
 ghost use Rattle.std.specs.contracts.option.Option.{the_row as option_row};
-ghost use Rattle.wac_dialogue.specs.declared.Dialogue.{Dialogue as DialogueValue};
-ghost use Rattle.wac_dialogue.specs.contracts.Dialogue.{the_row as dialogue_row};
-ghost use Rattle.wac_raw_box.specs.Ownership.{handle_owns};
+ghost use Rattle.wac_script_program.specs.declared.dialogue.Dialogue.{Dialogue as DialogueValue};
+ghost use Rattle.wac_script_program.specs.contracts.dialogue.Dialogue.{the_row as dialogue_row};
+ghost use Rattle.wac_c_calls.specs.Ownership.{handle_owns};
 
+use super::raw_box::RawBox;
 use std::alloc::Global;
 use std::marker::Model;
 use std::ptr::null_mut;
-use wac_dialogue::Dialogue;
-use wac_raw_box::RawBox;
+use wac_script_program::Dialogue;
 
 /// A `wac_session` of C: the pointer of a script that goes on, or null for none.
 #[repr(C)]

@@ -9,6 +9,7 @@
 mod answer;
 mod handle;
 mod packages;
+mod raw_box;
 mod scripts;
 mod sessions;
 

@@ -2,7 +2,7 @@
 
 use super::answer::{NO_MEMORY, NO_TEXT, length_of, put, text_of};
 use std::alloc::Global;
-use wac_dialogue::Dialogue;
+use wac_script_program::Dialogue;
 
 /// Gives the answers of a script, as `wac-replay` prints them: a line or more for each question. A
 /// line that is malformed, or that names what isn't there, ends them, with a last line that says

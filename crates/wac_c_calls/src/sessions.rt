@@ -7,11 +7,11 @@ ghost use Rattle.wac_c_calls.specs.Sessions.{IsBegun, IsKept};
 
 use super::answer::{NO_MEMORY, NO_SESSION};
 use super::handle::Handle;
+use super::raw_box::RawBox;
 use super::scripts::{ask, feed};
 use std::alloc::Global;
 use std::mem::replace;
-use wac_dialogue::Dialogue;
-use wac_raw_box::RawBox;
+use wac_script_program::Dialogue;
 
 /// Begins a session; one that is there is ended. Gives 0, or the number for want of memory.
 pub fn session_new(alloc: Global, session: &mut Handle) -> isize

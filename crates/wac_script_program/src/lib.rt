@@ -24,6 +24,7 @@
 mod benchmarks;
 mod check;
 mod command_line;
+mod dialogue;
 mod failure;
 mod replaying;
 mod status;
@@ -31,5 +32,6 @@ mod status;
 pub use benchmarks::{BenchError, Benchmark, bench};
 pub use check::check_script;
 pub use command_line::run;
-pub use replaying::{go_on, replay};
+pub use dialogue::Dialogue;
+pub use replaying::replay;
 pub use status::{DIFFERING, DONE, FAILED, MALFORMED, usage};

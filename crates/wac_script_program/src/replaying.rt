@@ -25,7 +25,7 @@ pub fn replay<R: BufRead + Drop, W: Write, E: Write>(
 
 /// Goes on with a script: as `replay`, over what a session has built so far. The lines before one
 /// that is refused, or that fails, have been carried out.
-pub fn go_on<R: BufRead + Drop, W: Write, E: Write>(
+pub(crate) fn go_on<R: BufRead + Drop, W: Write, E: Write>(
     alloc: Global,
     session: &mut Session,
     reader: R,

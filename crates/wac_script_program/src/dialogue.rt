@@ -1,8 +1,8 @@
 //! A script that is carried out piece by piece, with what the last piece answered.
-#![tactic(auto)]
 
+use super::replaying::go_on;
+use super::status::FAILED;
 use std::alloc::{AllocError, Global};
-use wac_script_program::{FAILED, go_on};
 use wac_script_session::Session;
 
 /// A script that goes on.

@@ -1,5 +1,4 @@
 //! A box as its pointer, so that it can be kept where no box can stand, as in what C holds.
-#![tactic(auto)]
 
 ghost use Rattle.std.specs.Prelude.{◌≡◌};
 ghost use Rattle.std.specs.Box.Ownership.{box_owns};
@@ -10,12 +9,12 @@ use std::marker::Model;
 mod place;
 
 /// A box as its pointer and its allocator. It owns the value, and the right to free its block.
-pub struct RawBox<T, A: Allocator> {
+pub(crate) struct RawBox<T, A: Allocator> {
     /// Where the value is.
-    pub at: *mut T,
+    pub(crate) at: *mut T,
     /// The allocator of its block.
-    pub alloc: A,
-    pub ghost value: { T },
+    pub(crate) alloc: A,
+    pub(crate) ghost value: { T },
 }
 
 impl<T, A: Allocator> Model for RawBox<T, A> {
@@ -24,7 +23,7 @@ impl<T, A: Allocator> Model for RawBox<T, A> {
 
 impl<T: Drop, A: Allocator> RawBox<T, A> {
     /// The pointer of a box.
-    pub fn of(value: Box<T, A>) -> RawBox<T, A>
+    pub(crate) fn of(value: Box<T, A>) -> RawBox<T, A>
         ensures { result.value ≡ value.value }
     {
         let (at, alloc) = Box::into_raw_with_allocator(value);
@@ -32,7 +31,7 @@ impl<T: Drop, A: Allocator> RawBox<T, A> {
     }
 
     /// The box again.
-    pub fn into_box(self) -> Box<T, A>
+    pub(crate) fn into_box(self) -> Box<T, A>
         ensures { result.value ≡ self.value }
     {
         let RawBox { at, alloc } = self;

@@ -36,10 +36,10 @@ use contract.Monad.{fact}
 use Rattle.std.proofs.alloc.Calls.{token}
 use Rattle.std.proofs.alloc.Shapes.{after}
 use Rattle.std.proofs.BoxSteps.Form.{Bx, args, X, R, P, τ, handle}
-use Rattle.wac_raw_box.proofs.Values.{both, RawBox, raw_box_in, raw_box_out}
-use Rattle.wac_raw_box.specs.contracts.RawBox.get.Key.{name as #self}
-use Rattle.wac_raw_box.proofs.RawBox.get.Statement as stated
-use Rattle.wac_raw_box.proofs.RawBox.get.Code as code
+use Rattle.wac_c_calls.proofs.RawBoxes.{both, RawBox, raw_box_in, raw_box_out}
+use Rattle.wac_c_calls.specs.contracts.raw_box.RawBox.get.Key.{name as #self}
+use Rattle.wac_c_calls.proofs.raw_box.RawBox.get.Statement as stated
+use Rattle.wac_c_calls.proofs.raw_box.RawBox.get.Code as code
 
 module _ (E : Bx) where
   abbrev fn' : Fn

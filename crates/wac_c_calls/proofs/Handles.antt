@@ -16,7 +16,7 @@ use Rattle.std.specs.declared.option.Option.TheVariants.{None, Some}
 use Rattle.std.specs.Box.Ownership.{box_owns}
 use Rattle.std.specs.Ptr.{points_to}
 use Rattle.std.proofs.GlobalToken.{dealloc_token-Testable}
-use Rattle.wac_raw_box.specs.Ownership.{handle_owns}
+use Rattle.wac_c_calls.specs.Ownership.{handle_owns}
 
 module _ (R : RattleType) (a : Global) {M : Type 1} {𝓤 : Ura M} (𝓛 : Logic 𝓤) where
   -- whoever may free the block may compare its pointer with null

@@ -32,13 +32,13 @@ use Rattle.std.specs.Box.Ownership.{box_owns}
 use Rattle.std.proofs.BoxSteps.Form as box
 use Rattle.std.proofs.BoxSteps.Steps.{box_out, box_in}
 use Rattle.std.proofs.raw_atomic.Walks.{proved_at, leaves}
-use Rattle.wac_raw_box.proofs.Values.{both, raw_box_good, raw_box_in}
+use Rattle.wac_c_calls.proofs.RawBoxes.{both, raw_box_good, raw_box_in}
 use Rattle.std.specs.contracts.boxed.Box.into_raw_with_allocator as callee
 use Rattle.std.proofs.boxed.Box.into_raw_with_allocator.Met.{met}
-use Rattle.wac_raw_box.specs.contracts.RawBox.of.{ended, clauses}
-use Rattle.wac_raw_box.specs.contracts.RawBox.of.Key.{name as #self}
-use Rattle.wac_raw_box.proofs.RawBox.of.Statement.{statement}
-use Rattle.wac_raw_box.proofs.RawBox.of.Code as code
+use Rattle.wac_c_calls.specs.contracts.raw_box.RawBox.of.{ended, clauses}
+use Rattle.wac_c_calls.specs.contracts.raw_box.RawBox.of.Key.{name as #self}
+use Rattle.wac_c_calls.proofs.raw_box.RawBox.of.Statement.{statement}
+use Rattle.wac_c_calls.proofs.raw_box.RawBox.of.Code as code
 
 pub of_spec : {M : Type 1} → statement M
 of_spec 𝓤 𝓛 𝓜 𝓡 wired T A L LA g d dx dd allocator glue glued =
