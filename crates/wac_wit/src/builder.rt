@@ -149,6 +149,12 @@ impl<'b> Builder<'b> {
     // What is said of a type that isn't there.
     fn nameless(&self, name: &str) -> Result<String, AllocError> {
         let mut message = joined(self.alloc, "there is no type `", name, "` here")?;
+        self.push_hint(name, &mut message)?;
+        Ok(message)
+    }
+
+    // Puts the names last that are nearest to one that isn't there.
+    fn push_hint(&self, name: &str, message: &mut String) -> Result<(), AllocError> {
         let mut nearest = Nearest::to(self.alloc, name);
         for other in self.names.types.keys() {
             nearest.offer(other)?;
@@ -156,8 +162,7 @@ impl<'b> Builder<'b> {
         for other in PRIMITIVES {
             nearest.offer(other)?;
         }
-        nearest.push_hint(&mut message)?;
-        Ok(message)
+        nearest.push_hint(message)
     }
 
     /// Adds a defined type.

@@ -63,6 +63,26 @@ impl Builder<'_> {
         let exports = replace(&mut self.items, IndexMap::new(self.alloc));
         add_interface(self.types, Interface { id, uses, exports })
     }
+
+    // Takes in the items of an interface, and puts its entry into the collection.
+    fn put_items(
+        &mut self,
+        id: Option<String>,
+        items: &[InterfaceItem],
+    ) -> Result<InterfaceId, Fault> {
+        self.add_items(items)?;
+        self.put_interface(id)
+    }
+
+    // The interface whose entry was put into the collection.
+    fn made(self, id: Result<InterfaceId, Fault>) -> Result<MadeInterface, Fault> {
+        let Builder { names, needs, .. } = self;
+        Ok(MadeInterface {
+            id: id?,
+            names,
+            needs,
+        })
+    }
 }
 
 /// Makes an interface. What stands in a world has no identifier, and is made where the world is.
@@ -74,11 +94,6 @@ pub(crate) fn make_interface(
     items: &[InterfaceItem],
 ) -> Result<MadeInterface, Fault> {
     let mut builder = Builder::new(*site, types, refusals);
-    builder.add_items(items)?;
-    let id = builder.put_interface(id)?;
-    Ok(MadeInterface {
-        id,
-        names: builder.names,
-        needs: builder.needs,
-    })
+    let made = builder.put_items(id, items);
+    builder.made(made)
 }

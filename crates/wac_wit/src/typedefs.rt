@@ -147,17 +147,27 @@ impl Builder<'_> {
     fn variant_of(&mut self, name: &Ident, all: &[Case]) -> Result<Variant, Fault> {
         self.refuse_empty(name, all.is_empty(), "a variant has at least one case")?;
         let mut seen = Taken::new(self.alloc);
-        let mut cases = IndexMap::new(self.alloc);
-        let mut is_whole = true;
-        for case in all {
-            let ty = self.case_value(&mut seen, case)?;
-            is_whole = is_whole && ty.is_some() == case.ty.is_some();
-            cases.insert(case.name.name.clone()?, ty)?;
-        }
-        if !is_whole || cases.len() < all.len() {
+        let cases = self.cases_of(&mut seen, all)?;
+        if cases.len() < all.len() {
             return Err(Fault::Known);
         }
         Ok(Variant { cases })
+    }
+
+    // The cases whose names and types aren't refused.
+    fn cases_of(
+        &mut self,
+        seen: &mut Taken,
+        all: &[Case],
+    ) -> Result<IndexMap<String, Option<ValueType>>, Fault> {
+        let mut cases = IndexMap::new(self.alloc);
+        for case in all {
+            let ty = self.case_value(seen, case)?;
+            if ty.is_some() == case.ty.is_some() {
+                cases.insert(case.name.name.clone()?, ty)?;
+            }
+        }
+        Ok(cases)
     }
 
     fn case_value(&mut self, seen: &mut Taken, case: &Case) -> Result<Option<ValueType>, Fault> {

@@ -176,13 +176,26 @@ fn name_at<'n>(items: &[&'n TypeItem], index: usize) -> &'n str {
 
 // What each type names of the others.
 fn all_needs(alloc: Global, items: &[&TypeItem]) -> Result<Vec<Vec<Need>>, AllocError> {
+    needs_among(alloc, &indices_of(alloc, items)?, items)
+}
+
+// The index of each type, by its name.
+fn indices_of(alloc: Global, items: &[&TypeItem]) -> Result<IndexMap<String, usize>, AllocError> {
     let mut indices = IndexMap::new(alloc);
     for (index, item) in items.iter().enumerate() {
         indices.insert(item.name.name.clone()?, index)?;
     }
+    Ok(indices)
+}
+
+fn needs_among(
+    alloc: Global,
+    indices: &IndexMap<String, usize>,
+    items: &[&TypeItem],
+) -> Result<Vec<Vec<Need>>, AllocError> {
     let mut needs = Vec::new(alloc);
     for item in items {
-        needs.push(needs_of(alloc, &indices, &item.def)?)?;
+        needs.push(needs_of(alloc, indices, &item.def)?)?;
     }
     Ok(needs)
 }
