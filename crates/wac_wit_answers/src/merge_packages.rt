@@ -16,14 +16,34 @@ pub(crate) fn interfaces_of(
     alloc: Global,
     merged: &TypeAggregator,
 ) -> Result<Vec<Named<'_>>, AllocError> {
-    let types = merged.types();
     let mut interfaces = Vec::new(alloc);
     let mut known = IndexSet::new(alloc);
+    push_imported(&mut interfaces, &mut known, merged)?;
+    push_used(&mut interfaces, &mut known, merged)?;
+    Ok(interfaces)
+}
+
+// Puts the interfaces last that are imported.
+fn push_imported<'t>(
+    interfaces: &mut Vec<Named<'t>>,
+    known: &mut IndexSet<InterfaceId>,
+    merged: &'t TypeAggregator,
+) -> Result<(), AllocError> {
     for (name, item) in merged.imports() {
         if let ItemKind::Instance(id) = item {
-            push_interface(&mut interfaces, &mut known, name, id)?;
+            push_interface(interfaces, known, name, id)?;
         }
     }
+    Ok(())
+}
+
+// Puts those last whose types they use.
+fn push_used<'t>(
+    interfaces: &mut Vec<Named<'t>>,
+    known: &mut IndexSet<InterfaceId>,
+    merged: &'t TypeAggregator,
+) -> Result<(), AllocError> {
+    let types = merged.types();
     for (_, item) in merged.imports() {
         if let ItemKind::Instance(id) = item
             && let Some(of) = interface(types, id)
@@ -31,11 +51,11 @@ pub(crate) fn interfaces_of(
             for used in of.uses.values() {
                 let id = interface_id(types, used.interface).unwrap_or("");
                 let name = merged.canonical_import_name(id);
-                push_interface(&mut interfaces, &mut known, name, used.interface)?;
+                push_interface(interfaces, known, name, used.interface)?;
             }
         }
     }
-    Ok(interfaces)
+    Ok(())
 }
 
 // Puts an interface last that isn't there, if it has the name of one of a package.
@@ -74,15 +94,26 @@ fn by_package(
     alloc: Global,
     interfaces: &[Named<'_>],
 ) -> Result<IndexMap<String, Vec<usize>>, AllocError> {
-    let mut names = IndexSet::new(alloc);
     let mut packages = IndexMap::new(alloc);
-    for (index, (name, parts, _)) in interfaces.iter().enumerate() {
-        if names.insert(String::from_str(alloc, name)?)? {
+    for index in &first_indices(alloc, interfaces)? {
+        if let Some((_, parts, _)) = interfaces.get(*index) {
             let package = package_key(alloc, parts)?;
-            push_index(alloc, &mut packages, package, index)?;
+            push_index(alloc, &mut packages, package, *index)?;
         }
     }
     Ok(packages)
+}
+
+// The index of the first interface of each name.
+fn first_indices(alloc: Global, interfaces: &[Named<'_>]) -> Result<Vec<usize>, AllocError> {
+    let mut names = IndexSet::new(alloc);
+    let mut indices = Vec::new(alloc);
+    for (index, (name, _, _)) in interfaces.iter().enumerate() {
+        if names.insert(String::from_str(alloc, name)?)? {
+            indices.push(index)?;
+        }
+    }
+    Ok(indices)
 }
 
 // A package with its version.

@@ -49,27 +49,59 @@ pub(crate) fn refusal_json(
     handed: &Handed<'_>,
     refusal: &AggregateAllError,
 ) -> Result<Value, Failure> {
-    let problem = problem_of(alloc, refusal)?;
-    let mut path = Vec::new(alloc);
-    for step in &problem.path {
-        path.push(Value::try_from_str(alloc, step)?)?;
-    }
-    let mut involved = Vec::new(alloc);
-    for (index, place) in &places(alloc, handed, refusal)? {
-        let Some(source) = handed.source_of(*index) else {
-            return Err(Failure::Missing);
-        };
-        let place = place_json(alloc, &source.input, *place)?;
-        let import = call_json(alloc, handed, *index)?;
-        involved.push(json!(in alloc; {"import": import, "place": place})?)?;
-    }
+    let places = places(alloc, handed, refusal)?;
+    let involved = involved_json(alloc, handed, &places)?;
+    Ok(problem_json(alloc, &problem_of(alloc, refusal)?, involved)?)
+}
+
+fn problem_json(
+    alloc: Global,
+    problem: &Problem,
+    involved: Vec<Value>,
+) -> Result<Value, AllocError> {
+    let path = path_json(alloc, &problem.path)?;
     let fault = problem.fault.as_str();
-    Ok(json!(in alloc; {
+    json!(in alloc; {
         "merged": false,
         "path": path,
         "fault": fault,
         "imports": involved
-    })?)
+    })
+}
+
+fn path_json(alloc: Global, steps: &[String]) -> Result<Vec<Value>, AllocError> {
+    let mut path = Vec::new(alloc);
+    for step in steps {
+        path.push(Value::try_from_str(alloc, step)?)?;
+    }
+    Ok(path)
+}
+
+// The imports, each with its place.
+fn involved_json(
+    alloc: Global,
+    handed: &Handed<'_>,
+    places: &[(usize, Option<Place>)],
+) -> Result<Vec<Value>, Failure> {
+    let mut involved = Vec::new(alloc);
+    for (index, place) in places {
+        involved.push(one_involved_json(alloc, handed, *index, *place)?)?;
+    }
+    Ok(involved)
+}
+
+fn one_involved_json(
+    alloc: Global,
+    handed: &Handed<'_>,
+    index: usize,
+    place: Option<Place>,
+) -> Result<Value, Failure> {
+    let Some(source) = handed.source_of(index) else {
+        return Err(Failure::Missing);
+    };
+    let place = place_json(alloc, &source.input, place)?;
+    let import = call_json(alloc, handed, index)?;
+    Ok(json!(in alloc; {"import": import, "place": place})?)
 }
 
 // The path and what is wrong.

@@ -104,25 +104,20 @@ fn answer_of(
     };
     // the collection of the merged imports has a number of its own
     match aggregate_all(alloc, 0, calls, &mut checker) {
-        Ok(merged) => {
-            let text = accepted_text(alloc, &handed, &merged, form)?;
-            Ok(Answer { is_yes: true, text })
-        }
-        Err(
-            AggregateAllError {
-                at: _,
-                error: AggregateError::Memory,
-            },
-        ) => Err(Failure::Memory),
-        Err(refusal) => {
-            let text = match form {
-                Form::Json => json_text(alloc, &refusal_json(alloc, &handed, &refusal)?)?,
-                _ => refusal_text(alloc, &handed, &refusal)?,
-            };
-            let is_yes = false;
-            Ok(Answer { is_yes, text })
-        }
+        Ok(merged) => accepted(alloc, &handed, &merged, form),
+        Err(refusal) => refused(alloc, &handed, &refusal, form),
     }
+}
+
+// What is said where all is merged.
+fn accepted(
+    alloc: Global,
+    handed: &Handed<'_>,
+    merged: &TypeAggregator,
+    form: Form,
+) -> Result<Answer, Failure> {
+    let text = accepted_text(alloc, handed, merged, form)?;
+    Ok(Answer { is_yes: true, text })
 }
 
 fn accepted_text(
@@ -137,4 +132,31 @@ fn accepted_text(
         Form::Json => json_text(alloc, &merged_json(alloc, handed, merged, &leading)?)?,
         Form::Dot => merged_dot(alloc, handed, &leading)?,
     })
+}
+
+// What is said where an import isn't merged.
+fn refused(
+    alloc: Global,
+    handed: &Handed<'_>,
+    refusal: &AggregateAllError,
+    form: Form,
+) -> Result<Answer, Failure> {
+    if let AggregateError::Memory = &refusal.error {
+        return Err(Failure::Memory);
+    }
+    let text = refused_text(alloc, handed, refusal, form)?;
+    let is_yes = false;
+    Ok(Answer { is_yes, text })
+}
+
+fn refused_text(
+    alloc: Global,
+    handed: &Handed<'_>,
+    refusal: &AggregateAllError,
+    form: Form,
+) -> Result<String, Failure> {
+    if form != Form::Json {
+        return refusal_text(alloc, handed, refusal);
+    }
+    Ok(json_text(alloc, &refusal_json(alloc, handed, refusal)?)?)
 }

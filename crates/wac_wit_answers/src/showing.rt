@@ -68,26 +68,36 @@ fn item_text(
     name: &str,
 ) -> Result<String, AllocError> {
     let mut printer = Printer::new(alloc, types);
-    match found {
-        Found::Interface(id) => printer.put_interface(name, *id)?,
-        Found::World(id) => printer.put_world(name, *id)?,
-    }
+    put_item(&mut printer, found, name)?;
     Ok(printer.text)
+}
+
+fn put_item(printer: &mut Printer<'_>, found: &Found, name: &str) -> Result<(), AllocError> {
+    match found {
+        Found::Interface(id) => printer.put_interface(name, *id),
+        Found::World(id) => printer.put_world(name, *id),
+    }
 }
 
 // All packages as one file: the package itself, and those that it uses in braces.
 fn all_text(alloc: Global, types: &Types, input: &Input) -> Result<String, AllocError> {
     let mut printer = Printer::new(alloc, types);
+    put_packages(&mut printer, &input.wit.packages)?;
+    Ok(printer.text)
+}
+
+fn put_packages<'t>(
+    printer: &mut Printer<'t>,
+    packages: &'t [WitPackage],
+) -> Result<(), AllocError> {
     let mut is_first = true;
-    for package in &input.wit.packages {
+    for package in packages {
         let is_nested = !is_first || package.group != 0;
-        if !is_first {
-            printer.put("\n")?;
-        }
-        put_package(&mut printer, package, is_nested)?;
+        put_gap(printer, is_first)?;
+        put_package(printer, package, is_nested)?;
         is_first = false;
     }
-    Ok(printer.text)
+    Ok(())
 }
 
 // Writes a package as a file, or in braces inside the file of another one.
@@ -130,17 +140,35 @@ fn all_json(alloc: Global, types: &Types, input: &Input) -> Result<String, Alloc
     json_text(alloc, &json!(in alloc; {"packages": packages})?)
 }
 
-fn package_json(alloc: Global, types: &Types, of: &WitPackage) -> Result<Value, AllocError> {
-    let mut interfaces = Vec::new(alloc);
+// An interface or a world of a package.
+fn item_json(alloc: Global, types: &Types, found: &Found, name: &str) -> Result<Value, AllocError> {
+    let wit = item_text(alloc, types, found, name)?;
+    json!(in alloc; {"name": name, "wit": wit})
+}
+
+fn interfaces_json(
+    alloc: Global,
+    types: &Types,
+    of: &WitPackage,
+) -> Result<Vec<Value>, AllocError> {
+    let mut all = Vec::new(alloc);
     for (name, id) in &of.interfaces {
-        let wit = item_text(alloc, types, &Found::Interface(*id), name)?;
-        interfaces.push(json!(in alloc; {"name": name.as_str(), "wit": wit})?)?;
+        all.push(item_json(alloc, types, &Found::Interface(*id), name)?)?;
     }
-    let mut worlds = Vec::new(alloc);
+    Ok(all)
+}
+
+fn worlds_json(alloc: Global, types: &Types, of: &WitPackage) -> Result<Vec<Value>, AllocError> {
+    let mut all = Vec::new(alloc);
     for (name, id) in &of.worlds {
-        let wit = item_text(alloc, types, &Found::World(*id), name)?;
-        worlds.push(json!(in alloc; {"name": name.as_str(), "wit": wit})?)?;
+        all.push(item_json(alloc, types, &Found::World(*id), name)?)?;
     }
+    Ok(all)
+}
+
+fn package_json(alloc: Global, types: &Types, of: &WitPackage) -> Result<Value, AllocError> {
+    let interfaces = interfaces_json(alloc, types, of)?;
+    let worlds = worlds_json(alloc, types, of)?;
     let version = text_or_null(alloc, version_of(&of.version))?;
     json!(in alloc; {
         "name": of.name.as_str(),
