@@ -4,10 +4,10 @@
 ghost use Rattle.wac_types.specs.HandedIn.{handed_in};
 ghost use Rattle.wac_memory_tests.specs.Calls.{MayBeAggregated};
 
-use super::asking::{Asking, Cache, asked};
+use super::asking::{Asking, Cache, asked, is_turned};
 use super::built::{Attempt, is_shown_of};
 use super::handing::{Handed, calls_of};
-use super::trial::{Stop, Trial, demand, is_shown};
+use super::trial::{Stop, Trial, both, demand, twice};
 use std::alloc::Global;
 use std::fmt::Write;
 use wac_callers::merging::merge_each;
@@ -176,10 +176,9 @@ fn merges_turned_back(
 ) -> Trial
     requires { MayBeAggregated 9 (handed_in calls.now) }
 {
-    let before = (checker.direction(), checker.depth());
+    let (direction, depth) = (checker.direction(), checker.depth());
     let trial = merges(alloc, calls, checker, is_each, wanted);
-    demand((checker.direction(), checker.depth()) == before)?;
-    trial
+    both(demand(is_turned(checker, direction, depth)), trial)
 }
 
 // Whether the items in a cache are of these two collections.
@@ -208,9 +207,7 @@ fn merges_twice(
     let calls = calls_of(alloc, first, second, row.handed)?;
     let once = merges_turned_back(alloc, &calls, checker, is_each, row.wanted);
     let again = merges_turned_back(alloc, &calls, checker, is_each, row.wanted);
-    demand(is_shown(once, again))?;
-    once?;
-    again
+    twice(once, again)
 }
 
 // A row with its collections, merged at once or one call after the other.

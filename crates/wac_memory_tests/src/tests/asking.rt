@@ -3,7 +3,7 @@
 use super::trial::{Trial, both};
 use std::alloc::Global;
 use std::collections::HashSet;
-use wac_types::{ItemKind, SubtypeChecker, SubtypeError};
+use wac_types::{ItemKind, SubtypeCheck, SubtypeChecker, SubtypeError};
 
 // The pairs of which a checker keeps that the one fits where the other is asked for.
 pub(crate) type Cache = HashSet<(ItemKind, ItemKind)>;
@@ -18,6 +18,15 @@ impl Drop for Verdict {
     fn drop(self) {
         let Verdict { answer: _ } = self;
     }
+}
+
+// Whether a checker has this direction and depth.
+pub(crate) fn is_turned(
+    checker: &SubtypeChecker<'_>,
+    direction: SubtypeCheck,
+    depth: usize,
+) -> bool {
+    checker.direction() == direction && checker.depth() == depth
 }
 
 // What a checker with a new cache is asked.

@@ -2,7 +2,7 @@
 
 use super::built::{Attempt, is_shown_of};
 use super::entries::is_shown_of_entries;
-use super::trial::{Trial, demand, is_shown, refused, text_of};
+use super::trial::{Trial, both, demand, is_shown, refused, text_of};
 use std::alloc::Global;
 use std::fmt::Debug;
 use std::slice;
@@ -54,8 +54,7 @@ def enum a b";
 
 fn clones_defined_types(alloc: Global, types: &Types) -> Trial {
     for ty in types.defined_types() {
-        clones(alloc, ty)?;
-        clones_part(alloc, ty)?;
+        both(clones(alloc, ty), clones_part(alloc, ty))?;
     }
     Ok(())
 }
@@ -70,36 +69,60 @@ fn clones_interface(alloc: Global, interface: &Interface) -> Trial {
 
 // Clones what is imported or exported, and of a function its type.
 fn clones_extern(alloc: Global, item: &CoreExtern) -> Trial {
-    clones(alloc, item)?;
-    match item {
+    let part = match item {
         CoreExtern::Func(ty) | CoreExtern::Tag(ty) => clones(alloc, ty),
         _ => Ok(()),
+    };
+    both(clones(alloc, item), part)
+}
+
+fn clones_imports(alloc: Global, module: &ModuleType) -> Trial {
+    for item in module.imports.values() {
+        clones_extern(alloc, item)?;
     }
+    Ok(())
+}
+
+fn clones_exports(alloc: Global, module: &ModuleType) -> Trial {
+    for item in module.exports.values() {
+        clones_extern(alloc, item)?;
+    }
+    Ok(())
 }
 
 // Clones a core module, and what it imports and exports.
 fn clones_module(alloc: Global, module: &ModuleType) -> Trial {
-    for item in module.imports.values() {
-        clones_extern(alloc, item)?;
-    }
-    for item in module.exports.values() {
-        clones_extern(alloc, item)?;
-    }
-    clones(alloc, module)
+    let parts = both(clones_imports(alloc, module), clones_exports(alloc, module));
+    both(clones(alloc, module), parts)
 }
 
-// Clones the contents of the other sorts, and their parts.
-fn clones_contents(alloc: Global, types: &Types) -> Trial {
-    clones_each(alloc, types.resources())?;
-    clones_each(alloc, types.func_types())?;
-    clones_each(alloc, types.worlds())?;
+// Clones the interfaces, and what they use.
+fn clones_interfaces(alloc: Global, types: &Types) -> Trial {
     for interface in types.interfaces() {
         clones_interface(alloc, interface)?;
     }
+    Ok(())
+}
+
+// Clones the core modules, and their parts.
+fn clones_modules(alloc: Global, types: &Types) -> Trial {
     for module in types.modules() {
         clones_module(alloc, module)?;
     }
     Ok(())
+}
+
+// Clones the contents of the other sorts, and their parts.
+fn clones_contents(alloc: Global, types: &Types) -> Trial {
+    let plain = both(
+        clones_each(alloc, types.resources()),
+        clones_each(alloc, types.func_types()),
+    );
+    let with_parts = both(
+        clones_interfaces(alloc, types),
+        clones_modules(alloc, types),
+    );
+    both(clones_each(alloc, types.worlds()), both(plain, with_parts))
 }
 
 // Clones each content of a collection.
@@ -108,8 +131,10 @@ struct Cloning;
 
 impl Attempt for Cloning {
     fn attempt(&self, alloc: Global, types: &mut Types) -> Trial {
-        clones_defined_types(alloc, types)?;
-        clones_contents(alloc, types)
+        both(
+            clones_defined_types(alloc, types),
+            clones_contents(alloc, types),
+        )
     }
 }
 

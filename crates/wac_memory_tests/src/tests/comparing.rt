@@ -3,10 +3,11 @@
 
 ghost use Rattle.wac_types.specs.Key.{AllStand, item_keys};
 
-use super::asking::{Asking, Cache, Verdict, asked};
+use super::asking::{Asking, Cache, Verdict, asked, is_turned};
 use super::built::{Attempt, attempted};
-use super::trial::{Stop, Trial, demand, is_shown, item};
+use super::trial::{Stop, Trial, both, demand, is_shown, item, twice};
 use std::alloc::{AllocError, Global};
+use std::fmt::Write;
 use wac_test_tools::shows;
 use wac_types::{ItemKind, SubtypeChecker, SubtypeError, Types};
 
@@ -31,11 +32,11 @@ fn asks(
     requires left { AllStand types.now (item_keys a.now) }
     requires right { AllStand types.now (item_keys b.now) }
 {
-    let before = (checker.direction(), checker.depth());
+    let (direction, depth) = (checker.direction(), checker.depth());
     let answer = checker.is_subtype(alloc, *a, types, *b, types);
     let verdict = Verdict { answer };
-    demand((checker.direction(), checker.depth()) == before)?;
-    judged(&verdict.answer, wanted)
+    let is_as_before = is_turned(checker, direction, depth);
+    both(demand(is_as_before), judged(&verdict.answer, wanted))
 }
 
 // Whether an item fits.
@@ -97,7 +98,7 @@ impl Comparison {
     fn all_lines(&self, alloc: Global) -> Result<String, AllocError> {
         let mut lines = String::from_str(alloc, self.lines)?;
         for i in 0..self.tuples {
-            lines.push_str(&format!(in alloc; "\ndef tuple d{i} d{i}")?)?;
+            write!(lines, "\ndef tuple d{i} d{i}")?;
         }
         Ok(lines)
     }
@@ -132,10 +133,7 @@ fn compares(
     }
     let wanted = comparison.wanted(is_inverted);
     let first = asks(alloc, checker, types, &a, &b, wanted);
-    let second = asks(alloc, checker, types, &a, &b, wanted);
-    demand(is_shown(first, second))?;
-    first?;
-    second
+    twice(first, asks(alloc, checker, types, &a, &b, wanted))
 }
 
 // A comparison in a direction, with its collection.
@@ -263,13 +261,20 @@ def tuple u8 u8",
     },
 ];
 
+// Whether a comparison is shown by two trials.
+fn is_shown_of_row(alloc: Global, row: &Comparison, is_inverted: bool) -> bool {
+    let first = compares_built(alloc, row, is_inverted);
+    is_shown(first, compares_built(alloc, row, is_inverted))
+}
+
 #[test]
 fn an_answer_is_the_undisturbed_one_or_none(rt: HostRuntime) {
     for row in &ROWS {
-        for is_inverted in [false, true] {
-            let first = compares_built(rt.alloc(), row, is_inverted);
-            let second = compares_built(rt.alloc(), row, is_inverted);
-            assert!(&rt; is_shown(first, second), "{} {is_inverted}", row.shown);
-        }
+        assert!(&rt; is_shown_of_row(rt.alloc(), row, false), "{}", row.shown);
+        assert!(&rt;
+            is_shown_of_row(rt.alloc(), row, true),
+            "{}, turned",
+            row.shown
+        );
     }
 }

@@ -76,6 +76,11 @@ pub(crate) fn both(first: Trial, second: Trial) -> Trial {
     }
 }
 
+// What a trial comes to that tries the same twice, of which one refused request spoils one at most.
+pub(crate) fn twice(first: Trial, second: Trial) -> Trial {
+    both(demand(is_shown(first, second)), both(first, second))
+}
+
 // A trial that comes to its end where this holds.
 pub(crate) fn demand(holds: bool) -> Trial {
     if holds { Ok(()) } else { Err(Stop::Wrong) }
