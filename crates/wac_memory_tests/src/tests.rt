@@ -1,15 +1,16 @@
 //! The tests, by what they call, and what they share.
 
 mod aggregating;
-mod asking;
 mod bounding;
-mod built;
+mod cases;
 mod changing;
 mod cloning;
 mod comparing;
 mod displaying;
 mod entries;
+mod filling;
 mod handing;
+mod judging;
 mod naming;
 mod packaging;
 mod targeting;

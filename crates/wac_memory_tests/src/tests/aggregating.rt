@@ -4,26 +4,98 @@
 ghost use Rattle.wac_types.specs.HandedIn.{handed_in};
 ghost use Rattle.wac_memory_tests.specs.Calls.{MayBeAggregated};
 
-use super::asking::{Asking, Cache, asked, is_turned};
-use super::built::{Attempt, is_shown_of};
+use super::cases::{Cache, Case, Tried, try_each};
+use super::filling::{UNCHANGED, fill};
 use super::handing::{Handed, calls_of};
-use super::trial::{Stop, Trial, both, demand, twice};
-use std::alloc::Global;
-use std::fmt::Write;
+use super::judging::judge;
+use super::trial::Trial;
 use wac_callers::merging::merge_each;
-use wac_script_entries::built;
-use wac_test_tools::{Expecting, shows};
-use wac_types::{
-    AggregateAllError, AggregateError, Call, SubtypeChecker, TypeAggregator, Types, aggregate_all,
-};
+use wac_types::{Call, SubtypeChecker, Types, aggregate_all};
 
-// What is handed in of two collections, and what becomes of it: the names of the imports, or what
-// a refusal says.
-struct Merging {
-    first: &'static str,
+// What is handed in of two collections, at once in one way and one call after the other in another
+// one, and what becomes of it: the names of the imports, or what a refusal says.
+pub(crate) struct Merging {
+    // The lines of the second collection.
     second: &'static str,
     handed: &'static [Handed],
     wanted: &'static str,
+}
+
+// Hands in all calls at once, or one after the other, and looks at the answer and at the checker.
+fn merge(
+    calls: &[Call<'_>],
+    checker: &mut SubtypeChecker<'_>,
+    is_each: bool,
+    wanted: &str,
+    trial: &mut Trial,
+)
+    requires { MayBeAggregated 9 (handed_in calls.now) }
+{
+    let (direction, depth) = (checker.direction(), checker.depth());
+    if is_each {
+        judge(merge_each(trial.alloc, 9, calls, checker), wanted, trial);
+    } else {
+        judge(aggregate_all(trial.alloc, 9, calls, checker), wanted, trial);
+    }
+    trial.demand(checker.direction() == direction && checker.depth() == depth);
+}
+
+// Demands that the items in a cache are of these two collections.
+fn demand_known(first: &Types, second: &Types, cache: &Cache, trial: &mut Trial) {
+    for (a, b) in cache.iter() {
+        trial.demand(first.contains_item(*a) || second.contains_item(*a));
+        trial.demand(first.contains_item(*b) || second.contains_item(*b));
+    }
+}
+
+impl Merging {
+    // Merges twice with one checker, so that the second answer rests on what the first one left.
+    fn merge_twice(
+        &self,
+        checker: &mut SubtypeChecker<'_>,
+        first: &Types,
+        second: &Types,
+        is_each: bool,
+        trial: &mut Trial,
+    ) {
+        if first.number() != 1 || second.number() != 2 {
+            return trial.demand(false);
+        }
+        match calls_of(trial.alloc, first, second, self.handed) {
+            Ok(calls) => {
+                merge(&calls, checker, is_each, self.wanted, trial);
+                merge(&calls, checker, is_each, self.wanted, trial);
+            }
+            Err(stop) => trial.fail(stop.is_refusal()),
+        }
+    }
+
+    fn merge_with(
+        &self,
+        first: &Types,
+        second: &Types,
+        cache: &mut Cache,
+        is_each: bool,
+        trial: &mut Trial,
+    ) {
+        let mut checker = SubtypeChecker::new(cache);
+        self.merge_twice(&mut checker, first, second, is_each, trial);
+        demand_known(first, second, cache, trial);
+    }
+
+    pub(crate) fn attempt(
+        &self,
+        types: &mut Types,
+        cache: &mut Cache,
+        way: usize,
+        trial: &mut Trial,
+    ) {
+        let mut second = Types::new(trial.alloc, 2);
+        match fill(trial.alloc, &mut second, &[self.second], &UNCHANGED) {
+            Ok(()) => self.merge_with(types, &second, cache, way == 1, trial),
+            Err(error) => trial.fail_line(&error),
+        }
+    }
 }
 
 // Two versions of one interface.
@@ -52,225 +124,89 @@ iface p:u/u@1.0.0 e:r=T:r0
 func sync - x=own:r0
 iface p:k/k@1.0.0 e:f=F:fn0";
 
-static ROWS: [Merging; 6] = [
-    Merging {
-        first: VERSIONS,
-        second: VERSIONS,
-        handed: &[
-            ("a:b/c@0.2.0", 1, "I:i0"),
-            ("a:b/c@0.2.1", 2, "I:i1"),
-            ("a:b/c@0.2.0", 1, "I:i0"),
-        ],
-        wanted: "a:b/c@0.2.1 ",
+static CASES: [Case; 6] = [
+    Case {
+        shown: "two versions of an interface",
+        texts: &[VERSIONS],
+        ways: 2,
+        tried: Tried::Merging(Merging {
+            second: VERSIONS,
+            handed: &[
+                ("a:b/c@0.2.0", 1, "I:i0"),
+                ("a:b/c@0.2.1", 2, "I:i1"),
+                ("a:b/c@0.2.0", 1, "I:i0"),
+            ],
+            wanted: "a:b/c@0.2.1 ",
+        }),
     },
-    Merging {
-        first: "func sync -
+    Case {
+        shown: "a component's import, and an interface of its name",
+        texts: &[
+            "func sync -
 iface d:p/t@1.0.0 e:f=F:fn0
 world - m:x=I:i0",
-        second: "func sync -
+        ],
+        ways: 2,
+        tried: Tried::Merging(Merging {
+            second: "func sync -
 iface d:p/t@1.0.0 e:f=F:fn0 e:g=F:fn0",
-        handed: &[("c", 1, "C:w0"), ("d:p/t@1.0.0", 2, "I:i0")],
-        wanted: "c d:p/t@1.0.0 ",
+            handed: &[("c", 1, "C:w0"), ("d:p/t@1.0.0", 2, "I:i0")],
+            wanted: "c d:p/t@1.0.0 ",
+        }),
     },
-    Merging {
-        first: USER,
-        second: "iface dep:pkg/types@0.2.1 e:my-used=T:u8
+    Case {
+        shown: "interfaces that use a type of one track",
+        texts: &[USER],
+        ways: 2,
+        tried: Tried::Merging(Merging {
+            second: "iface dep:pkg/types@0.2.1 e:my-used=T:u8
 iface my:pkg/iface@1.0.0 u:my-used=i0",
-        handed: USERS,
-        wanted: "my:pkg/iface@1.0.0 ",
+            handed: USERS,
+            wanted: "my:pkg/iface@1.0.0 ",
+        }),
     },
-    Merging {
-        first: USER,
-        second: "iface dep:pkg/types@0.3.0 e:my-used=T:u8
+    Case {
+        shown: "interfaces that use a type of two tracks",
+        texts: &[USER],
+        ways: 2,
+        tried: Tried::Merging(Merging {
+            second: "iface dep:pkg/types@0.3.0 e:my-used=T:u8
 iface my:pkg/iface@1.0.0 u:my-used=i0",
-        handed: USERS,
-        wanted: "cannot merge used type `my-used` as it is expected to be from interface `dep:pkg/types@0.2.0` but it is from interface `dep:pkg/types@0.3.0`",
+            handed: USERS,
+            wanted: "cannot merge used type `my-used` as it is expected to be from interface `dep:pkg/types@0.2.0` but it is from interface `dep:pkg/types@0.3.0`",
+        }),
     },
-    Merging {
-        first: OWNED,
-        second: UNOWNED,
-        handed: &[
-            ("p:u/u@1.0.0", 1, "I:i2"),
-            ("p:u/u@1.0.0", 2, "I:i0"),
-            ("p:k/k@1.0.0", 2, "I:i1"),
-        ],
-        wanted: "p:o/o@1.0.0 p:u/u@1.0.0 p:k/k@1.0.0 ",
+    Case {
+        shown: "a resource that has an owner, and one that has none",
+        texts: &[OWNED],
+        ways: 2,
+        tried: Tried::Merging(Merging {
+            second: UNOWNED,
+            handed: &[
+                ("p:u/u@1.0.0", 1, "I:i2"),
+                ("p:u/u@1.0.0", 2, "I:i0"),
+                ("p:k/k@1.0.0", 2, "I:i1"),
+            ],
+            wanted: "p:o/o@1.0.0 p:u/u@1.0.0 p:k/k@1.0.0 ",
+        }),
     },
-    Merging {
-        first: OWNED,
-        second: UNOWNED,
-        handed: &[
-            ("p:k/k@1.0.0", 2, "I:i1"),
-            ("p:u/u@1.0.0", 2, "I:i0"),
-            ("p:u/u@1.0.0", 1, "I:i2"),
-        ],
-        wanted: "p:k/k@1.0.0 p:u/u@1.0.0 p:o/o@1.0.0 ",
+    Case {
+        shown: "a resource that has no owner, and one that has one",
+        texts: &[OWNED],
+        ways: 2,
+        tried: Tried::Merging(Merging {
+            second: UNOWNED,
+            handed: &[
+                ("p:k/k@1.0.0", 2, "I:i1"),
+                ("p:u/u@1.0.0", 2, "I:i0"),
+                ("p:u/u@1.0.0", 1, "I:i2"),
+            ],
+            wanted: "p:k/k@1.0.0 p:u/u@1.0.0 p:o/o@1.0.0 ",
+        }),
     },
 ];
 
-// Whether these are the names of the imports, each with a space after it.
-fn imports(merged: &TypeAggregator, names: &str) -> bool {
-    let mut out = Expecting::of(names);
-    for (name, _) in merged.imports() {
-        if write!(out, "{name} ").is_err() {
-            return false;
-        }
-    }
-    out.has_all()
-}
-
-// What merging answers: an aggregator, or why there is none.
-trait Merged: Drop {
-    fn parts(&self) -> Result<&TypeAggregator, &AggregateError>;
-}
-
-impl Merged for Result<TypeAggregator, AggregateError> {
-    fn parts(&self) -> Result<&TypeAggregator, &AggregateError> {
-        self.as_ref()
-    }
-}
-
-impl Merged for Result<TypeAggregator, AggregateAllError> {
-    fn parts(&self) -> Result<&TypeAggregator, &AggregateError> {
-        match self {
-            Ok(merged) => Ok(merged),
-            Err(refusal) => Err(&refusal.error),
-        }
-    }
-}
-
-// What an answer comes to. It is let go here, whatever its type: an aggregator that is known for one
-// is dropped field by field, which takes long to prove.
-fn judged<M: Merged>(answer: M, wanted: &str) -> Trial {
-    match answer.parts() {
-        Ok(merged) => demand(imports(merged, wanted)),
-        Err(AggregateError::Memory) => Err(Stop::Refused),
-        Err(error) => demand(shows(error, wanted)),
-    }
-}
-
-// Hands in all calls at once, or one after the other.
-fn merges(
-    alloc: Global,
-    calls: &[Call<'_>],
-    checker: &mut SubtypeChecker<'_>,
-    is_each: bool,
-    wanted: &str,
-) -> Trial
-    requires { MayBeAggregated 9 (handed_in calls.now) }
-{
-    if is_each {
-        judged(merge_each(alloc, 9, calls, checker), wanted)
-    } else {
-        judged(aggregate_all(alloc, 9, calls, checker), wanted)
-    }
-}
-
-// The same, whose checker is to be turned as it was.
-fn merges_turned_back(
-    alloc: Global,
-    calls: &[Call<'_>],
-    checker: &mut SubtypeChecker<'_>,
-    is_each: bool,
-    wanted: &str,
-) -> Trial
-    requires { MayBeAggregated 9 (handed_in calls.now) }
-{
-    let (direction, depth) = (checker.direction(), checker.depth());
-    let trial = merges(alloc, calls, checker, is_each, wanted);
-    both(demand(is_turned(checker, direction, depth)), trial)
-}
-
-// Whether the items in a cache are of these two collections.
-fn is_of_both(first: &Types, second: &Types, cache: &Cache) -> bool {
-    for (a, b) in cache.iter() {
-        let is_known = first.contains_item(*a) || second.contains_item(*a);
-        if !is_known || !(first.contains_item(*b) || second.contains_item(*b)) {
-            return false;
-        }
-    }
-    true
-}
-
-// Merges twice with one checker, so that the second answer rests on what the first one left.
-fn merges_twice(
-    alloc: Global,
-    checker: &mut SubtypeChecker<'_>,
-    first: &Types,
-    second: &Types,
-    row: &Merging,
-    is_each: bool,
-) -> Trial {
-    if first.number() != 1 || second.number() != 2 {
-        return Err(Stop::Wrong);
-    }
-    let calls = calls_of(alloc, first, second, row.handed)?;
-    let once = merges_turned_back(alloc, &calls, checker, is_each, row.wanted);
-    let again = merges_turned_back(alloc, &calls, checker, is_each, row.wanted);
-    twice(once, again)
-}
-
-// A row with its collections, merged at once or one call after the other.
-#[derive(Drop)]
-struct Collections<'a> {
-    first: &'a Types,
-    second: &'a Types,
-    row: &'a Merging,
-    is_each: bool,
-}
-
-impl Asking for Collections<'_> {
-    fn ask(&self, alloc: Global, checker: &mut SubtypeChecker<'_>) -> Trial {
-        merges_twice(
-            alloc,
-            checker,
-            self.first,
-            self.second,
-            self.row,
-            self.is_each,
-        )
-    }
-
-    fn look(&self, _alloc: Global, cache: &Cache) -> Trial {
-        demand(is_of_both(self.first, self.second, cache))
-    }
-}
-
-// Merges what a row hands in, of its first collection and of the second, which is built here.
-fn merges_with_second(alloc: Global, first: &Types, row: &Merging, is_each: bool) -> Trial {
-    let second = built(alloc, 2, row.second)?;
-    let collections = Collections {
-        first,
-        second: &second,
-        row,
-        is_each,
-    };
-    asked(alloc, &collections)
-}
-
-// A row whose collections are to be built.
-#[derive(Drop)]
-struct Merge<'a> {
-    row: &'a Merging,
-    is_each: bool,
-}
-
-impl Attempt for Merge<'_> {
-    fn attempt(&self, alloc: Global, types: &mut Types) -> Trial {
-        merges_with_second(alloc, types, self.row, self.is_each)
-    }
-}
-
 #[test]
 fn a_checker_is_as_before_where_a_call_is_refused(rt: HostRuntime) {
-    for row in &ROWS {
-        for is_each in [false, true] {
-            let merge = Merge { row, is_each };
-            assert!(&rt;
-                is_shown_of(rt.alloc(), row.first, &merge),
-                "{is_each} {}",
-                row.wanted
-            );
-        }
-    }
+    try_each(&rt, rt.alloc(), &CASES);
 }

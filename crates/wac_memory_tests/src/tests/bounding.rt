@@ -2,127 +2,22 @@
 
 ghost use Rattle.wac_types.specs.Key.{AllStand, item_keys};
 
-use super::built::{Attempt, is_shown_of, text_of_lines};
-use super::trial::{Stop, Trial, demand, item, refused, text_of};
+use super::cases::{Case, Tried, try_each};
+use super::filling::{Change, demand_kept, demand_lines};
+use super::trial::{Trial, item};
 use std::alloc::{AllocError, Global};
-use std::{fmt, slice};
-use wac_test_tools::debugs;
 use wac_types::{ItemKind, Types, join, meet};
 
-// Two items of a collection, and the lines of the entries that their meet and their join add.
-struct Bounding {
+// Two items of a collection, whose meet is looked for in one way, and their join in another one.
+pub(crate) struct Bounding {
+    // The lines of the collection.
     lines: &'static str,
     a: &'static str,
     b: &'static str,
-    // Whether they have a meet, and what is added for it.
+    // Whether they have a meet, and the lines of the entries that are added for it.
     meet: (bool, &'static str),
-    // Whether they have a join, and what is added for it.
+    // Whether they have a join, and the lines of the entries that are added for it.
     join: (bool, &'static str),
-}
-
-static ROWS: [Bounding; 4] = [
-    Bounding {
-        lines: "func sync -\niface - e:f=F:fn0\niface - e:g=F:fn0",
-        a: "I:i0",
-        b: "I:i1",
-        meet: (true, "\niface - e:f=F:fn0 e:g=F:fn0"),
-        join: (true, "\niface -"),
-    },
-    Bounding {
-        lines: "func sync -\nfunc sync - a=u8\nworld - m:x=F:fn0\nworld - m:x=F:fn1",
-        a: "C:w0",
-        b: "C:w1",
-        meet: (true, "\nworld -"),
-        join: (false, ""),
-    },
-    Bounding {
-        lines: "module e:m=mem:1:10:0:0:-\nmodule e:m=mem:4:-:0:0:-",
-        a: "M:m0",
-        b: "M:m1",
-        meet: (true, "\nmodule e:m=mem:4:10:0:0:-"),
-        join: (true, "\nmodule e:m=mem:1:-:0:0:-"),
-    },
-    // chains that share
-    Bounding {
-        lines: "func sync -
-iface - e:f=F:fn0
-iface - e:g=F:fn0
-iface - e:a=I:i0 e:b=I:i0
-iface - e:a=I:i1 e:b=I:i1
-iface - e:a=I:i2 e:b=I:i2
-iface - e:a=I:i3 e:b=I:i3",
-        a: "I:i4",
-        b: "I:i5",
-        meet: (
-            true,
-            "\niface - e:f=F:fn0 e:g=F:fn0\niface - e:a=I:i6 e:b=I:i6\niface - e:a=I:i7 e:b=I:i7",
-        ),
-        join: (
-            true,
-            "\niface -\niface - e:a=I:i6 e:b=I:i6\niface - e:a=I:i7 e:b=I:i7",
-        ),
-    },
-];
-
-// How many entries each list has.
-#[derive(Clone, Copy)]
-struct Counts {
-    func_types: usize,
-    interfaces: usize,
-    worlds: usize,
-    modules: usize,
-}
-
-impl Counts {
-    fn of(types: &Types) -> Counts {
-        Counts {
-            func_types: types.func_types().len(),
-            interfaces: types.interfaces().len(),
-            worlds: types.worlds().len(),
-            modules: types.modules().len(),
-        }
-    }
-}
-
-// The first entries of each list of a collection, so many of each.
-#[derive(Drop)]
-struct Front<'a> {
-    types: &'a Types,
-    counts: Counts,
-}
-
-// Writes the first entries of a list, so many, each on a line.
-fn write_first<W: fmt::Write, T: fmt::Debug>(
-    f: &mut fmt::Formatter<W>,
-    entries: slice::Iter<'_, T>,
-    count: usize,
-) -> fmt::Result {
-    for entry in entries.take(count) {
-        writeln!(f, "{entry:?}")?;
-    }
-    Ok(())
-}
-
-impl fmt::Debug for Front<'_> {
-    fn fmt<W: fmt::Write>(&self, f: &mut fmt::Formatter<W>) -> fmt::Result {
-        let (types, counts) = (self.types, self.counts);
-        write_first(f, types.func_types(), counts.func_types)?;
-        write_first(f, types.interfaces(), counts.interfaces)?;
-        write_first(f, types.worlds(), counts.worlds)?;
-        write_first(f, types.modules(), counts.modules)
-    }
-}
-
-// The debug text of the front of a collection.
-fn front_text(alloc: Global, types: &Types, counts: Counts) -> Result<String, AllocError> {
-    let front = Front { types, counts };
-    text_of(alloc, &front)
-}
-
-// Whether the front of a collection has this debug text.
-fn keeps(types: &Types, counts: Counts, text: &str) -> bool {
-    let front = Front { types, counts };
-    debugs(&front, text)
 }
 
 // The meet of two items, or their join.
@@ -143,54 +38,98 @@ fn meet_or_join(
     }
 }
 
-// Whether the items of a row have a bound, or none where that is refused.
-fn bounds(
-    alloc: Global,
-    types: &mut Types,
-    row: &Bounding,
-    is_meet: bool,
-) -> Result<Option<bool>, Stop> {
-    let (Ok(a), Ok(b)) = (item(types, row.a), item(types, row.b)) else {
-        return Err(Stop::Wrong);
-    };
-    match meet_or_join(alloc, types, a, b, is_meet) {
-        Ok(found) => Ok(Some(found.is_some())),
-        Err(_) => Ok(None),
-    }
-}
-
-// Bounds the items of a row.
-#[derive(Drop)]
-struct Bound<'a> {
-    row: &'a Bounding,
-    is_meet: bool,
-}
-
-impl Attempt for Bound<'_> {
-    fn attempt(&self, alloc: Global, types: &mut Types) -> Trial {
-        let row = self.row;
-        let (is_there, added) = if self.is_meet { row.meet } else { row.join };
-        let lines = format!(in alloc; "{}{added}", row.lines)?;
-        let grown = text_of_lines(alloc, &lines)?;
-        let counts = Counts::of(types);
-        let kept = front_text(alloc, types, counts)?;
-        match bounds(alloc, types, row, self.is_meet)? {
-            Some(is_found) => demand(is_found == is_there && debugs(types, &grown)),
-            None => refused(keeps(types, counts, &kept)),
+impl Bounding {
+    pub(crate) fn attempt(&self, types: &mut Types, way: usize, trial: &mut Trial) {
+        let (is_there, added) = if way == 0 { self.meet } else { self.join };
+        let (Ok(a), Ok(b)) = (item(types, self.a), item(types, self.b)) else {
+            return trial.demand(false);
+        };
+        match meet_or_join(trial.alloc, types, a, b, way == 0) {
+            Ok(found) => {
+                trial.demand(found.is_some() == is_there);
+                let change = Change::where_made(true, 1, added);
+                demand_lines(types, &[self.lines, ""], &change, trial);
+            }
+            Err(_) => {
+                trial.refuse();
+                demand_kept(types, &[self.lines], trial);
+            }
         }
     }
 }
+
+const INSTANCES: &str = "func sync -\niface - e:f=F:fn0\niface - e:g=F:fn0";
+
+const COMPONENTS: &str = "func sync -\nfunc sync - a=u8\nworld - m:x=F:fn0\nworld - m:x=F:fn1";
+
+const MODULES: &str = "module e:m=mem:1:10:0:0:-\nmodule e:m=mem:4:-:0:0:-";
+
+const CHAINS: &str = "func sync -
+iface - e:f=F:fn0
+iface - e:g=F:fn0
+iface - e:a=I:i0 e:b=I:i0
+iface - e:a=I:i1 e:b=I:i1
+iface - e:a=I:i2 e:b=I:i2
+iface - e:a=I:i3 e:b=I:i3";
+
+static CASES: [Case; 4] = [
+    Case {
+        shown: "instances",
+        texts: &[INSTANCES],
+        ways: 2,
+        tried: Tried::Bounds(Bounding {
+            lines: INSTANCES,
+            a: "I:i0",
+            b: "I:i1",
+            meet: (true, "iface - e:f=F:fn0 e:g=F:fn0"),
+            join: (true, "iface -"),
+        }),
+    },
+    Case {
+        shown: "components",
+        texts: &[COMPONENTS],
+        ways: 2,
+        tried: Tried::Bounds(Bounding {
+            lines: COMPONENTS,
+            a: "C:w0",
+            b: "C:w1",
+            meet: (true, "world -"),
+            join: (false, ""),
+        }),
+    },
+    Case {
+        shown: "core modules",
+        texts: &[MODULES],
+        ways: 2,
+        tried: Tried::Bounds(Bounding {
+            lines: MODULES,
+            a: "M:m0",
+            b: "M:m1",
+            meet: (true, "module e:m=mem:4:10:0:0:-"),
+            join: (true, "module e:m=mem:1:-:0:0:-"),
+        }),
+    },
+    Case {
+        shown: "chains that share",
+        texts: &[CHAINS],
+        ways: 2,
+        tried: Tried::Bounds(Bounding {
+            lines: CHAINS,
+            a: "I:i4",
+            b: "I:i5",
+            meet: (
+                true,
+                "iface - e:f=F:fn0 e:g=F:fn0\niface - e:a=I:i6 e:b=I:i6\niface - e:a=I:i7 e:b=I:i7",
+            ),
+            join: (
+                true,
+                "iface -\niface - e:a=I:i6 e:b=I:i6\niface - e:a=I:i7 e:b=I:i7",
+            ),
+        }),
+    },
+];
 
 #[test]
 fn entries_that_stood_keep_their_content(rt: HostRuntime) {
-    for row in &ROWS {
-        for is_meet in [false, true] {
-            let bound = Bound { row, is_meet };
-            assert!(&rt;
-                is_shown_of(rt.alloc(), row.lines, &bound),
-                "{is_meet} {}",
-                row.a
-            );
-        }
-    }
+    try_each(&rt, rt.alloc(), &CASES);
 }

@@ -1,40 +1,94 @@
 //! Clones: a clone is like its original, and where it is refused the original is as before.
 
-use super::built::{Attempt, is_shown_of};
-use super::entries::is_shown_of_entries;
-use super::trial::{Trial, both, demand, is_shown, refused, text_of};
-use std::alloc::Global;
+use super::cases::{Case, Tried, try_each};
+use super::entries::ENTRIES;
+use super::trial::Trial;
+use indexmap::map::Values;
 use std::fmt::Debug;
 use std::slice;
-use wac_test_tools::debugs;
 use wac_types::{CoreExtern, DefinedType, Interface, ModuleType, NameClass, Types};
 
 // Clones a value.
-pub(crate) fn clones<T: Clone + Debug>(alloc: Global, value: &T) -> Trial {
-    let text = text_of(alloc, value)?;
+pub(crate) fn clone<T: Clone + Debug>(value: &T, trial: &mut Trial) {
+    let text = trial.text_of(value);
     match value.clone() {
-        Ok(copy) => demand(debugs(&copy, &text) && debugs(value, &text)),
-        Err(_) => refused(debugs(value, &text)),
+        Ok(copy) => trial.demand_text(&copy, &text),
+        Err(_) => trial.refuse(),
     }
+    trial.demand_text(value, &text);
 }
 
 // Clones each value of a list.
-fn clones_each<T: Clone + Debug>(alloc: Global, values: slice::Iter<'_, T>) -> Trial {
+fn clone_each<T: Clone + Debug>(values: slice::Iter<'_, T>, trial: &mut Trial) {
     for value in values {
-        clones(alloc, value)?;
+        clone(value, trial);
     }
-    Ok(())
 }
 
-// Clones the part of a defined type that has a type of its own.
-fn clones_part(alloc: Global, ty: &DefinedType) -> Trial {
+// Clones a defined type, and the part of it that has a type of its own.
+fn clone_defined_type(ty: &DefinedType, trial: &mut Trial) {
+    clone(ty, trial);
     match ty {
-        DefinedType::Variant(part) => clones(alloc, part),
-        DefinedType::Record(part) => clones(alloc, part),
-        DefinedType::Flags(part) => clones(alloc, part),
-        DefinedType::Enum(part) => clones(alloc, part),
-        _ => Ok(()),
+        DefinedType::Variant(part) => clone(part, trial),
+        DefinedType::Record(part) => clone(part, trial),
+        DefinedType::Flags(part) => clone(part, trial),
+        DefinedType::Enum(part) => clone(part, trial),
+        _ => {}
     }
+}
+
+// Clones an interface, and what it uses.
+fn clone_interface(interface: &Interface, trial: &mut Trial) {
+    clone(interface, trial);
+    for used in interface.uses.values() {
+        clone(used, trial);
+    }
+}
+
+// Clones what is imported or exported, and of a function its type.
+fn clone_externs<K>(items: Values<'_, K, CoreExtern>, trial: &mut Trial) {
+    for item in items {
+        clone(item, trial);
+        if let CoreExtern::Func(ty) | CoreExtern::Tag(ty) = item {
+            clone(ty, trial);
+        }
+    }
+}
+
+// Clones a core module, and what it imports and exports.
+fn clone_module(module: &ModuleType, trial: &mut Trial) {
+    clone(module, trial);
+    clone_externs(module.imports.values(), trial);
+    clone_externs(module.exports.values(), trial);
+}
+
+// Clones the contents that have parts, and their parts.
+fn clone_with_parts(types: &Types, trial: &mut Trial) {
+    for ty in types.defined_types() {
+        clone_defined_type(ty, trial);
+    }
+    for interface in types.interfaces() {
+        clone_interface(interface, trial);
+    }
+    for module in types.modules() {
+        clone_module(module, trial);
+    }
+}
+
+fn clone_class(trial: &mut Trial) {
+    match NameClass::of(trial.alloc, "a:b/c@1.2.3") {
+        Ok(class) => clone(&class, trial),
+        Err(_) => trial.refuse(),
+    }
+}
+
+// Clones each content of a collection, and a class of names.
+pub(crate) fn clone_all(types: &Types, trial: &mut Trial) {
+    clone_with_parts(types, trial);
+    clone_each(types.resources(), trial);
+    clone_each(types.func_types(), trial);
+    clone_each(types.worlds(), trial);
+    clone_class(trial);
 }
 
 // Defined types of each kind.
@@ -52,103 +106,22 @@ def record a=u8
 def flags a b
 def enum a b";
 
-fn clones_defined_types(alloc: Global, types: &Types) -> Trial {
-    for ty in types.defined_types() {
-        both(clones(alloc, ty), clones_part(alloc, ty))?;
-    }
-    Ok(())
-}
-
-// Clones an interface, and what it uses.
-fn clones_interface(alloc: Global, interface: &Interface) -> Trial {
-    for used in interface.uses.values() {
-        clones(alloc, used)?;
-    }
-    clones(alloc, interface)
-}
-
-// Clones what is imported or exported, and of a function its type.
-fn clones_extern(alloc: Global, item: &CoreExtern) -> Trial {
-    let part = match item {
-        CoreExtern::Func(ty) | CoreExtern::Tag(ty) => clones(alloc, ty),
-        _ => Ok(()),
-    };
-    both(clones(alloc, item), part)
-}
-
-fn clones_imports(alloc: Global, module: &ModuleType) -> Trial {
-    for item in module.imports.values() {
-        clones_extern(alloc, item)?;
-    }
-    Ok(())
-}
-
-fn clones_exports(alloc: Global, module: &ModuleType) -> Trial {
-    for item in module.exports.values() {
-        clones_extern(alloc, item)?;
-    }
-    Ok(())
-}
-
-// Clones a core module, and what it imports and exports.
-fn clones_module(alloc: Global, module: &ModuleType) -> Trial {
-    let parts = both(clones_imports(alloc, module), clones_exports(alloc, module));
-    both(clones(alloc, module), parts)
-}
-
-// Clones the interfaces, and what they use.
-fn clones_interfaces(alloc: Global, types: &Types) -> Trial {
-    for interface in types.interfaces() {
-        clones_interface(alloc, interface)?;
-    }
-    Ok(())
-}
-
-// Clones the core modules, and their parts.
-fn clones_modules(alloc: Global, types: &Types) -> Trial {
-    for module in types.modules() {
-        clones_module(alloc, module)?;
-    }
-    Ok(())
-}
-
-// Clones the contents of the other sorts, and their parts.
-fn clones_contents(alloc: Global, types: &Types) -> Trial {
-    let plain = both(
-        clones_each(alloc, types.resources()),
-        clones_each(alloc, types.func_types()),
-    );
-    let with_parts = both(
-        clones_interfaces(alloc, types),
-        clones_modules(alloc, types),
-    );
-    both(clones_each(alloc, types.worlds()), both(plain, with_parts))
-}
-
-// Clones each content of a collection.
-#[derive(Clone, Copy)]
-struct Cloning;
-
-impl Attempt for Cloning {
-    fn attempt(&self, alloc: Global, types: &mut Types) -> Trial {
-        both(
-            clones_defined_types(alloc, types),
-            clones_contents(alloc, types),
-        )
-    }
-}
-
-fn clones_class(alloc: Global) -> Trial {
-    let class = NameClass::of(alloc, "a:b/c@1.2.3")?;
-    clones(alloc, &class)
-}
+static CASES: [Case; 2] = [
+    Case {
+        shown: "defined types",
+        texts: &[DEFINED],
+        ways: 1,
+        tried: Tried::Clones,
+    },
+    Case {
+        shown: "entries",
+        texts: &ENTRIES,
+        ways: 1,
+        tried: Tried::Clones,
+    },
+];
 
 #[test]
 fn a_value_is_as_before_where_its_clone_is_refused(rt: HostRuntime) {
-    assert!(&rt; is_shown_of(rt.alloc(), DEFINED, &Cloning), "defined types");
-    assert!(&rt; is_shown_of_entries(rt.alloc(), &Cloning), "entries");
-    assert!(&rt;
-        is_shown(clones_class(rt.alloc()), clones_class(rt.alloc())),
-        "class of names"
-    );
+    try_each(&rt, rt.alloc(), &CASES);
 }

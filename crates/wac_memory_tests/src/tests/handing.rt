@@ -4,9 +4,30 @@ ghost use Rattle.std.specs.Prelude.{◌≡◌, [], ◌∷◌, ◌++◌, Some, If
 ghost use Rattle.wac_types.specs.HandedIn.{handed_in};
 ghost use Rattle.wac_memory_tests.specs.Calls.{AreCallsOf, collection_at};
 
-use super::trial::{Stop, Trial, item};
+use super::trial::item;
 use std::alloc::{AllocError, Global};
 use wac_types::{Call, ItemKind, Types};
+
+// Why calls weren't made.
+#[derive(Drop)]
+pub(crate) enum Stop {
+    // A request was refused.
+    Refused,
+    // There is no such item.
+    Missing,
+}
+
+impl Stop {
+    pub(crate) fn is_refusal(&self) -> bool {
+        matches!(self, Stop::Refused)
+    }
+}
+
+impl From<AllocError> for Stop {
+    fn from(_error: AllocError) -> Stop {
+        Stop::Refused
+    }
+}
 
 // The name under which an item is handed in, the number of its collection, and the word that names
 // it there.
@@ -42,7 +63,7 @@ fn push_handed<'a>(
     first: &'a Types,
     second: &'a Types,
     handed: Handed,
-) -> Trial
+) -> Result<(), Stop>
     requires first { first.now.number ≡ 1 }
     requires second { second.now.number ≡ 2 }
     requires calls { AreCallsOf first.now second.now (handed_in calls.old.items) }
@@ -51,7 +72,7 @@ fn push_handed<'a>(
     let (name, number, word) = handed;
     let types = numbered(first, second, number);
     let Ok(kind) = item(types, word) else {
-        return Err(Stop::Wrong);
+        return Err(Stop::Missing);
     };
     push_call(calls, name, types, kind)?;
     Ok(())

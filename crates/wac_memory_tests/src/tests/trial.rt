@@ -1,108 +1,98 @@
-//! What a trial of a call comes to.
+//! What trials of calls come to.
 
 ghost use Rattle.std.specs.Prelude.{IfOk};
 ghost use Rattle.wac_types.specs.Key.{AllStand, item_keys};
 
-use std::alloc::{AllocError, AllocFailed, Global};
+use std::alloc::Global;
 use std::fmt::Debug;
 use wac_script_entries::find_item;
 use wac_script_syntax::{ScriptError, read_item};
-use wac_test_tools::Missing;
-use wac_types::{ItemKind, NameError, Types};
+use wac_test_tools::{Missing, debugs};
+use wac_types::{ItemKind, Types};
 
-// Why a trial didn't come to its end.
-#[derive(Clone, Copy)]
-pub(crate) enum Stop {
-    // A request was refused, and what has to stand then stands.
-    Refused,
-    // Something isn't as it has to be.
-    Wrong,
+// What the trials of one thing have come to so far. What is refused or wrong is noted, and the trial
+// goes on with the rest: a function with few ways out is quick to prove.
+#[derive(Drop)]
+pub(crate) struct Trial {
+    pub(crate) alloc: Global,
+    // How many calls said that a request was refused.
+    refusals: usize,
+    // Whether something wasn't as it has to be.
+    is_wrong: bool,
 }
 
-pub(crate) type Trial = Result<(), Stop>;
-
-impl From<AllocError> for Stop {
-    fn from(_error: AllocError) -> Stop {
-        Stop::Refused
-    }
-}
-
-impl<T: Drop> From<AllocFailed<T>> for Stop {
-    fn from(_error: AllocFailed<T>) -> Stop {
-        Stop::Refused
-    }
-}
-
-impl From<ScriptError<'_>> for Stop {
-    fn from(error: ScriptError<'_>) -> Stop {
-        match error {
-            ScriptError::Memory => Stop::Refused,
-            _ => Stop::Wrong,
+impl Trial {
+    pub(crate) fn new(alloc: Global) -> Trial {
+        Trial {
+            alloc,
+            refusals: 0,
+            is_wrong: false,
         }
     }
-}
 
-impl From<NameError> for Stop {
-    fn from(error: NameError) -> Stop {
-        match error {
-            NameError::Memory => Stop::Refused,
-            NameError::Twice { name: _ } => Stop::Wrong,
+    // Notes what has to hold.
+    pub(crate) fn demand(&mut self, holds: bool) {
+        self.is_wrong |= !holds;
+    }
+
+    // Notes that a request was refused.
+    pub(crate) fn refuse(&mut self) {
+        self.refusals = self.refusals.saturating_add(1);
+    }
+
+    // Notes an error, which may say that a request was refused.
+    pub(crate) fn fail(&mut self, is_refusal: bool) {
+        if is_refusal {
+            self.refuse();
+        } else {
+            self.demand(false);
         }
     }
-}
 
-impl From<Missing> for Stop {
-    fn from(_missing: Missing) -> Stop {
-        Stop::Wrong
+    // Notes why lines weren't read.
+    pub(crate) fn fail_line(&mut self, error: &ScriptError<'_>) {
+        self.fail(matches!(error, ScriptError::Memory));
     }
-}
 
-// Whether of two trials one came to its end, and the other one did or was refused.
-pub(crate) fn is_shown(first: Trial, second: Trial) -> bool {
-    match (first, second) {
-        (Ok(()), Ok(())) => true,
-        (Ok(()), Err(stop)) | (Err(stop), Ok(())) => matches!(stop, Stop::Refused),
-        (Err(_), Err(_)) => false,
+    // Whether all was as it has to be: of the two trials that it was told of, one refused request
+    // spoils one at most, by one call.
+    pub(crate) fn is_passed(&self) -> bool {
+        !self.is_wrong && self.refusals <= 1
     }
-}
 
-// What a trial of two parts comes to: what was refused in one doesn't hide what is wrong in the
-// other.
-pub(crate) fn both(first: Trial, second: Trial) -> Trial {
-    match (first, second) {
-        (Ok(()), trial) | (trial, Ok(())) => trial,
-        (Err(Stop::Refused), Err(Stop::Refused)) => Err(Stop::Refused),
-        _ => Err(Stop::Wrong),
+    // The debug text of a value, empty where it is refused.
+    pub(crate) fn text_of<D: Debug>(&mut self, value: &D) -> String {
+        let alloc = self.alloc;
+        match format!(in alloc; "{value:?}") {
+            Ok(text) => text,
+            Err(_) => {
+                self.refuse();
+                String::new(alloc)
+            }
+        }
     }
-}
 
-// What a trial comes to that tries the same twice, of which one refused request spoils one at most.
-pub(crate) fn twice(first: Trial, second: Trial) -> Trial {
-    both(demand(is_shown(first, second)), both(first, second))
-}
+    // Demands that a value has this debug text, unless the text is one that was refused.
+    pub(crate) fn demand_text<D: Debug>(&mut self, value: &D, text: &str) {
+        self.demand(text.is_empty() || debugs(value, text));
+    }
 
-// A trial that comes to its end where this holds.
-pub(crate) fn demand(holds: bool) -> Trial {
-    if holds { Ok(()) } else { Err(Stop::Wrong) }
-}
-
-// A trial that was refused, after which this holds.
-pub(crate) fn refused(holds: bool) -> Trial {
-    Err(if holds { Stop::Refused } else { Stop::Wrong })
-}
-
-// The debug text of a value.
-pub(crate) fn text_of<D: Debug>(alloc: Global, value: &D) -> Result<String, AllocError> {
-    format!(in alloc; "{value:?}")
+    // Demands that two values have one debug text.
+    pub(crate) fn demand_alike<D: Debug>(&mut self, value: &D, other: &D) {
+        let text = self.text_of(other);
+        self.demand_text(value, &text);
+    }
 }
 
 // The item that a word of a script names.
-pub(crate) fn item(types: &Types, word: &str) -> Result<ItemKind, Stop>
+pub(crate) fn item(types: &Types, word: &str) -> Result<ItemKind, Missing>
     ensures { IfOk result (λ kind. AllStand types.now (item_keys kind)) }
 {
-    let named = read_item(word)?;
-    match find_item(types, named) {
-        Ok(found) => Ok(found),
-        Err(_) => Err(Stop::Wrong),
+    match read_item(word) {
+        Ok(named) => match find_item(types, named) {
+            Ok(found) => Ok(found),
+            Err(_) => Err(Missing),
+        },
+        Err(_) => Err(Missing),
     }
 }

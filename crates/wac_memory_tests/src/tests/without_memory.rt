@@ -1,10 +1,8 @@
 //! Calls that take no memory, and so answer whatever is refused.
 
-use super::asking::{Asking, asked};
-use super::built::Attempt;
-use super::entries::is_shown_of_entries;
-use super::trial::{Trial, demand, item};
-use std::alloc::Global;
+use super::cases::{Cache, Case, Tried, try_each};
+use super::entries::ENTRIES;
+use super::trial::{Trial, item};
 use wac_test_tools::{defined, interface, lists_seen, resource, world};
 use wac_types::{
     BorrowedPackageKey, ItemKind, SubtypeCheck, SubtypeChecker, TargetValidationReport,
@@ -12,119 +10,115 @@ use wac_types::{
     is_same_key, track_of,
 };
 
-// Whether what a collection of `entries` says of its second defined type, its resources and its
-// interfaces is right.
-fn tells_entries(types: &Types) -> bool {
-    let (Ok(record), Ok(list)) = (defined(types, 1), defined(types, 0)) else {
-        return false;
-    };
-    let (Ok(other), Ok(file)) = (resource(types, 1), resource(types, 0)) else {
-        return false;
+// Demands that what a collection of `entries` says of its first two defined types is right.
+fn demand_defined_types(types: &Types, trial: &mut Trial) {
+    let (Ok(list), Ok(record)) = (defined(types, 0), defined(types, 1)) else {
+        return trial.demand(false);
     };
     let value = ValueType::Defined(record);
-    types.contains(Type::Value(value))
-        && types.resolve_value_type(value) == value
-        && types.resolve_resource(other) == file
-        && !value.contains_borrow(types)
-        && value.desc(types) == "record"
-        && lists_seen(types, record) == 1
-        && lists_seen(types, list) == 1
+    trial.demand(types.contains(Type::Value(value)));
+    trial.demand(types.resolve_value_type(value) == value);
+    trial.demand(!value.contains_borrow(types));
+    trial.demand(value.desc(types) == "record");
+    trial.demand(lists_seen(types, record) == 1);
+    trial.demand(lists_seen(types, list) == 1);
 }
 
-// Whether an item of a word has this description, and a type of this one.
-fn describes(types: &Types, word: &str, text: &str, ty: &str) -> bool {
+// Demands that the root of the second resource is the first.
+fn demand_root(types: &Types, trial: &mut Trial) {
+    let (Ok(file), Ok(other)) = (resource(types, 0), resource(types, 1)) else {
+        return trial.demand(false);
+    };
+    trial.demand(types.resolve_resource(other) == file);
+}
+
+// Demands that an item of a word has this description, and a type of this one.
+fn demand_descriptions(types: &Types, word: &str, text: &str, ty: &str, trial: &mut Trial) {
     let Ok(kind) = item(types, word) else {
-        return false;
+        return trial.demand(false);
     };
+    trial.demand(types.contains_item(kind));
+    trial.demand(kind.desc(types) == text);
     let promoted = ItemKind::Type(kind.ty());
-    types.contains_item(kind)
-        && kind.desc(types) == text
-        && types.contains_item(promoted)
-        && promoted.desc(types) == ty
-        && promoted.promote() == kind
-}
-
-// Whether what is listed of a collection of `entries` is right.
-fn tells_lists(types: &Types) -> bool {
-    let (Ok(interface), Ok(world)) = (interface(types, 1), world(types, 1)) else {
-        return false;
-    };
-    types.number() == 1
-        && types.defined_types().len() >= 3
-        && types.modules().len() >= 3
-        && types[interface].exports.len() == 1
-        && types[world].imports.len() == 1
-}
-
-// Whether names without versions, and with plain ones, have their tracks.
-fn tells_tracks(alloc: Global) -> bool {
-    matches!(are_semver_compatible(alloc, "a", "a"), Ok(true))
-        && matches!(
-            are_semver_compatible(alloc, "a:b/c@0.2.0", "a:b/c@0.3.0"),
-            Ok(false)
-        )
-        && matches!(track_of(alloc, "a:b/c"), Ok(None))
-}
-
-// Whether these calls answer as they always do.
-pub(crate) fn answers(alloc: Global, types: &Types) -> bool {
-    tells_entries(types)
-        && tells_lists(types)
-        && describes(types, "F:fn1", "function", "function type")
-        && describes(types, "I:i1", "instance", "interface")
-        && tells_tracks(alloc)
-}
-
-#[derive(Clone, Copy)]
-struct Answering;
-
-impl Attempt for Answering {
-    fn attempt(&self, alloc: Global, types: &mut Types) -> Trial {
-        demand(answers(alloc, types))
+    if !types.contains_item(promoted) {
+        return trial.demand(false);
     }
+    trial.demand(promoted.desc(types) == ty);
+    trial.demand(promoted.promote() == kind);
 }
 
-// Whether a checker turns, turns back and forgets.
-fn turns(checker: &mut SubtypeChecker<'_>) -> bool {
+// Demands that what is listed of a collection of `entries` is right.
+fn demand_lists(types: &Types, trial: &mut Trial) {
+    let (Ok(interface), Ok(world)) = (interface(types, 1), world(types, 1)) else {
+        return trial.demand(false);
+    };
+    trial.demand(types.number() == 1);
+    trial.demand(types.defined_types().len() >= 3);
+    trial.demand(types.modules().len() >= 3);
+    trial.demand(types[interface].exports.len() == 1);
+    trial.demand(types[world].imports.len() == 1);
+}
+
+// Demands that names without versions, and with plain ones, have their tracks.
+fn demand_tracks(trial: &mut Trial) {
+    let same = are_semver_compatible(trial.alloc, "a", "a");
+    trial.demand(matches!(same, Ok(true)));
+    let other = are_semver_compatible(trial.alloc, "a:b/c@0.2.0", "a:b/c@0.3.0");
+    trial.demand(matches!(other, Ok(false)));
+    trial.demand(matches!(track_of(trial.alloc, "a:b/c"), Ok(None)));
+}
+
+// Demands that these calls answer as they always do of a collection of `entries`.
+pub(crate) fn demand_answers(types: &Types, trial: &mut Trial) {
+    demand_defined_types(types, trial);
+    demand_root(types, trial);
+    demand_lists(types, trial);
+    demand_descriptions(types, "F:fn1", "function", "function type", trial);
+    demand_descriptions(types, "I:i1", "instance", "interface", trial);
+    demand_tracks(trial);
+}
+
+// Demands that a new checker forgets, turns and turns back.
+fn demand_turns(checker: &mut SubtypeChecker<'_>, trial: &mut Trial) {
     checker.forget(1);
     if checker.depth() != 0 {
-        return false;
+        return trial.demand(false);
     }
-    let before = checker.invert();
-    let turned = checker.direction();
-    let depth = checker.depth();
+    trial.demand(checker.invert() == SubtypeCheck::Covariant);
+    trial.demand(checker.direction() == SubtypeCheck::Contravariant);
+    trial.demand(checker.depth() == 1);
     checker.revert();
-    before == SubtypeCheck::Covariant
-        && turned == SubtypeCheck::Contravariant
-        && (depth, checker.depth(), checker.opened()) == (1, 0, 0)
+    trial.demand(checker.depth() == 0);
+    trial.demand(checker.opened() == 0);
 }
 
-#[derive(Clone, Copy)]
-struct Turning;
-
-impl Asking for Turning {
-    fn ask(&self, _alloc: Global, checker: &mut SubtypeChecker<'_>) -> Trial {
-        demand(turns(checker))
-    }
+// Demands that a new aggregator holds nothing.
+fn demand_no_imports(trial: &mut Trial) {
+    let merged = TypeAggregator::new(trial.alloc, 9);
+    trial.demand(merged.imports().next().is_none());
+    trial.demand(merged.canonical_import_name("a") == "a");
 }
 
-// Whether a new aggregator holds nothing.
-fn aggregator_begins_empty(alloc: Global) -> bool {
-    let merged = TypeAggregator::new(alloc, 9);
-    merged.imports().next().is_none() && merged.canonical_import_name("a") == "a"
+// The same, and what new values answer.
+pub(crate) fn demand_all_answers(types: &Types, cache: &mut Cache, trial: &mut Trial) {
+    demand_answers(types, trial);
+    demand_turns(&mut SubtypeChecker::new(cache), trial);
+    demand_no_imports(trial);
+    // a report without entries says that a component fits
+    let report = TargetValidationReport::new(trial.alloc);
+    trial.demand(TargetValidationResult::from(report).is_ok());
+    let key = BorrowedPackageKey::from_name_and_version("a:b", None);
+    trial.demand(is_same_key(&key, &key));
 }
 
-// Whether a report without entries says that a component fits.
-fn report_begins_empty(alloc: Global) -> bool {
-    TargetValidationResult::from(TargetValidationReport::new(alloc)).is_ok()
-}
+static CASES: [Case; 1] = [Case {
+    shown: "a collection, a checker, an aggregator, a report and a key",
+    texts: &ENTRIES,
+    ways: 1,
+    tried: Tried::Answers,
+}];
 
 #[test]
 fn calls_that_take_no_memory_answer_whatever_is_refused(rt: HostRuntime) {
-    assert!(&rt; is_shown_of_entries(rt.alloc(), &Answering), "a collection");
-    assert!(&rt; asked(rt.alloc(), &Turning).is_ok(), "a checker");
-    assert!(&rt; aggregator_begins_empty(rt.alloc()), "an aggregator");
-    assert!(&rt; report_begins_empty(rt.alloc()), "a report");
-    let key = BorrowedPackageKey::from_name_and_version("a:b", None);
-    assert!(&rt; is_same_key(&key, &key), "a key");
+    try_each(&rt, rt.alloc(), &CASES);
 }
