@@ -16,7 +16,7 @@ use Rattle.wac_narrowing.specs.Laws.{IsNew}
 use Rattle.wac_narrowing.specs.State.{IsKept}
 use Rattle.wac_reasons.proofs.Starting.{new_held}
 use Rattle.wac_call_lists.specs.Holding.{HoldsReached}
-use Rattle.wac_copies.specs.Memo.{memo_of}
+use Rattle.wac_component.specs.Memo.{memo_of}
 use Rattle.wac_imports.specs.Import.{ImportsContent, import_at, AreFiled}
 use Rattle.wac_taking.specs.Takes.{shared_keys, shared_in, state_of, AreFiledIn}
 use Rattle.wac_taking.specs.declared.state.Merging.{Merging}

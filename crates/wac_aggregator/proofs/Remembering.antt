@@ -3,11 +3,11 @@ use Rattle.std.proofs.Common.{◌≡◌, refl, sym, ◌∙◌}
 use Rattle.wac_component.specs.Collection.{Collection}
 use Rattle.wac_component.specs.Id.{Id}
 use Rattle.wac_component.specs.Key.{Key, Sort, defined_sort, resource_sort, func_sort, interface_sort, world_sort, module_sort}
-use Rattle.wac_copies.specs.Memo.{own_at, memo_of}
-use Rattle.wac_copies.specs.declared.memo.Memo.{Memo}
+use Rattle.wac_component.specs.Memo.{Remembered, memo_of, own_at}
+use Rattle.wac_component.specs.declared.memo.Memo.{Memo}
 use Rattle.wac_names.specs.Class.{class_of}
 use Rattle.wac_narrowing.specs.Remembers.{RemembersTruly}
-use Rattle.wac_narrowing.specs.State.{State, Memo as Remembered}
+use Rattle.wac_narrowing.specs.State.{State}
 use Rattle.wac_taking.specs.Takes.{state_of, OwnersImported}
 use Rattle.wac_taking.specs.declared.state.Merging.{Merging}
 use Rattle.wac_aggregator.specs.Content.{own_in, remembered_in, pairs_of, content_of, state_in}

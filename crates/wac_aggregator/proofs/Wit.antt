@@ -26,7 +26,7 @@ use Rattle.wac_call_lists.proofs.ByUses.{member_by_uses, wit_members}
 use Rattle.wac_call_lists.proofs.Members.{apart, due_tree, named_member, named_member_on}
 use Rattle.wac_call_lists.proofs.MoreMembers.{members_of_more, wit_imports_are_meets}
 use Rattle.wac_call_lists.proofs.TakenIn.{sharing_goes_on}
-use Rattle.wac_copies.specs.Memo.{memo_of}
+use Rattle.wac_component.specs.Memo.{memo_of}
 use Rattle.wac_imports.specs.Import.{ImportContent, ImportsContent, import_of, AreFiled}
 use Rattle.wac_taking.specs.Members.{AreMore}
 use Rattle.wac_taking.specs.Takes.{shared_in, shared_keys}

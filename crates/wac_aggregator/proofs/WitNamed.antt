@@ -22,7 +22,7 @@ use Rattle.wac_call_lists.proofs.Among.{among_front, wit_list_fewer}
 use Rattle.wac_call_lists.proofs.Members.{named_not_plain, reaches_by_uses}
 use Rattle.wac_call_lists.proofs.MoreMembers.{members_of_more}
 use Rattle.wac_call_lists.proofs.Sets.{meet_moves}
-use Rattle.wac_copies.specs.Memo.{memo_of}
+use Rattle.wac_component.specs.Memo.{memo_of}
 use Rattle.wac_imports.specs.Import.{ImportContent, import_of, AreFiled}
 use Rattle.wac_taking.specs.Members.{TakesMembers}
 use Rattle.wac_taking.specs.Takes.{shared_in, state_of, MayTake}

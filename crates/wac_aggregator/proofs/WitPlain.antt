@@ -24,7 +24,7 @@ use Rattle.wac_call_lists.proofs.Among.{among_front, wit_list_fewer}
 use Rattle.wac_call_lists.proofs.Members.{named_not_plain}
 use Rattle.wac_call_lists.proofs.MoreMembers.{members_of_more}
 use Rattle.wac_call_lists.proofs.Sets.{meet_moves, meet_of_more, meet_of_one}
-use Rattle.wac_copies.specs.Memo.{memo_of}
+use Rattle.wac_component.specs.Memo.{memo_of}
 use Rattle.wac_imports.specs.Import.{ImportContent, import_of, AreFiled}
 use Rattle.wac_taking.specs.Members.{TakesMembers}
 use Rattle.wac_taking.specs.Takes.{shared_in, shared_keys, state_of, MayTake, OnlyGrows}

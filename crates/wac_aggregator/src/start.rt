@@ -4,8 +4,7 @@ ghost use Rattle.wac_aggregator.specs.InOrder.{IsStart};
 
 use indexmap::IndexMap;
 use std::alloc::Global;
-use wac_component::Types;
-use wac_copies::Memo;
+use wac_component::{Memo, Types};
 use wac_imports::ImportList;
 use wac_mismatch::SubtypeCheck;
 use wac_taking::Merging;

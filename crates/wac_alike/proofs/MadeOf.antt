@@ -4,7 +4,7 @@ use Rattle.std.specs.Option.{option_and_then, option_map, option_map_or}
 use Rattle.wac_component.specs.Id.{Id}
 use Rattle.wac_component.specs.Collection.{Collection, DefinedContent, alias_of, composed, ResourceContent, AliasContent}
 use Rattle.wac_component.specs.Entries.{entry_identifier, identifier_at, owner_at}
-use Rattle.wac_component.specs.Key.{Key, Sort, defined_sort, resource_sort, func_sort, interface_sort, world_sort, module_sort, Entry, defined_entry, resource_entry, func_entry, interface_entry, world_entry, module_entry, entry_at, other_keys, optional_keys, value_keys, alias_keys, resource_keys, defined_keys, next, defined_key, resource_key, interface_key, Stands}
+use Rattle.wac_component.specs.Key.{Key, Sort, defined_sort, resource_sort, func_sort, interface_sort, world_sort, module_sort, Entry, defined_entry, resource_entry, func_entry, interface_entry, world_entry, module_entry, entry_at, entry_keys, other_keys, optional_keys, value_keys, alias_keys, resource_keys, defined_keys, next, defined_key, resource_key, func_key, interface_key, world_key, module_key, Stands}
 use Rattle.wac_component.specs.Open.{open_next, OpenReaches}
 use Rattle.wac_component.specs.Open as walk
 use Rattle.wac_component.specs.Reach.{IsAmong}
@@ -91,6 +91,26 @@ module _ (c : Collection) (p : Id) where
       none : (o : Option ResourceContent) → option_map_or (λ r. entry_identifier (resource_entry r)) o None ≡ None
       none None = refl
       none (Some r) = refl
+
+-- what a defined type is made of is what it names; what isn't a type is made of nothing
+pub made_of_defined : (c : Collection) (p : Id) → next c (defined_key p) ≡ made_next c (defined_key p)
+made_of_defined c p = ap (optional_keys entry_keys) (slice_get-map defined_entry c.defined p.index) ∙ at_map defined_entry entry_keys [] c.defined (slice_get c.defined p.index) ∙ sym (made_defined c p)
+
+nothing : {A : Type 0} (f : A → Entry) → ((x : A) → made_keys (f x) ≡ []) → (o : Option A) → optional_keys made_keys (option_map f o) ≡ []
+nothing f h None = refl
+nothing f h (Some x) = h x
+
+pub made_of_func : (c : Collection) (p : Id) → made_next c (func_key p) ≡ []
+made_of_func c p = ap (optional_keys made_keys) (slice_get-map func_entry c.funcs p.index) ∙ nothing func_entry (λ x. refl) (slice_get c.funcs p.index)
+
+pub made_of_interface : (c : Collection) (p : Id) → made_next c (interface_key p) ≡ []
+made_of_interface c p = ap (optional_keys made_keys) (slice_get-map interface_entry c.interfaces p.index) ∙ nothing interface_entry (λ x. refl) (slice_get c.interfaces p.index)
+
+pub made_of_world : (c : Collection) (p : Id) → made_next c (world_key p) ≡ []
+made_of_world c p = ap (optional_keys made_keys) (slice_get-map world_entry c.worlds p.index) ∙ nothing world_entry (λ x. refl) (slice_get c.worlds p.index)
+
+pub made_of_module : (c : Collection) (p : Id) → made_next c (module_key p) ≡ []
+made_of_module c p = ap (optional_keys made_keys) (slice_get-map module_entry c.modules p.index) ∙ nothing module_entry (λ x. refl) (slice_get c.modules p.index)
 
 -- types have no identifiers
 pub no_identifier : (c : Collection) (k : Key) → IsTypeKey k → identifier_at c k ≡ None

@@ -1,32 +1,19 @@
--- Defined types and resources as code lists them, and what a walk along them notes.
-use Rattle.std.specs.Prelude.{◌≡◌, ◌↔◌, ◌⊎◌, List, Contains, Option, Some, None}
+-- Resources among the ids of entries, and the tracks of their owners.
+use Rattle.std.specs.Prelude.{◌≡◌, ◌↔◌, List, Contains, Option, Some, None}
 use Rattle.indexmap.specs.IndexSet.{IndexSet}
 use Rattle.wac_component.specs.Id.{Id}
 use Rattle.wac_component.specs.Collection.{Collection}
 use Rattle.wac_component.specs.Entries.{owner_at}
-use Rattle.wac_component.specs.Key.{Key, defined_key, resource_key, Stands}
-use Rattle.wac_component.specs.Reach.{IsAmong}
+use Rattle.wac_component.specs.Key.{resource_key, Stands}
+use Rattle.wac_component.specs.declared.collection.naming.EntryId.{EntryId}
+use Rattle.wac_component.specs.declared.collection.naming.EntryId.TheVariants.{Resource}
 use Rattle.wac_names.specs.Class.{Class}
-use Rattle.wac_alike.specs.Alike.{made_next, IsMadeOf, AreIdentified, IsTrackAmong}
-use Rattle.wac_alike.specs.declared.parts.Part.{Part}
-use Rattle.wac_alike.specs.declared.parts.Part.TheVariants.{Defined, Resource}
-
--- the id with its sort
-abbrev pub key_of : Part → Key
-key_of (Defined p) = defined_key p
-key_of (Resource p) = resource_key p
+use Rattle.wac_alike.specs.Alike.{AreIdentified, IsTrackAmong}
 
 -- the resource, if it is one
-abbrev pub resource_in : Part → Option Id
-resource_in (Defined p) = None
+abbrev pub resource_in : EntryId → Option Id
 resource_in (Resource p) = Some p
-
--- these types were noted, with all that they are made of, and nothing else was
-pub record Notes (c : Collection) (ks before now : List Key) : Type 0 where
-  pub kept : (t : Key) → IsAmong t before → IsAmong t now
-  pub noted : (t : Key) → IsAmong t ks → IsAmong t now
-  pub made : (t : Key) → IsAmong t now → IsAmong t before ⊎ ((k : Key) × IsAmong k ks × IsMadeOf c k t)
-  pub closed : (t j : Key) → IsAmong t now → IsAmong j (made_next c t) → IsAmong t before ⊎ IsAmong j now
+resource_in e = None
 
 -- each of these resources stands in the collection
 abbrev pub AllStandIn : Collection → List Id → Type 0

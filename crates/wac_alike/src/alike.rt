@@ -5,15 +5,14 @@ ghost use Rattle.wac_model.specs.Order.{Fits};
 ghost use Rattle.wac_component.specs.Key.{Stands, AllStand, item_keys, resource_key, defined_key};
 ghost use Rattle.wac_component.specs.Tree.{item_tree};
 ghost use Rattle.wac_alike.specs.Alike.{AreOfOneTree, IsAlikeAnswer};
-ghost use Rattle.wac_alike.specs.Parts.{key_of};
+ghost use Rattle.wac_component.specs.Naming.{key_of};
 
 use super::owners::{owned_among, owner_tracks};
-use super::parts::Part;
 use super::walk::resources_of;
 use std::alloc::{AllocError, Global};
 use std::collections::HashSet;
 use wac_checker::SubtypeChecker;
-use wac_component::{DefinedTypeId, ItemKind, ResourceId, Type, Types, ValueType};
+use wac_component::{DefinedTypeId, EntryId, ItemKind, ResourceId, Type, Types, ValueType};
 use wac_mismatch::SubtypeError;
 
 /// Whether a resource of a collection and a resource of another one are alike: their names at the
@@ -39,7 +38,13 @@ pub fn alike_resources(
     if !fits(alloc, own, ours, types, theirs)? {
         return Ok(None);
     }
-    alike_owners(alloc, own, Part::Resource(a), types, Part::Resource(b))
+    alike_owners(
+        alloc,
+        own,
+        EntryId::Resource(a),
+        types,
+        EntryId::Resource(b),
+    )
 }
 
 /// Whether a defined type of a collection and a defined type of another one are alike: their trees
@@ -64,7 +69,7 @@ pub fn alike_values(
     if !fits(alloc, own, ours, types, theirs)? {
         return Ok(None);
     }
-    alike_owners(alloc, own, Part::Defined(a), types, Part::Defined(b))
+    alike_owners(alloc, own, EntryId::Defined(a), types, EntryId::Defined(b))
 }
 
 // Whether an item of a collection fits where an item of another one is asked for.
@@ -93,9 +98,9 @@ fn fits(
 fn alike_owners(
     alloc: Global,
     own: &Types,
-    a: Part,
+    a: EntryId,
     types: &Types,
-    b: Part,
+    b: EntryId,
 ) -> Result<Option<Vec<ResourceId>>, AllocError>
     requires ours { Stands own.now (key_of a) }
     requires theirs { Stands types.now (key_of b) }

@@ -1,71 +1,75 @@
 //! All that a type is made of.
 
-ghost use Rattle.std.specs.Prelude.{◌≡◌, ◌++◌, [], ◌∷◌, map, Contains, OnOk, IfOk, MatchBool};
+ghost use Rattle.std.specs.Prelude.{◌≡◌, ◌↔◌, map, OnOk, IfOk};
 ghost use Rattle.std.specs.List.{filter_map};
-ghost use Rattle.wac_component.specs.Key.{Stands};
-ghost use Rattle.wac_alike.specs.Alike.{AreResourcesOf};
-ghost use Rattle.wac_alike.specs.Parts.{key_of, resource_in, Notes};
+ghost use Rattle.wac_component.specs.Key.{Key, Stands};
+ghost use Rattle.wac_component.specs.Naming.{key_of, Puts};
+ghost use Rattle.wac_component.specs.Reach.{IsAmong};
+ghost use Rattle.wac_alike.specs.Alike.{AreResourcesOf, IsMadeOf, made_next};
+ghost use Rattle.wac_alike.specs.Parts.{resource_in};
 
-use super::parts::{Part, parts_in};
+use super::parts::parts_in;
 use indexmap::IndexSet;
 use std::alloc::{AllocError, Global};
-use wac_component::{ResourceId, Types};
+use wac_component::{EntryId, ResourceId, Types, id_at, put_ids};
 
 // The resource, if it is one.
-fn resource_in(part: &Part) -> Option<ResourceId>
-    ensures { result ≡ resource_in part.now }
+fn resource_in(id: &EntryId) -> Option<ResourceId>
+    ensures { result ≡ resource_in id.now }
 {
-    match part {
-        Part::Resource(id) => Some(*id),
-        Part::Defined(_) => None,
+    match id {
+        EntryId::Resource(id) => Some(*id),
+        _ => None,
     }
 }
 
-// Notes a defined type or a resource, and answers whether it is new.
-fn put(noted: &mut IndexSet<Part>, part: Part) -> Result<bool, AllocError>
-    ensures { IfOk result (λ new. MatchBool new (noted.new.keys ≡ noted.old.keys ++ part ∷ []) ((noted.new.keys ≡ noted.old.keys) × Contains noted.old.keys part)) }
-{
-    Ok(noted.insert(part)?)
-}
-
-// Notes a defined type or a resource with all that it is made of, unless it is noted.
-fn note(
+// Puts what a type is made of last, where it isn't there.
+fn put_parts(
     alloc: Global,
-    noted: &mut IndexSet<Part>,
+    reached: &mut IndexSet<EntryId>,
     types: &Types,
-    part: Part,
+    id: EntryId,
 ) -> Result<(), AllocError>
-    requires { Stands types.now (key_of part) }
-    ensures { OnOk result (Notes types.now (key_of part ∷ []) (map key_of noted.old.keys) (map key_of noted.new.keys)) }
+    requires { Stands types.now (key_of id) }
+    ensures { OnOk result (Puts (made_next types.now (key_of id)) (map key_of reached.old.keys) (map key_of reached.new.keys)) }
 {
-    if !put(noted, part)? {
-        return Ok(());
-    }
+    let parts = parts_in(alloc, types, id)?;
+    put_ids(reached, &parts)
+}
+
+// All that a type is made of, itself among it. Each id is gone through once.
+fn made_of(alloc: Global, types: &Types, id: EntryId) -> Result<IndexSet<EntryId>, AllocError>
+    requires { Stands types.now (key_of id) }
+    ensures { IfOk result (λ ids. (t : Key) → IsAmong t (map key_of ids.keys) ↔ IsMadeOf types.now (key_of id) t) }
+{
     types.sound();
-    let parts = parts_in(alloc, types, part)?;
-    for next in &parts {
-        note(alloc, noted, types, *next)?;
+    let mut reached = IndexSet::new(alloc);
+    reached.insert(id)?;
+    let mut next = 0;
+    while next < reached.len() {
+        let part = id_at(&reached, next);
+        put_parts(alloc, &mut reached, types, part)?;
+        next += 1;
     }
-    Ok(())
+    Ok(reached)
 }
 
-// The resources among what was noted.
-fn resources_among(alloc: Global, noted: &IndexSet<Part>) -> Result<Vec<ResourceId>, AllocError>
-    ensures { IfOk result (λ rs. rs.items ≡ filter_map resource_in noted.now.keys) }
+// The resources among ids.
+fn resources_among(alloc: Global, ids: &IndexSet<EntryId>) -> Result<Vec<ResourceId>, AllocError>
+    ensures { IfOk result (λ rs. rs.items ≡ filter_map resource_in ids.now.keys) }
 {
-    noted.iter().filter_map(resource_in).collect(alloc)
+    ids.iter().filter_map(resource_in).collect(alloc)
 }
 
-/// The resources that a defined type or a resource is made of. Each id is gone through once.
+/// The resources that a defined type or a resource is made of.
 pub(crate) fn resources_of(
     alloc: Global,
     types: &Types,
-    part: Part,
+    id: EntryId,
 ) -> Result<Vec<ResourceId>, AllocError>
-    requires { Stands types.now (key_of part) }
-    ensures { IfOk result (λ rs. AreResourcesOf types.now (key_of part) rs.items) }
+    requires { Stands types.now (key_of id) }
+    ensures { IfOk result (λ rs. AreResourcesOf types.now (key_of id) rs.items) }
 {
-    let mut noted = IndexSet::new(alloc);
-    note(alloc, &mut noted, types, part)?;
-    resources_among(alloc, &noted)
+    let ids = made_of(alloc, types, id)?;
+    resources_among(alloc, &ids)
 }

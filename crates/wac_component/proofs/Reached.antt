@@ -1,7 +1,6 @@
 -- Ids that are put into a set, in order, and how many there can be.
 use Rattle.std.proofs.Common.{◌≡◌, ◌≢◌, ◌≤◌, ◌⊎◌, inl, inr, ◌+◌, ℕ, suc, zero, List, [], ◌∷◌, ◌++◌, Bool, true, false, Some, length, map, take, slice_get, Contains, refl, ap, sym, subst, arith, rules, add-one, eqb}
-use Rattle.std.specs.List.{list_any, flat_map, IsDistinct, AllByRecursion}
-use Rattle.std.proofs.lemmas.Grind.{flat_map-append}
+use Rattle.std.specs.List.{list_any, IsDistinct, AllByRecursion}
 use Rattle.std.proofs.lemmas.List.{length-map, map-append}
 use Rattle.std.proofs.lemmas.Map.Keys.{IsDistinct-head, IsDistinct-tail, IsDistinct-cons}
 use Rattle.std.proofs.lemmas.Map.Steps.{length-le_from_distinct_below}
@@ -15,7 +14,7 @@ use Rattle.wac_component.specs.Sound.{entry_count}
 use Rattle.wac_component.specs.declared.collection.naming.EntryId.{EntryId}
 use Rattle.wac_component.specs.contracts.collection.naming.EntryIdPartialEq.TheImpl.{ghosts}
 use Rattle.wac_component.proofs.Among.{among_either, among_left, among_right, among_single, Contains-cases}
-use Rattle.wac_component.proofs.Lists.{append_nil, BeginsWith-refl, BeginsWith-trans}
+use Rattle.wac_component.proofs.Lists.{BeginsWith-refl, BeginsWith-trans}
 use Rattle.wac_component.proofs.Positions.{position}
 use Rattle.wac_component.proofs.Returns.{positions_differ, positions_below}
 
@@ -50,7 +49,7 @@ Puts-had k b had = record { begins = BeginsWith-refl b; has = λ j m. subst (λ 
 Puts-last : (k : Key) (b : List Key) → Puts (k ∷ []) b (b ++ k ∷ [])
 Puts-last k b = record { begins = (k ∷ [], refl); has = λ j m. among_right b (k ∷ []) m; only = λ j m. among_either b (k ∷ []) m }
 
-among_ids : (es : List EntryId) (e : EntryId) → Contains es e → IsAmong (key_of e) (map key_of es)
+pub among_ids : (es : List EntryId) (e : EntryId) → Contains es e → IsAmong (key_of e) (map key_of es)
 among_ids [] e m = absurd (omega (arith, m.1))
 among_ids (x ∷ es) e m = elim (Contains-cases e x es m) [
   | inl same ↦ subst (λ y. IsAmong (key_of y) (key_of x ∷ map key_of es)) same here
@@ -66,16 +65,13 @@ Puts-inserted es e = by_test (list_any (id_eq e) es) refl
 
 -- ---- one more of a list
 
-take_next : {A : Type 0} (xs : List A) (i : ℕ) (x : A) → slice_get xs i ≡ Some x → take (suc i) xs ≡ take i xs ++ x ∷ []
+pub take_next : {A : Type 0} (xs : List A) (i : ℕ) (x : A) → slice_get xs i ≡ Some x → take (suc i) xs ≡ take i xs ++ x ∷ []
 take_next [] i x at = absurd (cc)
 take_next (y ∷ xs) zero x at = let same : y ≡ x = cc in ap (λ z. z ∷ []) same
 take_next (y ∷ xs) (suc i) x at = ap (λ zs. y ∷ zs) (take_next xs i x at)
 
 pub Puts-next_id : (es : List EntryId) (i : ℕ) (e : EntryId) → slice_get es i ≡ Some e → {b m n : List Key} → Puts (map key_of (take i es)) b m → Puts (key_of e ∷ []) m n → Puts (map key_of (take (i + 1) es)) b n
 Puts-next_id es i e at p q = rw (add-one, take_next es i e at, map-append key_of (take i es) (e ∷ [])) (Puts-then p q)
-
-pub Puts-next_part : {V : Type 0} (f : V → List Key) (vs : List V) (i : ℕ) (v : V) → slice_get vs i ≡ Some v → {b m n : List Key} → Puts (flat_map f (take i vs)) b m → Puts (f v) m n → Puts (flat_map f (take (i + 1) vs)) b n
-Puts-next_part f vs i v at p q = rw (add-one, take_next vs i v at, flat_map-append f (take i vs) (v ∷ []), append_nil (f v)) (Puts-then p q)
 
 -- ---- how many there can be
 

@@ -24,6 +24,7 @@ mod search;
 mod standing;
 
 pub use module_error::ModuleError;
+pub use naming::{EntryId, id_at, item_ids, items_ids, put_ids};
 pub use replace::ReplaceError;
 
 /// A collection of types.

@@ -12,18 +12,24 @@ pub mod implicit;
 pub mod interfaces;
 pub mod items;
 pub mod laws;
+pub mod memo;
+pub mod order;
 mod parts;
+pub mod renamed;
 pub mod resources;
 pub mod valid;
 pub mod visits;
 pub mod worlds;
 
-pub use collection::{ModuleError, ReplaceError, Types};
+pub use collection::{
+    EntryId, ModuleError, ReplaceError, Types, id_at, item_ids, items_ids, put_ids,
+};
 pub use defined::{DefinedType, Enum, Flags, Record, Variant};
 pub use functions::{FuncKind, FuncType};
 pub use ids::{DefinedTypeId, FuncTypeId, InterfaceId, ModuleTypeId, ResourceId, WorldId};
 pub use implicit::TargetError;
 pub use interfaces::{Interface, UsedType};
 pub use items::{ItemKind, Type, ValueType};
+pub use memo::Memo;
 pub use resources::{Resource, ResourceAlias};
 pub use worlds::{ExternKind, World};

@@ -1,8 +1,8 @@
 //! What an entry names, in order.
 
 ghost use Rattle.std.specs.Prelude.{◌≡◌, ◌<◌, Some, length, map, slice_get};
-ghost use Rattle.wac_component.specs.Content.{defined_content, resource_content, func_content, interface_content, world_content, types_of};
-ghost use Rattle.wac_component.specs.Key.{resource_keys, func_keys, interface_keys, world_keys};
+ghost use Rattle.wac_component.specs.Content.{named, defined_content, resource_content, func_content, interface_content, world_content, types_of};
+ghost use Rattle.wac_component.specs.Key.{item_keys, named_keys, resource_keys, func_keys, interface_keys, world_keys};
 ghost use Rattle.wac_component.specs.Parts.{places, all_places, placed, places_keys, members_of};
 ghost use Rattle.std.specs.Option.{option_map};
 ghost use Rattle.wac_component.specs.declared.items.ItemKind.TheVariants.{Value};
@@ -85,6 +85,13 @@ fn value_item(ty: Option<ValueType>) -> Option<ItemKind>
     ensures { result ≡ option_map Value ty }
 {
     ty.map(ItemKind::Value)
+}
+
+/// Items under names.
+pub(crate) fn items_parts(items: &IndexMap<String, ItemKind>) -> AllParts<'_>
+    ensures { places_keys (all_places result) ≡ named_keys item_keys (named (λ k. k) items.now.entries) }
+{
+    (Parts::Items(items), NONE, NONE)
 }
 
 impl DefinedType {

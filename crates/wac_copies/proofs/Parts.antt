@@ -1,9 +1,8 @@
 -- Copies among the parts of what is copied.
-use Rattle.std.proofs.Common.{◌≡◌, List, [], ◌∷◌, Option, refl, ap, sym, ◌∙◌}
-use Rattle.wac_model.specs.Text.{Text}
+use Rattle.std.proofs.Common.{◌≡◌, [], ◌∷◌, Option, refl, ap, sym, ◌∙◌}
 use Rattle.wac_model.specs.ItemTree.{Kind, item, type_item}
 use Rattle.wac_component.specs.Id.{Id}
-use Rattle.wac_component.specs.Collection.{Collection, AliasContent, UseContent}
+use Rattle.wac_component.specs.Collection.{Collection, AliasContent}
 use Rattle.wac_component.specs.Key.{Key, optional_keys, item_keys, defined_key, resource_key, interface_key}
 use Rattle.wac_component.specs.Tree.{item_tree, value_tree, root_name}
 use Rattle.wac_component.specs.declared.items.ItemKind.{ItemKind}
@@ -12,13 +11,11 @@ use Rattle.wac_component.specs.declared.items.Type.TheVariants.{Value as TypeVal
 use Rattle.wac_component.specs.declared.items.ValueType.{ValueType}
 use Rattle.wac_component.specs.declared.items.ValueType.TheVariants.{Borrow, Own, Defined}
 use Rattle.wac_merge.specs.Items.{entry_item}
-use Rattle.wac_narrowing.specs.State.{State, IsKept, Runs}
-use Rattle.wac_names.specs.Class.{class_of}
-use Rattle.wac_narrowing.specs.Taking.{AreMapped, IsCopiedItem, IsCopiedKey, AreCopiedKeys, no_keys, one_key}
+use Rattle.wac_narrowing.specs.State.{State}
+use Rattle.wac_narrowing.specs.Taking.{IsCopiedItem, IsCopiedKey, AreCopiedKeys, no_keys, one_key}
 use Rattle.wac_narrowing.specs.Values.{IsCopiedValue, IfAny, neither, both}
-use Rattle.wac_narrowing.proofs.Mapped.{mapped_more, paired_append, copied_key_still, copied_item_still}
-use Rattle.wac_narrowing.proofs.Values.{any_more, copied_value_still}
-use Rattle.wac_copies.specs.Copies.{IsCopiedAlias, IsCopiedUse}
+use Rattle.wac_narrowing.proofs.Mapped.{paired_append}
+use Rattle.wac_copies.specs.Copies.{IsCopiedAlias}
 
 module _ (f : Collection) (t : State) where
   -- a copy as an item
@@ -65,27 +62,3 @@ module _ (f : Collection) (t : State) where
           → AreCopiedKeys f t (optional_keys (λ p. interface_key p ∷ []) x) (optional_keys (λ p. interface_key p ∷ []) y)
       owner_keys x y neither = no_keys
       owner_keys x y (both c) = one_key c no_keys
-
--- what was copied is so after every run
-module _ (f : Collection) (s t : State) (kept : IsKept s) (IsTrue : Collection → State → Type 0) (e : Collection) (run : Runs IsTrue e s t) where
-  pub copy_still : (theirs own : Key) → IsCopiedKey f s theirs own → IsCopiedKey f t theirs own
-  copy_still = copied_key_still class_of f s t kept IsTrue e run
-
-  pub owner_still : (x y : Option Id) → IfAny (λ p q. IsCopiedKey f s (interface_key p) (interface_key q)) x y → IfAny (λ p q. IsCopiedKey f t (interface_key p) (interface_key q)) x y
-  owner_still x y neither = neither
-  owner_still x y (both {x = p} {y = q} h) = both (copy_still (interface_key p) (interface_key q) h)
-
-  pub use_still : (u v : UseContent) → IsCopiedUse f s u v → IsCopiedUse f t u v
-  use_still u v h = record { name = h.name; interface = copy_still (interface_key u.interface) (interface_key v.interface) h.interface }
-
-  pub uses_still : (us vs : List (Text × UseContent)) → AreMapped (IsCopiedUse f s) us vs → AreMapped (IsCopiedUse f t) us vs
-  uses_still us vs m = mapped_more (IsCopiedUse f s) (IsCopiedUse f t) use_still us vs m
-
-  pub items_still : (xs ys : List (Text × ItemKind)) → AreMapped (IsCopiedItem f s) xs ys → AreMapped (IsCopiedItem f t) xs ys
-  items_still xs ys m = mapped_more (IsCopiedItem f s) (IsCopiedItem f t) (copied_item_still class_of f s t kept IsTrue e run) xs ys m
-
-  pub values_still : (xs ys : List (Text × ValueType)) → AreMapped (IsCopiedValue f s) xs ys → AreMapped (IsCopiedValue f t) xs ys
-  values_still xs ys m = mapped_more (IsCopiedValue f s) (IsCopiedValue f t) (copied_value_still class_of f s t kept IsTrue e run) xs ys m
-
-  pub option_still : (o q : Option ValueType) → IfAny (IsCopiedValue f s) o q → IfAny (IsCopiedValue f t) o q
-  option_still o q h = any_more (IsCopiedValue f s) (IsCopiedValue f t) (copied_value_still class_of f s t kept IsTrue e run) o q h

@@ -1,18 +1,19 @@
 -- What copying does to the state of merging.
 use Rattle.std.specs.Prelude.{◌≡◌, ◌<◌, ◌⊎◌, List, Some, None}
 use Rattle.wac_component.specs.Collection.{Collection, AliasContent, UseContent}
+use Rattle.wac_component.specs.EntryOrder.{HasOwn, ArePartsFirst}
 use Rattle.wac_component.specs.Growth.{Extends}
 use Rattle.wac_component.specs.Height.{height, keys_height}
-use Rattle.wac_component.specs.Key.{Key, Stands, alias_keys, interface_key}
+use Rattle.wac_component.specs.Key.{Key, Each, Stands, next, alias_keys, interface_key}
+use Rattle.wac_component.specs.Memo.{Remembered, memo_of}
 use Rattle.wac_component.specs.Reach.{IsAmong, Reaches}
 use Rattle.wac_component.specs.Tree.{root_name}
+use Rattle.wac_component.specs.declared.memo.Memo.{Memo}
 use Rattle.wac_names.specs.Class.{class_of}
 use Rattle.wac_narrowing.specs.Remembers.{RemembersTruly}
 use Rattle.wac_narrowing.specs.State.{State, IsKept, Runs}
 use Rattle.wac_narrowing.specs.Taking.{IsCopiedKey, AreCopiedKeys}
 use Rattle.wac_reasons.specs.Split.{StaySplit}
-use Rattle.wac_copies.specs.Memo.{memo_of}
-use Rattle.wac_copies.specs.declared.memo.Memo.{Memo}
 
 -- a state in order with this collection and these copies, which remembers truly of f
 pub record IsState (f c : Collection) (m : Memo) (s : State) : Type 0 where
@@ -58,3 +59,21 @@ pub record IsCopiedAlias (f : Collection) (s : State) (a b : AliasContent) : Typ
 pub record IsCopiedUse (f : Collection) (s : State) (u v : UseContent) : Type 0 where
   pub name : v.name ≡ u.name
   pub interface : IsCopiedKey f s (interface_key u.interface) (interface_key v.interface)
+
+-- the copy of the first id names that of the second
+pub record NamesCopy (d : Collection) (n : Memo) (k j : Key) : Type 0 where
+  pub copy : Key
+  pub part : Key
+  pub noted : memo_of n k ≡ Some copy
+  pub part_noted : memo_of n j ≡ Some part
+  pub named : IsAmong part (next d copy)
+
+-- these ids of f have copies, and what was noted since names copies of what it names in f
+pub record HasCopies (f c : Collection) (m : Memo) (d : Collection) (n : Memo) (ks : List Key) : Type 0 where
+  pub copies : Copies f c m d n ks (λ s. Unit {0})
+  pub has : Each (HasOwn (memo_of n)) ks
+  pub named : (k j : Key) → HasOwn (memo_of n) k → IsAmong j (next f k) → HasOwn (memo_of m) k ⊎ NamesCopy d n k j
+
+-- each of these ids comes after what it names, but for what was copied
+abbrev pub AreToCopy : Collection → Remembered → List Key → Type 0
+AreToCopy f m order = (ids : List Key) × ArePartsFirst f m ids order

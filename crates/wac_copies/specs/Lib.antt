@@ -1,2 +1,1 @@
-pub mod Memo
 pub mod Copies

@@ -3,8 +3,6 @@
 #![tactic(auto)]
 
 mod copies;
-mod memo;
 pub mod places;
 
 pub use copies::{copy_externs, copy_item};
-pub use memo::Memo;

@@ -1,30 +1,32 @@
 -- Looking up and noting what was made.
-use Rattle.std.proofs.Common.{◌≡◌, [], ◌∷◌, ◌++◌, Bool, true, false, cond, Contains, Option, Some, None, refl, ap, sym, subst, ◌∙◌, inl, inr, arith, rules}
+use Rattle.std.proofs.Common.{◌≡◌, ◌⊎◌, List, [], ◌∷◌, ◌++◌, Bool, true, false, cond, if◌then◌else◌, Contains, Option, Some, None, refl, ap, sym, subst, ◌∙◌, inl, inr, arith, rules}
+use Rattle.std.proofs.lemmas.List.Elements.{Contains-append_cases}
+use Rattle.std.specs.List.{list_any}
 use Rattle.std.specs.Map.{lookup}
 use Rattle.indexmap.specs.IndexMap.{insert_entry}
 use Rattle.wac_component.proofs.Among.{Contains-first, Contains-later, Contains-cases}
 use Rattle.wac_merge.specs.Memo.{Made, IsNew, IsMadeFor}
 use Rattle.wac_merge.specs.declared.memo.Asked.{Asked}
-use Rattle.wac_merge.specs.declared.memo.EntryId.{EntryId}
+use Rattle.wac_merge.specs.declared.memo.BoundId.{BoundId}
 use Rattle.wac_merge.specs.contracts.memo.AskedPartialEq.TheImpl.{ghosts}
 
 abbrev pub asked_eq : Asked → Asked → Bool
 asked_eq = ghosts.eq
 
-asked_exact : (x y : Asked) → asked_eq x y ≡ true → x ≡ y
+pub asked_exact : (x y : Asked) → asked_eq x y ≡ true → x ≡ y
 asked_exact x y h = search rules
 
 asked_same : (x : Asked) → asked_eq x x ≡ true
 asked_same x = search rules
 
 -- what a look-up finds was made for what is asked
-pub found_made : (a : Asked) (ms : Made) (o : Option EntryId) → lookup (asked_eq a) ms ≡ o → IsMadeFor ms a o
+pub found_made : (a : Asked) (ms : Made) (o : Option BoundId) → lookup (asked_eq a) ms ≡ o → IsMadeFor ms a o
 found_made a [] o is = subst (IsMadeFor [] a) is (λ p m. absurd (omega (arith, m.1)))
 found_made a (x ∷ xs) o is = by_test (asked_eq a x.0) refl is (found_made a xs o)
   where
-    later : (o : Option EntryId) → asked_eq a x.0 ≡ false → IsMadeFor xs a o → IsMadeFor (x ∷ xs) a o
+    later : (o : Option BoundId) → asked_eq a x.0 ≡ false → IsMadeFor xs a o → IsMadeFor (x ∷ xs) a o
     later None other h = λ p m. elim (Contains-cases (a, p) x xs m) [
-      | inl same ↦ (let here : asked_eq a x.0 ≡ true = ap (λ (z : Asked × EntryId). asked_eq a z.0) same ∙ asked_same a in absurd (cc))
+      | inl same ↦ (let here : asked_eq a x.0 ≡ true = ap (λ (z : Asked × BoundId). asked_eq a z.0) same ∙ asked_same a in absurd (cc))
       | inr old ↦ h p old
     ]
     later (Some p) other h = Contains-later (a, p) x xs h
@@ -34,7 +36,7 @@ found_made a (x ∷ xs) o is = by_test (asked_eq a x.0) refl is (found_made a xs
     by_test false other is rest = later o other (rest is)
 
 -- what is new is noted last
-pub put_made : (a : Asked) (r : EntryId) (ms : Made) → IsNew ms a → insert_entry asked_eq ms a r ≡ ms ++ (a, r) ∷ []
+pub put_made : (a : Asked) (r : BoundId) (ms : Made) → IsNew ms a → insert_entry asked_eq ms a r ≡ ms ++ (a, r) ∷ []
 put_made a r [] new = refl
 put_made a r (x ∷ xs) new = by_test (asked_eq a x.0) refl (put_made a r xs (λ p m. new p (Contains-later (a, p) x xs m)))
   where

@@ -20,10 +20,15 @@ use Rattle.wac_component.proofs.Keys.{Key-discrete}
 use Rattle.wac_merge.specs.Bounded.{AreIncomparable, IsMetAs, IsJoinedAs}
 use Rattle.wac_merge.specs.Built.{Origins, IsBuilt, first, second, fresh, IsBuiltAt, of_first, of_second, of_both, AreBuilt, IsEntryFrom, of_interfaces, of_worlds, of_modules, IsMadeOf, IsAddedBuilt, OnlyBuilds}
 use Rattle.wac_merge.specs.Items.{entry_item, item_of, Externs}
-use Rattle.wac_merge.specs.Memo.{Made, first_key, second_key, entry_key}
-use Rattle.wac_merge.specs.Runs.{AgreeOn, IsMadeOn, IsNoted, AreMadeOn, Ran, Runs}
+use Rattle.wac_merge.specs.Memo.{Made, first_key, second_key, entry_key, IsBoundOf}
+use Rattle.wac_merge.specs.Runs.{IsMadeOn, IsNoted, AreMadeOn, FromBuilt, Ran, Runs}
+use Rattle.wac_merge.specs.Told.{LacksOnly}
+use Rattle.wac_merge.specs.declared.memo.Untold.{Untold}
+use Rattle.wac_merge.specs.declared.memo.Untold.TheVariants.{Memory, Lacks}
 use Rattle.wac_merge.specs.declared.memo.Asked.{Asked}
-use Rattle.wac_merge.specs.declared.memo.EntryId.{EntryId}
+use Rattle.wac_merge.specs.declared.memo.Bound.{Bound}
+use Rattle.wac_merge.specs.declared.memo.Bound.TheVariants.{Meet, Join}
+use Rattle.wac_merge.specs.declared.memo.BoundId.{BoundId}
 use Rattle.wac_component.proofs.Last.{IsLast}
 use Rattle.wac_merge.proofs.BoundLemmas.{bound_before, bound_after}
 
@@ -44,6 +49,10 @@ entry_item_stands c k m h = go k m.sort m.id h
     go type_item interface_sort p h = (h, tt)
     go type_item world_sort p h = (h, tt)
     go type_item module_sort p h = (h, tt)
+
+-- the origins of what stands in d are the same
+abbrev AgreeOn : Collection → Origins → Origins → Type 0
+AgreeOn d o q = (m : Key) → Stands d m → q m ≡ o m
 
 -- from d to e, with origins o and q that agree on d
 module _ (c d e : Collection) (o q : Origins) (grown : Extends d e) (agree : AgreeOn d o q) where
@@ -89,7 +98,7 @@ module _ (c d e : Collection) (o q : Origins) (grown : Extends d e) (agree : Agr
     bound = elim h.bound [ inl met ↦ inl (bound_grown Fits m stands met) | inr joined ↦ inr (bound_grown (λ s t. Fits t s) m stands joined) ];
   }
 
-  IsMadeOn-grown : (x : Asked × EntryId) → IsMadeOn c d o x → IsMadeOn c e q x
+  IsMadeOn-grown : (x : Asked × BoundId) → IsMadeOn c d o x → IsMadeOn c e q x
   IsMadeOn-grown x h = record { first = h.first; second = h.second; made = (grown.standing (entry_key x.1) h.made.0, h.made.1, agree (entry_key x.1) h.made.0 ∙ h.made.2) }
 
   -- more that is built
@@ -121,59 +130,27 @@ pub nothing_made : (c : Collection) (o : Origins) → AreMadeOn c c o []
 nothing_made c o = record { each = λ x m. absurd (omega (arith, m.1)); all = λ m stands. inl stands }
 
 -- a run that adds nothing
-pub Runs-none : {ms : Made} (ks : List Key) (d e : Collection) (A : Collection → Origins → Type 0) → e ≡ d → ((c : Collection) (o : Origins) → A c o) → Runs ks d ms e ms A
-Runs-none {ms} ks d e A same answer = λ c o sound stand only made.
-    subst (λ x. Ran c d x o ms (A c)) (sym same) record { origins = o; agree = λ m stands. refl; only = only; made = made; answer = answer c o }
-
--- another way to say what is answered
-pub Runs-map : {ms ns : Made} (ks : List Key) (d e : Collection) (A B : Collection → Origins → Type 0) → ((c : Collection) (o : Origins) → A c o → B c o) → Runs ks d ms e ns A → Runs ks d ms e ns B
-Runs-map ks d e A B f run = λ c o sound stand only made.
-    let r = run c o sound stand only made in
-    record { origins = r.origins; agree = r.agree; only = r.only; made = r.made; answer = f c r.origins r.answer }
-
--- the same, where the last step adds nothing
-pub Runs-same : {ms ns ns' : Made} (ks : List Key) (d e f : Collection) (A B : Collection → Origins → Type 0) → f ≡ e → ns' ≡ ns → ((c : Collection) (o : Origins) → A c o → B c o) → Runs ks d ms e ns A → Runs ks d ms f ns' B
-Runs-same {ms} {ns} {ns'} ks d e f A B same same_made g run = subst (λ z. Runs ks d ms z ns' B) (sym same) (subst (λ z. Runs ks d ms e z B) (sym same_made) (Runs-map {ms = ms} {ns = ns} ks d e A B g run))
-
--- the same, where the first step adds nothing
-pub Runs-after : {ms ms' ns : Made} (ks : List Key) (d e : Collection) (A : Collection → Origins → Type 0) → ms' ≡ ms → Runs ks d ms' e ns A → Runs ks d ms e ns A
-Runs-after {ns = ns} ks d e A same run = subst (λ z. Runs ks d z e ns A) same run
+pub Runs-none : {ms ns : Made} (ks : List Key) (d e : Collection) → e ≡ d → ns ≡ ms → Runs ks d ms e ns
+Runs-none ks d e same same_made = λ c o sound stand only made. rw (same, same_made) (record { origins = o; only = only; made = made })
 
 -- nothing is said of a refused answer
 pub IfOk-refused : {X E : Type 0} (r : Result X E) (P : X → Type 0) → IsErr r → IfOk r P
 IfOk-refused (Ok x) P h = absurd (cc)
 IfOk-refused (Err e) P h = tt
 
--- the same run, for other ids from which those that it asks for follow
-pub Runs-from : {ms ns : Made} (js ks : List Key) (d e : Collection) (A : Collection → Origins → Type 0) → ((c : Collection) → IsSound c → Extends c d → AllStand c js → AllStand c ks) → Runs ks d ms e ns A → Runs js d ms e ns A
-Runs-from js ks d e A follow run = λ c o sound stand only made. run c o sound (follow c sound only.extends stand) only made
+-- for other ids, from which those that it asks for follow
+pub FromBuilt-from : {ms : Made} (js ks : List Key) (d : Collection) (A : Collection → Origins → Type 0) → ((c : Collection) → IsSound c → Extends c d → AllStand c js → AllStand c ks) → FromBuilt ks d ms A → FromBuilt js d ms A
+FromBuilt-from js ks d A follow h = λ c o sound stand only made. h c o sound (follow c sound only.extends stand) only made
 
--- a run after another
-pub Runs-then : {ms ns ps : Made} (ks : List Key) (d e f : Collection) (A B C : Collection → Origins → Type 0) → Extends d e → Runs ks d ms e ns A → Runs ks e ns f ps B
-    → ((c : Collection) (o q : Origins) → AgreeOn e o q → A c o → B c q → C c q) → Runs ks d ms f ps C
-Runs-then ks d e f A B C grown run then both = λ c o sound stand only made.
-    let r = run c o sound stand only made in
-    let s = then c r.origins sound stand r.only r.made in
-    record {
-      origins = s.origins;
-      agree = λ m stands. s.agree m (grown.standing m stands) ∙ r.agree m stands;
-      only = s.only;
-      made = s.made;
-      answer = both c r.origins s.origins s.agree r.answer s.answer;
-    }
-
--- a run that ends with an entry which was made before
-pub Runs-made_before : {ms ns : Made} (ks : List Key) (d e : Collection) (A : Collection → Origins → Type 0) (a : Asked) (r : EntryId) → Contains ns (a, r) → Runs ks d ms e ns A
-    → Runs ks d ms e ns (λ c o. IsMadeOf c e o (first_key a.pair) (second_key a.pair) (entry_key r))
-Runs-made_before ks d e A a r there run = λ c o sound stand only made.
-    let s = run c o sound stand only made in
-    record { origins = s.origins; agree = s.agree; only = s.only; made = s.made; answer = (s.made.each (a, r) there).made }
+pub LacksOnly-from : (d : Collection) (js ks : List Key) → ((c : Collection) → IsSound c → Extends c d → AllStand c js → AllStand c ks) → (u : Untold) → LacksOnly d ks u → LacksOnly d js u
+LacksOnly-from d js ks follow Memory h = tt
+LacksOnly-from d js ks follow (Lacks a) h = λ c sound was stand. h c sound was (follow c sound was stand)
 
 -- what is remembered stays so
 noted_more : (ms ns : Made) (m : Key) → IsNoted ms m → IsNoted (ms ++ ns) m
 noted_more ms ns m (x, there, is) = (x, Contains-append_left ms ns x there, is)
 
-noted_last : (ms : Made) (x : Asked × EntryId) (m : Key) → m ≡ entry_key x.1 → IsNoted (ms ++ x ∷ []) m
+noted_last : (ms : Made) (x : Asked × BoundId) (m : Key) → m ≡ entry_key x.1 → IsNoted (ms ++ x ∷ []) m
 noted_last ms x m is = (x, Contains-append_right ms (x ∷ []) x (Contains-first x []), sym is)
 
 -- the origins, with that of one entry more
@@ -200,49 +177,52 @@ with_origin-other o k p m apart = go (Key-discrete m k)
     go (yes e) = elim (apart e) [ ]
     go (no n) = refl
 
--- a run that ends with one entry more, made of two
-module _ (b d e : Collection) (a : Asked) (r : EntryId) (a_entry b_entry entry : Entry) (A : Collection → Origins → Type 0) (grown_d : Extends b d) (grown : Extends d e) (leaves : HasLeavesOf d e)
-    (last : IsLast d e entry (entry_key r)) (a_at : entry_at b (first_key a.pair) ≡ Some a_entry) (b_at : entry_at b (second_key a.pair) ≡ Some b_entry)
-    (is_from : (c : Collection) (o : Origins) → A c o → IsEntryFrom c d o a_entry b_entry entry)
-    (bound : ((j : Kind) → IsMetAs b e (entry_item j (first_key a.pair)) (entry_item j (second_key a.pair)) (Some (entry_item j (entry_key r)))) ⊎ ((j : Kind) → IsJoinedAs b e (entry_item j (first_key a.pair)) (entry_item j (second_key a.pair)) (Some (entry_item j (entry_key r))))) where
-  made_last : {ns : Made} (c : Collection) (o : Origins) → AllStand c ((first_key a.pair) ∷ (second_key a.pair) ∷ []) → Extends c b → (s : Ran c b d o ns (A c)) → IsAddedBuilt c e (with_origin s.origins (entry_key r) ((first_key a.pair), (second_key a.pair))) (entry_key r)
-  made_last c o stand before s = made
+-- a run that adds one entry, made of two
+module _ (d e : Collection) (a : Asked) (r : BoundId) (x y entry : Entry) (A : Collection → Origins → Type 0) (grown : Extends d e) (leaves : HasLeavesOf d e) (last : IsLast d e entry (entry_key r))
+    (x_at : entry_at d (first_key a.pair) ≡ Some x) (y_at : entry_at d (second_key a.pair) ≡ Some y) (is_from : (c : Collection) (o : Origins) → A c o → IsEntryFrom c d o x y entry) (bound : IsBoundOf a.bound d e a.pair (Some r)) where
+  abbrev keys : List Key
+  keys = first_key a.pair ∷ second_key a.pair ∷ []
+
+  abbrev more : Origins → Origins
+  more o = with_origin o (entry_key r) (first_key a.pair, second_key a.pair)
+
+  here : (o : Origins) → more o (entry_key r) ≡ (first_key a.pair, second_key a.pair)
+  here o = with_origin-here o (entry_key r) (first_key a.pair, second_key a.pair)
+
+  agree : (o : Origins) → AgreeOn d o (more o)
+  agree o m stands = with_origin-other o (entry_key r) (first_key a.pair, second_key a.pair) m (λ same. last.is_new (subst (Stands d) same stands))
+
+  made_last : (c : Collection) (o : Origins) → AllStand c keys → Extends c d → A c o → IsAddedBuilt c e (more o) (entry_key r)
+  made_last c o stand before built = record {
+    first_stands = subst (λ (p : Key × Key). Stands c p.0) (sym (here o)) stand.0;
+    second_stands = subst (λ (p : Key × Key). Stands c p.1) (sym (here o)) stand.1.0;
+    first = x;
+    second = y;
+    self = entry;
+    first_at = ap (λ (p : Key × Key). entry_at c p.0) (here o) ∙ sym (before.same_entry (first_key a.pair) stand.0) ∙ x_at;
+    second_at = ap (λ (p : Key × Key). entry_at c p.1) (here o) ∙ sym (before.same_entry (second_key a.pair) stand.1.0) ∙ y_at;
+    self_at = last.at;
+    is_from = IsEntryFrom-grown c d e o (more o) grown (agree o) x y entry (is_from c o built);
+    bound = go a.bound bound;
+  }
     where
-      q : Origins
-      q = with_origin s.origins (entry_key r) ((first_key a.pair), (second_key a.pair))
-
-      is : q (entry_key r) ≡ ((first_key a.pair), (second_key a.pair))
-      is = with_origin-here s.origins (entry_key r) ((first_key a.pair), (second_key a.pair))
-
-      agree : AgreeOn d s.origins q
-      agree m stands = with_origin-other s.origins (entry_key r) ((first_key a.pair), (second_key a.pair)) m (λ same. last.is_new (subst (Stands d) same stands))
-
-      bound_at : (R : ItemTree → ItemTree → Type 0) → ((j : Kind) → IsMeetIn R (item_tree b (entry_item j (first_key a.pair))) (item_tree b (entry_item j (second_key a.pair))) (Some (item_tree e (entry_item j (entry_key r)))))
-          → (j : Kind) → IsMeetIn R (item_tree c (entry_item j (q (entry_key r)).0)) (item_tree c (entry_item j (q (entry_key r)).1)) (Some (item_tree e (entry_item j (entry_key r))))
+      bound_at : (R : ItemTree → ItemTree → Type 0) → ((j : Kind) → IsMeetIn R (item_tree d (entry_item j (first_key a.pair))) (item_tree d (entry_item j (second_key a.pair))) (Some (item_tree e (entry_item j (entry_key r)))))
+          → (j : Kind) → IsMeetIn R (item_tree c (entry_item j (more o (entry_key r)).0)) (item_tree c (entry_item j (more o (entry_key r)).1)) (Some (item_tree e (entry_item j (entry_key r))))
       bound_at R h j =
-          subst (λ (p : Key × Key). IsMeetIn R (item_tree c (entry_item j p.0)) (item_tree c (entry_item j p.1)) (Some (item_tree e (entry_item j (entry_key r))))) (sym is)
-          (bound_before R c b before (entry_item j (first_key a.pair)) (entry_item j (second_key a.pair)) (entry_item_stands c j (first_key a.pair) stand.0) (entry_item_stands c j (second_key a.pair) stand.1.0) (Some (item_tree e (entry_item j (entry_key r)))) (h j))
+          subst (λ (p : Key × Key). IsMeetIn R (item_tree c (entry_item j p.0)) (item_tree c (entry_item j p.1)) (Some (item_tree e (entry_item j (entry_key r))))) (sym (here o))
+          (bound_before R c d before (entry_item j (first_key a.pair)) (entry_item j (second_key a.pair)) (entry_item_stands c j (first_key a.pair) stand.0) (entry_item_stands c j (second_key a.pair) stand.1.0) (Some (item_tree e (entry_item j (entry_key r)))) (h j))
 
-      made : IsAddedBuilt c e q (entry_key r)
-      made = record {
-        first_stands = subst (λ (p : Key × Key). Stands c p.0) (sym is) stand.0;
-        second_stands = subst (λ (p : Key × Key). Stands c p.1) (sym is) stand.1.0;
-        first = a_entry;
-        second = b_entry;
-        self = entry;
-        first_at = ap (λ (p : Key × Key). entry_at c p.0) is ∙ sym (before.same_entry (first_key a.pair) stand.0) ∙ a_at;
-        second_at = ap (λ (p : Key × Key). entry_at c p.1) is ∙ sym (before.same_entry (second_key a.pair) stand.1.0) ∙ b_at;
-        self_at = last.at;
-        is_from = IsEntryFrom-grown c d e s.origins q grown agree a_entry b_entry entry (is_from c s.origins s.answer);
-        bound = elim bound [ inl met ↦ inl (bound_at Fits met) | inr joined ↦ inr (bound_at (λ s t. Fits t s) joined) ];
-      }
+      go : (u : Bound) → IsBoundOf u d e a.pair (Some r) → ((j : Kind) → IsMetAs c e (entry_item j (more o (entry_key r)).0) (entry_item j (more o (entry_key r)).1) (Some (entry_item j (entry_key r))))
+          ⊎ ((j : Kind) → IsJoinedAs c e (entry_item j (more o (entry_key r)).0) (entry_item j (more o (entry_key r)).1) (Some (entry_item j (entry_key r))))
+      go Meet h = inl (bound_at Fits h)
+      go Join h = inr (bound_at (λ s t. Fits t s) h)
 
   -- it is remembered last
-  made_more : (ns : Made) (c : Collection) (o q : Origins) → AgreeOn d o q → AreMadeOn c d o ns → IsMadeOn c e q (a, r) → AreMadeOn c e q (ns ++ (a, r) ∷ [])
-  made_more ns c o q agree before here = record {
+  made_more : (ns : Made) (c : Collection) (o : Origins) → AreMadeOn c d o ns → IsMadeOn c e (more o) (a, r) → AreMadeOn c e (more o) (ns ++ (a, r) ∷ [])
+  made_more ns c o before now = record {
     each = λ z m. elim (Contains-append_cases ns ((a, r) ∷ []) z m) [
-      | inl old ↦ IsMadeOn-grown c d e o q grown agree z (before.each z old)
-      | inr new ↦ elim (Contains-cases z (a, r) [] new) [ inl same ↦ subst (IsMadeOn c e q) same here | inr none ↦ absurd (omega (arith, none.1)) ]
+      | inl old ↦ IsMadeOn-grown c d e o (more o) grown (agree o) z (before.each z old)
+      | inr new ↦ elim (Contains-cases z (a, r) [] new) [ inl same ↦ subst (IsMadeOn c e (more o)) same now | inr none ↦ absurd (omega (arith, none.1)) ]
     ];
     all = λ m stands. elim (last.others m stands) [
       | inl stood ↦ elim (before.all m stood) [ inl stood_first ↦ inl stood_first | inr noted ↦ inr (noted_more ns ((a, r) ∷ []) m noted) ]
@@ -250,19 +230,13 @@ module _ (b d e : Collection) (a : Asked) (r : EntryId) (a_entry b_entry entry :
     ];
   }
 
-  pub Runs-made : {ms ns : Made} → Runs ((first_key a.pair) ∷ (second_key a.pair) ∷ []) b ms d ns A → Runs ((first_key a.pair) ∷ (second_key a.pair) ∷ []) b ms e (ns ++ (a, r) ∷ []) (λ c o. IsMadeOf c e o (first_key a.pair) (second_key a.pair) (entry_key r))
-  Runs-made {ns = ns} run = λ c o sound stand only made.
-      let s = run c o sound stand only made in
-      let q : Origins = with_origin s.origins (entry_key r) ((first_key a.pair), (second_key a.pair)) in
-      let agree : AgreeOn d s.origins q = λ m stands. with_origin-other s.origins (entry_key r) ((first_key a.pair), (second_key a.pair)) m (λ same. last.is_new (subst (Stands d) same stands)) in
-      let built = made_last c o stand only.extends s in
-      let is : IsMadeOf c e q (first_key a.pair) (second_key a.pair) (entry_key r) = (last.stands, λ stood. last.is_new (s.only.extends.standing (entry_key r) stood), with_origin-here s.origins (entry_key r) ((first_key a.pair), (second_key a.pair))) in
+  pub Runs-made : (ms : Made) → FromBuilt keys d ms A → Runs keys d ms e (ms ++ (a, r) ∷ [])
+  Runs-made ms built = λ c o sound stand only made.
+      let added = made_last c o stand only.extends (built c o sound stand only made) in
       record {
-        origins = q;
-        agree = λ m stands. agree m (grown_d.standing m stands) ∙ s.agree m stands;
-        only = only_more c d e s.origins q grown agree leaves (λ m stands. elim (last.others m stands) [ inl stood ↦ inl stood | inr same ↦ inr (subst (IsAddedBuilt c e q) (sym same) built) ]) s.only;
-        made = made_more ns c s.origins q agree s.made record { first = stand.0; second = stand.1.0; made = is };
-        answer = is;
+        origins = more o;
+        only = only_more c d e o (more o) grown (agree o) leaves (λ m stands. elim (last.others m stands) [ inl stood ↦ inl stood | inr same ↦ inr (subst (IsAddedBuilt c e (more o)) (sym same) added) ]) only;
+        made = made_more ms c o made record { first = stand.0; second = stand.1.0; made = (last.stands, λ stood. last.is_new (only.extends.standing (entry_key r) stood), here o) };
       }
 
 -- an item that names an entry that was made of those that two items name, which don't compare

@@ -20,7 +20,7 @@ use Rattle.wac_component.proofs.Extended.{Extends-trans}
 use Rattle.wac_merge.specs.Bounded.{IsMetAs, IsJoinedAs, AreMet, AreJoined, Clash}
 use Rattle.wac_merge.specs.Items.{Externs, extern_keys, entry_item}
 use Rattle.wac_merge.specs.Reads.{imports_at, exports_at, HasExports}
-use Rattle.wac_merge.proofs.ExternLemmas.{items_met, items_joined, items_clash, AreMet-after, AreJoined-before}
+use Rattle.wac_merge.proofs.ExternLemmas.{items_met, items_joined, items_clash}
 use Rattle.wac_merge.proofs.ReadLemmas.{imports_stay, exports_stay, imports_at_stand, exports_at_stand, world_tree}
 
 -- the tree of an item that names an entry
@@ -50,22 +50,20 @@ formed : (R : ItemTree → ItemTree → Type 0) {s s' t t' : ItemTree} {o o' : O
 formed R {s} {s'} {t} {t'} {o} {o'} p q r h =
     subst (λ x. IsMeetIn R x t o) (sym p) (subst (λ x. IsMeetIn R s' x o) (sym q) (subst (λ x. IsMeetIn R s' t' x) (sym r) h))
 
--- c when the two are read, d when what they have is met and joined, e with the new entry
-module _ (c d e : Collection) (grown : Extends c d) (x y : Id) (k : Kind) where
+-- c when the two are read, e with the new entry
+module _ (c e : Collection) (x y : Id) (k : Kind) where
   module _ (es ts : Externs) (hx : HasExports c x es) (hy : HasExports c y ts) where
-    pub interfaces_met : (ms : Externs) (p : Id) → AreMet c d es ts (Some ms) → externs e (interface_key p) ≡ record { imports = no_items; exports = items_of (item_tree d) ms }
+    pub interfaces_met : (ms : Externs) (p : Id) → AreMet c c es ts (Some ms) → externs e (interface_key p) ≡ record { imports = no_items; exports = items_of (item_tree c) ms }
         → IsMetAs c e (entry_item k (interface_key x)) (entry_item k (interface_key y)) (Some (entry_item k (interface_key p)))
     interfaces_met ms p met tree =
-        formed Fits (interface_form c c k x es hx.tree) (interface_form c c k y ts hy.tree) (ap (λ (t : ItemTree). Some t) (interface_form e d k p ms tree))
-        (composite_meet k interface no_items (items_of (item_tree c) es) no_items (items_of (item_tree c) ts) no_items (items_of (item_tree d) ms)
-        (items_met c d grown es ts hx.standing hy.standing ms met) (λ n. (tt, tt, λ u q r. q)))
+        formed Fits (interface_form c c k x es hx.tree) (interface_form c c k y ts hy.tree) (ap (λ (t : ItemTree). Some t) (interface_form e c k p ms tree))
+        (composite_meet k interface no_items (items_of (item_tree c) es) no_items (items_of (item_tree c) ts) no_items (items_of (item_tree c) ms) (items_met c es ts ms met) (λ n. (tt, tt, λ u q r. q)))
 
-    pub interfaces_joined : (js : Externs) (p : Id) → AreJoined c d es ts js → externs e (interface_key p) ≡ record { imports = no_items; exports = items_of (item_tree d) js }
+    pub interfaces_joined : (js : Externs) (p : Id) → AreJoined c c es ts js → externs e (interface_key p) ≡ record { imports = no_items; exports = items_of (item_tree c) js }
         → IsJoinedAs c e (entry_item k (interface_key x)) (entry_item k (interface_key y)) (Some (entry_item k (interface_key p)))
     interfaces_joined js p joined tree =
-        formed (λ s t. Fits t s) (interface_form c c k x es hx.tree) (interface_form c c k y ts hy.tree) (ap (λ (t : ItemTree). Some t) (interface_form e d k p js tree))
-        (composite_join k interface no_items (items_of (item_tree c) es) no_items (items_of (item_tree c) ts) no_items (items_of (item_tree d) js)
-        (items_joined c d grown es ts hx.standing hy.standing js joined) (λ n. (tt, tt, λ u q r. q)))
+        formed (λ s t. Fits t s) (interface_form c c k x es hx.tree) (interface_form c c k y ts hy.tree) (ap (λ (t : ItemTree). Some t) (interface_form e c k p js tree))
+        (composite_join k interface no_items (items_of (item_tree c) es) no_items (items_of (item_tree c) ts) no_items (items_of (item_tree c) js) (items_joined c es ts js joined) (λ n. (tt, tt, λ u q r. q)))
 
     pub interfaces_clash : Clash c es ts → IsMetAs c e (entry_item k (interface_key x)) (entry_item k (interface_key y)) None
     interfaces_clash h =
@@ -85,23 +83,19 @@ module _ (c d e : Collection) (grown : Extends c d) (x y : Id) (k : Kind) where
     abbrev ts : Externs
     ts = exports_at c (world_key y)
 
-    pub worlds_met : (ms ns : Externs) (p : Id) → AreMet c d (exports_at c (world_key x)) (exports_at c (world_key y)) (Some ms) → AreJoined c d (imports_at c (world_key x)) (imports_at c (world_key y)) ns
-        → externs e (world_key p) ≡ record { imports = items_of (item_tree d) ns; exports = items_of (item_tree d) ms }
+    pub worlds_met : (ms ns : Externs) (p : Id) → AreMet c c (exports_at c (world_key x)) (exports_at c (world_key y)) (Some ms) → AreJoined c c (imports_at c (world_key x)) (imports_at c (world_key y)) ns
+        → externs e (world_key p) ≡ record { imports = items_of (item_tree c) ns; exports = items_of (item_tree c) ms }
         → IsMetAs c e (entry_item k (world_key x)) (entry_item k (world_key y)) (Some (entry_item k (world_key p)))
     worlds_met ms ns p met joined tree =
-        formed Fits (world_form c c k x is es (world_tree c x sound sx)) (world_form c c k y js ts (world_tree c y sound sy)) (ap (λ (t : ItemTree). Some t) (world_form e d k p ns ms tree))
-        (composite_meet k world (items_of (item_tree c) is) (items_of (item_tree c) es) (items_of (item_tree c) js) (items_of (item_tree c) ts) (items_of (item_tree d) ns) (items_of (item_tree d) ms)
-        (items_met c d grown es ts (exports_at_stand c (world_key x) sound sx) (exports_at_stand c (world_key y) sound sy) ms met)
-        (items_joined c d grown is js (imports_at_stand c (world_key x) sound sx) (imports_at_stand c (world_key y) sound sy) ns joined))
+        formed Fits (world_form c c k x is es (world_tree c x sound sx)) (world_form c c k y js ts (world_tree c y sound sy)) (ap (λ (t : ItemTree). Some t) (world_form e c k p ns ms tree))
+        (composite_meet k world (items_of (item_tree c) is) (items_of (item_tree c) es) (items_of (item_tree c) js) (items_of (item_tree c) ts) (items_of (item_tree c) ns) (items_of (item_tree c) ms) (items_met c es ts ms met) (items_joined c is js ns joined))
 
-    pub worlds_joined : (ms ns : Externs) (p : Id) → AreMet c d (imports_at c (world_key x)) (imports_at c (world_key y)) (Some ms) → AreJoined c d (exports_at c (world_key x)) (exports_at c (world_key y)) ns
-        → externs e (world_key p) ≡ record { imports = items_of (item_tree d) ms; exports = items_of (item_tree d) ns }
+    pub worlds_joined : (ms ns : Externs) (p : Id) → AreMet c c (imports_at c (world_key x)) (imports_at c (world_key y)) (Some ms) → AreJoined c c (exports_at c (world_key x)) (exports_at c (world_key y)) ns
+        → externs e (world_key p) ≡ record { imports = items_of (item_tree c) ms; exports = items_of (item_tree c) ns }
         → IsJoinedAs c e (entry_item k (world_key x)) (entry_item k (world_key y)) (Some (entry_item k (world_key p)))
     worlds_joined ms ns p met joined tree =
-        formed (λ s t. Fits t s) (world_form c c k x is es (world_tree c x sound sx)) (world_form c c k y js ts (world_tree c y sound sy)) (ap (λ (t : ItemTree). Some t) (world_form e d k p ms ns tree))
-        (composite_join k world (items_of (item_tree c) is) (items_of (item_tree c) es) (items_of (item_tree c) js) (items_of (item_tree c) ts) (items_of (item_tree d) ms) (items_of (item_tree d) ns)
-        (items_joined c d grown es ts (exports_at_stand c (world_key x) sound sx) (exports_at_stand c (world_key y) sound sy) ns joined)
-        (items_met c d grown is js (imports_at_stand c (world_key x) sound sx) (imports_at_stand c (world_key y) sound sy) ms met))
+        formed (λ s t. Fits t s) (world_form c c k x is es (world_tree c x sound sx)) (world_form c c k y js ts (world_tree c y sound sy)) (ap (λ (t : ItemTree). Some t) (world_form e c k p ms ns tree))
+        (composite_join k world (items_of (item_tree c) is) (items_of (item_tree c) es) (items_of (item_tree c) js) (items_of (item_tree c) ts) (items_of (item_tree c) ms) (items_of (item_tree c) ns) (items_joined c es ts ns joined) (items_met c is js ms met))
 
     pub worlds_clash : Clash c (exports_at c (world_key x)) (exports_at c (world_key y)) → IsMetAs c e (entry_item k (world_key x)) (entry_item k (world_key y)) None
     worlds_clash h =
@@ -112,26 +106,6 @@ module _ (c d e : Collection) (grown : Extends c d) (x y : Id) (k : Kind) where
     worlds_do_not_join h =
         formed (λ s t. Fits t s) {o = None} {o' = None} (world_form c c k x is es (world_tree c x sound sx)) (world_form c c k y js ts (world_tree c y sound sy)) refl
         (composite_no_join k world (items_of (item_tree c) is) (items_of (item_tree c) es) (items_of (item_tree c) js) (items_of (item_tree c) ts) h.name (items_clash c is js h))
-
--- worlds, one part of which is met in d and the other joined in f, by what they have in d
-module _ (c d f e : Collection) (sound : IsSound c) (grown : Extends c d) (more : Extends d f) (x y : Id) (sx : Stands c (world_key x)) (sy : Stands c (world_key y)) (k : Kind) (ms ns : Externs) (p : Id) where
-  pub worlds_met_then : AreMet c d (exports_at c (world_key x)) (exports_at c (world_key y)) (Some ms) → AllStand d (extern_keys ms) → AreJoined d f (imports_at d (world_key x)) (imports_at d (world_key y)) ns
-      → externs e (world_key p) ≡ record { imports = items_of (item_tree f) ns; exports = items_of (item_tree f) ms }
-      → IsMetAs c e (entry_item k (world_key x)) (entry_item k (world_key y)) (Some (entry_item k (world_key p)))
-  worlds_met_then met standing joined tree =
-      worlds_met c f e (Extends-trans c d f grown more) x y k sound sx sy ms ns p
-      (AreMet-after c d f more (exports_at c (world_key x)) (exports_at c (world_key y)) ms standing met)
-      (AreJoined-before c d f grown (imports_at c (world_key x)) (imports_at c (world_key y)) ns (imports_at_stand c (world_key x) sound sx) (imports_at_stand c (world_key y) sound sy)
-      (subst (λ l. AreJoined d f l (imports_at c (world_key y)) ns) (imports_stay c d grown (world_key x) sx) (subst (λ l. AreJoined d f (imports_at d (world_key x)) l ns) (imports_stay c d grown (world_key y) sy) joined))) tree
-
-  pub worlds_joined_then : AreMet c d (imports_at c (world_key x)) (imports_at c (world_key y)) (Some ms) → AllStand d (extern_keys ms) → AreJoined d f (exports_at d (world_key x)) (exports_at d (world_key y)) ns
-      → externs e (world_key p) ≡ record { imports = items_of (item_tree f) ms; exports = items_of (item_tree f) ns }
-      → IsJoinedAs c e (entry_item k (world_key x)) (entry_item k (world_key y)) (Some (entry_item k (world_key p)))
-  worlds_joined_then met standing joined tree =
-      worlds_joined c f e (Extends-trans c d f grown more) x y k sound sx sy ms ns p
-      (AreMet-after c d f more (imports_at c (world_key x)) (imports_at c (world_key y)) ms standing met)
-      (AreJoined-before c d f grown (exports_at c (world_key x)) (exports_at c (world_key y)) ns (exports_at_stand c (world_key x) sound sx) (exports_at_stand c (world_key y) sound sy)
-      (subst (λ l. AreJoined d f l (exports_at c (world_key y)) ns) (exports_stay c d grown (world_key x) sx) (subst (λ l. AreJoined d f (exports_at d (world_key x)) l ns) (exports_stay c d grown (world_key y) sy) joined))) tree
 
 -- core modules, which name no items
 

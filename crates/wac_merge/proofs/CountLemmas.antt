@@ -15,12 +15,12 @@ use Rattle.wac_merge.specs.Runs.{AreMadeOn}
 use Rattle.wac_merge.specs.declared.memo.Asked.{Asked}
 use Rattle.wac_merge.specs.declared.memo.Bound.{Bound}
 use Rattle.wac_merge.specs.declared.memo.Bound.TheVariants.{Meet, Join}
-use Rattle.wac_merge.specs.declared.memo.EntryId.{EntryId}
+use Rattle.wac_merge.specs.declared.memo.BoundId.{BoundId}
 use Rattle.wac_merge.specs.declared.memo.Pair.{Pair}
 use Rattle.wac_merge.specs.declared.memo.Pair.TheVariants.{Interfaces, Worlds, Modules}
 
 -- what is made once, each for one of these, is no more than these
-no_more : (ms : Made) (qs : List Asked) → AreMadeOnce ms → ((x : Asked × EntryId) → Contains ms x → Contains qs x.0) → length ms ≤ length qs
+no_more : (ms : Made) (qs : List Asked) → AreMadeOnce ms → ((x : Asked × BoundId) → Contains ms x → Contains qs x.0) → length ms ≤ length qs
 no_more [] qs h all = omega arith
 no_more (x ∷ xs) qs h all =
     let rest = without qs x.0 (all x (Contains-first x xs)) in

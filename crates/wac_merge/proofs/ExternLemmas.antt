@@ -33,36 +33,6 @@ found_stands c es n h = go (lookup bytes_eq es n) refl
     go None g = tt
     go (Some k) g = named_stands c es n k g h
 
--- an item met with what the other side has, in a collection that grew
-pub met_with_before : (c d e : Collection) → Extends c d → (a : ItemKind) (b m : Option ItemKind) → AllStand c (item_keys a) → AllStand c (optional_keys item_keys b)
-    → IsMetWith d e a b m → IsMetWith c e a b m
-met_with_before c d e grown a None m sa sb h = h
-met_with_before c d e grown a (Some b) m sa sb h = bound_before Fits c d grown a b sa sb (option_map (item_tree e) m) h
-
-pub met_with_after : (c d e : Collection) → Extends d e → (a : ItemKind) (b : Option ItemKind) (m : ItemKind) → AllStand d (item_keys m) → IsMetWith c d a b (Some m) → IsMetWith c e a b (Some m)
-met_with_after c d e grown a None m sm h = h
-met_with_after c d e grown a (Some b) m sm h = bound_after Fits d e grown (item_tree c a) (item_tree c b) m sm h
-
-pub joined_with_before : (c d e : Collection) → Extends c d → (a : ItemKind) (b m : Option ItemKind) → AllStand c (item_keys a) → AllStand c (optional_keys item_keys b)
-    → IsJoinedWith d e a b m → IsJoinedWith c e a b m
-joined_with_before c d e grown a None m sa sb h = h
-joined_with_before c d e grown a (Some b) m sa sb h = bound_before (λ x y. Fits y x) c d grown a b sa sb (option_map (item_tree e) m) h
-
-pub joined_with_after : (c d e : Collection) → Extends d e → (a : ItemKind) (b m : Option ItemKind) → AllStand d (optional_keys item_keys m) → IsJoinedWith c d a b m → IsJoinedWith c e a b m
-joined_with_after c d e grown a None m sm h = h
-joined_with_after c d e grown a (Some b) None sm h = h
-joined_with_after c d e grown a (Some b) (Some m) sm h = bound_after (λ x y. Fits y x) d e grown (item_tree c a) (item_tree c b) m sm h
-
--- the same under a name
-pub first_met_after : (c d e : Collection) → Extends d e → (a b m : Option ItemKind) → AllStand d (optional_keys item_keys m) → IsFirstMetAt c d a b m → IsFirstMetAt c e a b m
-first_met_after c d e grown None b m sm h = h
-first_met_after c d e grown (Some a) b None sm h = h
-first_met_after c d e grown (Some a) b (Some m) sm h = met_with_after c d e grown a b m sm h
-
-pub joined_after : (c d e : Collection) → Extends d e → (a b m : Option ItemKind) → AllStand d (optional_keys item_keys m) → IsJoinedAt c d a b m → IsJoinedAt c e a b m
-joined_after c d e grown None b m sm h = h
-joined_after c d e grown (Some a) b m sm h = joined_with_after c d e grown a b m sm h
-
 -- the names of the first met, then the others of the second
 pub met_with_others : (c d : Collection) (a b m : Option ItemKind) → IsFirstMetAt c d a b m → IsMetAt c d a b (option_or m b)
 met_with_others c d None b m h = ap (λ o. option_or o b) h
@@ -76,38 +46,28 @@ clash_at c d es ts n a (Some b) first second h = record { name = n; left = a; ri
 
 -- the trees at a name
 
-same_tree : (c d : Collection) → Extends c d → (b : ItemKind) → AllStand c (item_keys b) → item_tree d b ≡ item_tree c b
-same_tree c d grown b sb = grown.trees b sb
-
-meet_at : (c d : Collection) → Extends c d → (a b m : Option ItemKind) → AllStand c (optional_keys item_keys a) → AllStand c (optional_keys item_keys b) → IsMetAt c d a b m
-    → IsMeetIn (Serves Fits) (option_map (item_tree c) a) (option_map (item_tree c) b) (Some (option_map (item_tree d) m))
-meet_at c d grown None None m sa sb h = rw h (tt, tt, λ u p q. tt)
-meet_at c d grown None (Some b) m sa sb h = rw (h, grown.trees b sb) (tt, Fits-refl (item_tree c b), λ u p q. q)
-meet_at c d grown (Some a) b None sa sb h = elim h [ ]
-meet_at c d grown (Some a) None (Some m) sa sb h =
+meet_at : (c : Collection) → (a b m : Option ItemKind) → IsMetAt c c a b m → IsMeetIn (Serves Fits) (option_map (item_tree c) a) (option_map (item_tree c) b) (Some (option_map (item_tree c) m))
+meet_at c None None m h = rw h (tt, tt, λ u p q. tt)
+meet_at c None (Some b) m h = rw h (tt, Fits-refl (item_tree c b), λ u p q. q)
+meet_at c (Some a) b None h = elim h [ ]
+meet_at c (Some a) None (Some m) h =
     let same : m ≡ a = cc in
-    rw (same, grown.trees a sa) (Fits-refl (item_tree c a), tt, λ u p q. p)
-meet_at c d grown (Some a) (Some b) (Some m) sa sb h = meet_both Fits (item_tree c a) (item_tree c b) (Some (item_tree d m)) h
+    rw same (Fits-refl (item_tree c a), tt, λ u p q. p)
+meet_at c (Some a) (Some b) (Some m) h = meet_both Fits (item_tree c a) (item_tree c b) (Some (item_tree c m)) h
 
-join_at : (c d : Collection) → (a b m : Option ItemKind) → IsJoinedAt c d a b m
-    → IsJoinIn (Serves Fits) (option_map (item_tree c) a) (option_map (item_tree c) b) (Some (option_map (item_tree d) m))
-join_at c d None b m h = rw h (tt, tt, λ u p q. p)
-join_at c d (Some a) None m h = rw h (tt, tt, λ u p q. q)
-join_at c d (Some a) (Some b) m h = join_both Fits (item_tree c a) (item_tree c b) (option_map (item_tree d) m) h
+join_at : (c : Collection) → (a b m : Option ItemKind) → IsJoinedAt c c a b m → IsJoinIn (Serves Fits) (option_map (item_tree c) a) (option_map (item_tree c) b) (Some (option_map (item_tree c) m))
+join_at c None b m h = rw h (tt, tt, λ u p q. p)
+join_at c (Some a) None m h = rw h (tt, tt, λ u p q. q)
+join_at c (Some a) (Some b) m h = join_both Fits (item_tree c a) (item_tree c b) (option_map (item_tree c) m) h
 
-module _ (c d : Collection) (grown : Extends c d) (es ts : Externs) (ses : AllStand c (extern_keys es)) (sts : AllStand c (extern_keys ts)) where
-  -- the trees of named items that are met
-  pub items_met : (ms : Externs) → AreMet c d es ts (Some ms)
-      → (n : Text) → IsMeetIn (Serves Fits) (item_at (items_of (item_tree c) es) n) (item_at (items_of (item_tree c) ts) n) (Some (item_at (items_of (item_tree d) ms) n))
-  items_met ms h n =
-      rw (item_at-items_of (item_tree c) es n, item_at-items_of (item_tree c) ts n, item_at-items_of (item_tree d) ms n)
-      (meet_at c d grown (lookup bytes_eq es n) (lookup bytes_eq ts n) (lookup bytes_eq ms n) (found_stands c es n ses) (found_stands c ts n sts) (h n))
+-- the trees of named items that are met or joined
+pub items_met : (c : Collection) (es ts ms : Externs) → AreMet c c es ts (Some ms) → (n : Text) → IsMeetIn (Serves Fits) (item_at (items_of (item_tree c) es) n) (item_at (items_of (item_tree c) ts) n) (Some (item_at (items_of (item_tree c) ms) n))
+items_met c es ts ms h n =
+    rw (item_at-items_of (item_tree c) es n, item_at-items_of (item_tree c) ts n, item_at-items_of (item_tree c) ms n) (meet_at c (lookup bytes_eq es n) (lookup bytes_eq ts n) (lookup bytes_eq ms n) (h n))
 
-  pub items_joined : (js : Externs) → AreJoined c d es ts js
-      → (n : Text) → IsJoinIn (Serves Fits) (item_at (items_of (item_tree c) es) n) (item_at (items_of (item_tree c) ts) n) (Some (item_at (items_of (item_tree d) js) n))
-  items_joined js h n =
-      rw (item_at-items_of (item_tree c) es n, item_at-items_of (item_tree c) ts n, item_at-items_of (item_tree d) js n)
-      (join_at c d (lookup bytes_eq es n) (lookup bytes_eq ts n) (lookup bytes_eq js n) (h n))
+pub items_joined : (c : Collection) (es ts js : Externs) → AreJoined c c es ts js → (n : Text) → IsJoinIn (Serves Fits) (item_at (items_of (item_tree c) es) n) (item_at (items_of (item_tree c) ts) n) (Some (item_at (items_of (item_tree c) js) n))
+items_joined c es ts js h n =
+    rw (item_at-items_of (item_tree c) es n, item_at-items_of (item_tree c) ts n, item_at-items_of (item_tree c) js n) (join_at c (lookup bytes_eq es n) (lookup bytes_eq ts n) (lookup bytes_eq js n) (h n))
 
 -- where they clash there is no meet at the name
 pub items_clash : (c : Collection) (es ts : Externs) (h : Clash c es ts)
@@ -145,20 +105,3 @@ pub all_built : (c d : Collection) (o : Origins) (es ts ms fs : Externs) → fs 
 all_built c d o es ts ms fs is found h =
     let P : Text × ItemKind → Type 0 = λ e. IsBuiltAt c d o es ts e.0 e.1 in
     rw is (All-with_new bytes_eq P ms ts h (All-weaker (λ e. lookup bytes_eq ts e.0 ≡ Some e.1) P (λ e. of_second) ts found))
-
--- while more is added
-
-pub AreMet-after : (c d e : Collection) → Extends d e → (es ts ms : Externs) → AllStand d (extern_keys ms) → AreMet c d es ts (Some ms) → AreMet c e es ts (Some ms)
-AreMet-after c d e grown es ts ms standing h = λ n. go (lookup bytes_eq es n) (lookup bytes_eq ts n) (lookup bytes_eq ms n) (found_stands d ms n standing) (h n)
-  where
-    go : (a b m : Option ItemKind) → AllStand d (optional_keys item_keys m) → IsMetAt c d a b m → IsMetAt c e a b m
-    go None b m sm h = h
-    go (Some a) b None sm h = h
-    go (Some a) b (Some m) sm h = met_with_after c d e grown a b m sm h
-
-pub AreJoined-before : (c d e : Collection) → Extends c d → (es ts js : Externs) → AllStand c (extern_keys es) → AllStand c (extern_keys ts) → AreJoined d e es ts js → AreJoined c e es ts js
-AreJoined-before c d e grown es ts js ses sts h = λ n. go (lookup bytes_eq es n) (lookup bytes_eq ts n) (lookup bytes_eq js n) (found_stands c es n ses) (found_stands c ts n sts) (h n)
-  where
-    go : (a b m : Option ItemKind) → AllStand c (optional_keys item_keys a) → AllStand c (optional_keys item_keys b) → IsJoinedAt d e a b m → IsJoinedAt c e a b m
-    go None b m sa sb h = h
-    go (Some a) b m sa sb h = joined_with_before c d e grown a b m sa sb h

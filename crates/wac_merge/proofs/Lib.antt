@@ -11,6 +11,8 @@ pub mod ItemLemmas
 pub mod AskedLemmas
 pub mod MemoLemmas
 pub mod DoneLemmas
+pub mod NotedLemmas
+pub mod StepLemmas
 pub mod CountLemmas
 pub mod OrderLemmas
 pub mod ItemKeys

@@ -14,8 +14,8 @@ use Rattle.wac_merge.specs.Runs.{IsNoted, AreMadeOn}
 use Rattle.wac_merge.specs.declared.memo.Asked.{Asked}
 use Rattle.wac_merge.specs.declared.memo.Bound.{Bound}
 use Rattle.wac_merge.specs.declared.memo.Bound.TheVariants.{Meet, Join}
-use Rattle.wac_merge.specs.declared.memo.EntryId.{EntryId}
-use Rattle.wac_merge.specs.declared.memo.Memo.{Memo}
+use Rattle.wac_merge.specs.declared.memo.BoundId.{BoundId}
+use Rattle.wac_merge.specs.declared.memo.BoundMemo.{BoundMemo}
 use Rattle.wac_merge.specs.declared.memo.Pair.{Pair}
 use Rattle.wac_merge.specs.declared.memo.Pair.TheVariants.{Interfaces, Worlds, Modules}
 use Rattle.wac_merge.proofs.BoundLemmas.{bound_before}
@@ -37,15 +37,15 @@ asked_same : (a b : Asked) → a.bound ≡ b.bound → a.pair ≡ b.pair → a �
 asked_same a b f s = λ i. record { bound = f i; pair = s i }
 
 -- what is made once is made as one entry
-made_once : (ms : Made) → AreMadeOnce ms → (a : Asked) (p q : EntryId) → Contains ms (a, p) → Contains ms (a, q) → p ≡ q
+made_once : (ms : Made) → AreMadeOnce ms → (a : Asked) (p q : BoundId) → Contains ms (a, p) → Contains ms (a, q) → p ≡ q
 made_once [] h a p q m n = absurd (omega (arith, m.1))
 made_once (x ∷ xs) h a p q m n = elim (Contains-cases (a, p) x xs m) [
   | inl here ↦ elim (Contains-cases (a, q) x xs n) [
-    | inl too ↦ ap (λ (z : Asked × EntryId). z.1) (sym here ∙ too)
-    | inr later ↦ elim (h.0 q (subst (λ (z : Asked). Contains xs (z, q)) (sym (ap (λ (z : Asked × EntryId). z.0) here)) later)) [ ]
+    | inl too ↦ ap (λ (z : Asked × BoundId). z.1) (sym here ∙ too)
+    | inr later ↦ elim (h.0 q (subst (λ (z : Asked). Contains xs (z, q)) (sym (ap (λ (z : Asked × BoundId). z.0) here)) later)) [ ]
   ]
   | inr later ↦ elim (Contains-cases (a, q) x xs n) [
-    | inl here ↦ elim (h.0 p (subst (λ (z : Asked). Contains xs (z, p)) (sym (ap (λ (z : Asked × EntryId). z.0) here)) later)) [ ]
+    | inl here ↦ elim (h.0 p (subst (λ (z : Asked). Contains xs (z, p)) (sym (ap (λ (z : Asked × BoundId). z.0) here)) later)) [ ]
     | inr too ↦ made_once xs h.1 a p q later too
   ]
 ]
@@ -60,7 +60,7 @@ chosen [] m = Meet
 chosen (x ∷ xs) m = bound_in (Key-discrete (entry_key x.1) m) x.0.bound (chosen xs m)
 
 record Noted (ms : Made) (m : Key) (b : Bound) : Type 0 where
-  asked : Asked × EntryId
+  asked : Asked × BoundId
   there : Contains ms asked
   is : entry_key asked.1 ≡ m
   bound : asked.0.bound ≡ b
@@ -73,13 +73,13 @@ noted (y ∷ ys) m (x, there, is) = go (Key-discrete (entry_key y.1) m) (λ late
     go : (h : Dec (entry_key y.1 ≡ m)) → (Contains ys x → Noted ys m (chosen ys m)) → Noted (y ∷ ys) m (bound_in h y.0.bound (chosen ys m))
     go (yes e) f = record { asked = y; there = Contains-first y ys; is = e; bound = refl }
     go (no apart) f = elim (Contains-cases x y ys there) [
-      | inl same ↦ elim (apart (ap (λ (z : Asked × EntryId). entry_key z.1) same ∙ is)) [ ]
+      | inl same ↦ elim (apart (ap (λ (z : Asked × BoundId). entry_key z.1) same ∙ is)) [ ]
       | inr later ↦ let r = f later in record { asked = r.asked; there = Contains-later r.asked y ys r.there; is = r.is; bound = r.bound }
     ]
 
 -- from c to d, with all that d has more remembered in n
-module _ (c d : Collection) (o : Origins) (n : Memo) (grown : Extends c d) (known : IsTrueMemo d n) (made : AreMadeOn c d o (made_of n)) where
-  as_bound : (b : Bound) (p : Pair) (r : EntryId) → Stands c (first_key p) → Stands c (second_key p) → IsBoundOf b d d p (Some r) → IsBoundAs b c d (first_key p, second_key p) (entry_key r)
+module _ (c d : Collection) (o : Origins) (n : BoundMemo) (grown : Extends c d) (known : IsTrueMemo d n) (made : AreMadeOn c d o (made_of n)) where
+  as_bound : (b : Bound) (p : Pair) (r : BoundId) → Stands c (first_key p) → Stands c (second_key p) → IsBoundOf b d d p (Some r) → IsBoundAs b c d (first_key p, second_key p) (entry_key r)
   as_bound Meet p r sx sy h =
       λ k. bound_before Fits c d grown (entry_item k (first_key p)) (entry_item k (second_key p)) (entry_item_stands c k (first_key p) sx) (entry_item_stands c k (second_key p) sy) (Some (item_tree d (entry_item k (entry_key r)))) (h k)
   as_bound Join p r sx sy h =
@@ -89,7 +89,7 @@ module _ (c d : Collection) (o : Origins) (n : Memo) (grown : Extends c d) (know
   added_noted m added = elim (made.all m added.0) [ inl stood ↦ elim (added.1 stood) [ ] | inr here ↦ noted (made_of n) m here ]
 
   -- the two of its origin are those that it was made for
-  made_for : (m : Key) (x : Asked × EntryId) → Contains (made_of n) x → entry_key x.1 ≡ m → o m ≡ (first_key x.0.pair, second_key x.0.pair)
+  made_for : (m : Key) (x : Asked × BoundId) → Contains (made_of n) x → entry_key x.1 ≡ m → o m ≡ (first_key x.0.pair, second_key x.0.pair)
   made_for m x there is = ap o (sym is) ∙ (made.each x there).made.2
 
   is_bound : (m : Key) → IsAdded c d m → IsBoundAs (chosen (made_of n) m) c d (o m) m

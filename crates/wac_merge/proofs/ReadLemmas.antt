@@ -23,7 +23,7 @@ use Rattle.wac_component.proofs.Reading.{interface_standing, interface_lower}
 use Rattle.wac_component.proofs.Trees.{interface-externs, world-externs}
 use Rattle.wac_merge.specs.Built.{uses_of_both}
 use Rattle.wac_merge.specs.Items.{Externs, extern_keys}
-use Rattle.wac_merge.specs.Reads.{entry_imports, entry_exports, imports_at, exports_at, HasExports, AreRead, IsInterfaceOfBoth, IsWorldOfBoth}
+use Rattle.wac_merge.specs.Reads.{entry_imports, entry_exports, imports_at, exports_at, HasExports, IsInterfaceOfBoth, IsWorldOfBoth}
 use Rattle.wac_component.proofs.Last.{IsLast, with_entry-last}
 
 -- an entry of the list of its sort
@@ -53,9 +53,6 @@ pub interface_exports_are : (c : Collection) (x : Id) (e : InterfaceContent) →
 unfolding exports_at
 interface_exports_are c x e h = ap (λ o. option_map_or entry_exports o []) h
 
-pub exports_read : (c : Collection) (x : Id) (es : Externs) → HasExports c x es → es ≡ exports_at c (interface_key x)
-exports_read c x es h = sym h.exports ∙ sym (interface_exports_are c x h.entry h.at)
-
 -- what a world imports and exports, by its entry
 
 pub world_imports_are : (c : Collection) (x : Id) (e : WorldContent) → entry_at c (world_key x) ≡ Some (world_entry e) → imports_at c (world_key x) ≡ e.imports
@@ -65,22 +62,6 @@ world_imports_are c x e h = ap (λ o. option_map_or entry_imports o []) h
 pub world_exports_are : (c : Collection) (x : Id) (e : WorldContent) → entry_at c (world_key x) ≡ Some (world_entry e) → exports_at c (world_key x) ≡ e.exports
 unfolding exports_at
 world_exports_are c x e h = ap (λ o. option_map_or entry_exports o []) h
-
-pub reads_imports : (c : Collection) (x : Id) (e : WorldContent) (is : Externs) → slice_get c.worlds x.index ≡ Some e → AllStand c (world_keys e) → keys_height c (world_keys e) < height c (world_key x)
-    → is ≡ e.imports → AreRead c (world_key x) (imports_at c (world_key x)) is
-reads_imports c x e is at stand lower same = record {
-  are = same ∙ sym (world_imports_are c x e (world_at c x e at));
-  standing = rw same (world_imports_stand c e stand);
-  lower = rw same (omega (arith, lower, world_imports_lower c e));
-}
-
-pub reads_exports : (c : Collection) (x : Id) (e : WorldContent) (es : Externs) → slice_get c.worlds x.index ≡ Some e → AllStand c (world_keys e) → keys_height c (world_keys e) < height c (world_key x)
-    → es ≡ e.exports → AreRead c (world_key x) (exports_at c (world_key x)) es
-reads_exports c x e es at stand lower same = record {
-  are = same ∙ sym (world_exports_are c x e (world_at c x e at));
-  standing = rw same (world_exports_stand c e stand);
-  lower = rw same (omega (arith, lower, world_exports_lower c e));
-}
 
 -- what an id imports and exports is the same while the collection grows
 

@@ -4,3 +4,4 @@ pub mod Built
 pub mod Memo
 pub mod Runs
 pub mod Reads
+pub mod Told

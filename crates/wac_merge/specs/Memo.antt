@@ -1,5 +1,5 @@
 -- What a call remembers: the entries that it made, and what each was made for.
-use Rattle.std.specs.Prelude.{◌≡◌, ◌<◌, ◌+◌, ◌++◌, [], ◌∷◌, List, Bool, true, false, Option, Some, None, Contains, length}
+use Rattle.std.specs.Prelude.{◌≡◌, ◌<◌, ◌⊎◌, ◌+◌, ◌++◌, [], ◌∷◌, List, Bool, true, false, Option, Some, None, Contains, length}
 use Rattle.std.specs.Option.{option_map}
 use Rattle.indexmap.specs.IndexMap.{spare}
 use Rattle.wac_model.specs.ItemTree.{ItemTree, Kind, item, type_item}
@@ -17,9 +17,9 @@ use Rattle.wac_merge.specs.declared.memo.Bound.TheVariants.{Meet, Join}
 use Rattle.wac_merge.specs.declared.memo.Pair.{Pair}
 use Rattle.wac_merge.specs.declared.memo.Pair.TheVariants.{Interfaces, Worlds, Modules}
 use Rattle.wac_merge.specs.declared.memo.Asked.{Asked}
-use Rattle.wac_merge.specs.declared.memo.EntryId.{EntryId}
-use Rattle.wac_merge.specs.declared.memo.EntryId.TheVariants.{Interface, World, Module}
-use Rattle.wac_merge.specs.declared.memo.Memo.{Memo}
+use Rattle.wac_merge.specs.declared.memo.BoundId.{BoundId}
+use Rattle.wac_merge.specs.declared.memo.BoundId.TheVariants.{Interface, World, Module}
+use Rattle.wac_merge.specs.declared.memo.BoundMemo.{BoundMemo}
 
 -- a type, or else an item
 abbrev pub kind_of : Bool → Kind
@@ -37,34 +37,49 @@ second_key (Interfaces x y) = interface_key y
 second_key (Worlds x y) = world_key y
 second_key (Modules x y) = module_key y
 
-abbrev pub entry_key : EntryId → Key
+abbrev pub entry_key : BoundId → Key
 entry_key (Interface p) = interface_key p
 entry_key (World p) = world_key p
 entry_key (Module p) = module_key p
 
 -- what was made, each with what it was made for
 abbrev pub Made : Type 0
-Made = List (Asked × EntryId)
+Made = List (Asked × BoundId)
 
-abbrev pub made_of : Memo → Made
+abbrev pub made_of : BoundMemo → Made
 made_of m = m.made.entries
+
+-- what has no bound
+abbrev pub refused_of : BoundMemo → List Asked
+refused_of m = m.refused.keys
 
 -- nothing was made for this
 abbrev pub IsNew : Made → Asked → Type 0
-IsNew ms a = (p : EntryId) → Contains ms (a, p) → ⊥
+IsNew ms a = (p : BoundId) → Contains ms (a, p) → ⊥
 
 -- what was made for this, if anything was
-abbrev pub IsMadeFor : Made → Asked → Option EntryId → Type 0
+abbrev pub IsMadeFor : Made → Asked → Option BoundId → Type 0
 IsMadeFor ms a None = IsNew ms a
 IsMadeFor ms a (Some p) = Contains ms (a, p)
 
+-- the entry that was made for this, or that it has no bound, if either is noted
+abbrev pub IsToldOf : BoundMemo → Asked → Option (Option BoundId) → Type 0
+IsToldOf m a None = Unit {0}
+IsToldOf m a (Some None) = Contains (refused_of m) a
+IsToldOf m a (Some (Some p)) = Contains (made_of m) (a, p)
+
+-- what is refused was refused before, or is this
+abbrev pub IsRefused : BoundMemo → BoundMemo → Asked → Type 0
+IsRefused m n a = (b : Asked) → Contains (refused_of n) b → Contains (refused_of m) b ⊎ (b ≡ a)
+
 -- one more entry can be noted without memory
-abbrev pub HasRoom : Memo → Type 0
+abbrev pub HasRoom : BoundMemo → Type 0
 HasRoom m = 0 < spare m.made
 
 -- the two remember the same
-pub record IsSame (m n : Memo) : Type 0 where
+pub record IsSame (m n : BoundMemo) : Type 0 where
   pub made : made_of n ≡ made_of m
+  pub refused : refused_of n ≡ refused_of m
   pub compared : n.compared ≡ m.compared
 
 -- a meet is greatest in the order of items, a join in the order turned round
@@ -74,15 +89,21 @@ order_of Join s t = Fits t s
 
 -- the entry, in d, is the meet or the join of two in c, as items and as
 -- types; none where there is none
-abbrev pub IsBoundOf : Bound → Collection → Collection → Pair → Option EntryId → Type 0
+abbrev pub IsBoundOf : Bound → Collection → Collection → Pair → Option BoundId → Type 0
 IsBoundOf b c d p m = (k : Kind) → IsMeetIn (order_of b) (item_tree c (entry_item k (first_key p))) (item_tree c (entry_item k (second_key p))) (option_map (item_tree d) (option_map (λ e. entry_item k (entry_key e)) m))
 
 -- what was made is what was asked for
-pub record IsTrueMade (d : Collection) (x : Asked × EntryId) : Type 0 where
+pub record IsTrueMade (d : Collection) (x : Asked × BoundId) : Type 0 where
   pub first : Stands d (first_key x.0.pair)
   pub second : Stands d (second_key x.0.pair)
   pub stands : Stands d (entry_key x.1)
   pub bound : IsBoundOf x.0.bound d d x.0.pair (Some x.1)
+
+-- what is refused has no bound
+pub record IsTrueRefused (d : Collection) (a : Asked) : Type 0 where
+  pub first : Stands d (first_key a.pair)
+  pub second : Stands d (second_key a.pair)
+  pub none : IsBoundOf a.bound d d a.pair None
 
 -- nothing was made twice
 abbrev pub AreMadeOnce : Made → Type 0
@@ -90,18 +111,19 @@ AreMadeOnce [] = Unit {0}
 AreMadeOnce (x ∷ xs) = IsNew xs x.0 × AreMadeOnce xs
 
 -- what is remembered is true of a collection
-pub record IsTrueMemo (d : Collection) (m : Memo) : Type 0 where
-  pub made : (x : Asked × EntryId) → Contains (made_of m) x → IsTrueMade d x
+pub record IsTrueMemo (d : Collection) (m : BoundMemo) : Type 0 where
+  pub made : (x : Asked × BoundId) → Contains (made_of m) x → IsTrueMade d x
   pub once : AreMadeOnce (made_of m)
+  pub refused : (a : Asked) → Contains (refused_of m) a → IsTrueRefused d a
   pub compared : KnowsTruly d d m.compared
 
 -- entries were only added, each is remembered, and what is remembered is true
-pub record Grows (d : Collection) (m : Memo) (e : Collection) (n : Memo) : Type 0 where
+pub record Grows (d : Collection) (m : BoundMemo) (e : Collection) (n : BoundMemo) : Type 0 where
   pub extends : Extends d e
   pub counted : entry_count e + length (made_of m) ≡ entry_count d + length (made_of n)
   pub true_memo : IsTrueMemo e n
 
 -- the entry was made before for what is asked, and nothing is added; or it is made now, and noted
-pub data IsMade (d : Collection) (m : Memo) (e : Collection) (n : Memo) (a : Asked) (p : EntryId) (IsAdded : Type 0) : Type 0 where
+pub data IsMade (d : Collection) (m : BoundMemo) (e : Collection) (n : BoundMemo) (a : Asked) (p : BoundId) (IsAdded : Type 0) : Type 0 where
   before : Contains (made_of m) (a, p) → e ≡ d → IsSame m n → IsMade d m e n a p IsAdded
-  now : IsNew (made_of m) a → IsAdded → made_of n ≡ made_of m ++ (a, p) ∷ [] → n.compared ≡ m.compared → IsMade d m e n a p IsAdded
+  now : IsNew (made_of m) a → IsAdded → made_of n ≡ made_of m ++ (a, p) ∷ [] → refused_of n ≡ refused_of m → n.compared ≡ m.compared → IsMade d m e n a p IsAdded

@@ -11,6 +11,8 @@ use Rattle.wac_component.specs.Growth.{with_entry}
 use Rattle.wac_component.specs.Tree.{externs, items_of, item_tree, module_tree}
 use Rattle.wac_merge.specs.Built.{uses_of_both}
 use Rattle.wac_merge.specs.Items.{Externs, extern_keys}
+use Rattle.wac_merge.specs.declared.memo.Bound.{Bound}
+use Rattle.wac_merge.specs.declared.memo.Bound.TheVariants.{Meet, Join}
 
 -- the interface has these exports, which stand and are lower
 pub record HasExports (c : Collection) (x : Id) (es : Externs) : Type 0 where
@@ -38,11 +40,14 @@ imports_at c k = option_map_or entry_imports (entry_at c k) []
 unfoldable pub exports_at : Collection → Key → Externs
 exports_at c k = option_map_or entry_exports (entry_at c k) []
 
--- the items are all of these, which stand and are lower than the id
-pub record AreRead (c : Collection) (k : Key) (all es : Externs) : Type 0 where
-  pub are : es ≡ all
-  pub standing : AllStand c (extern_keys es)
-  pub lower : keys_height c (extern_keys es) < height c k
+-- of a world that which is met, for a meet or a join, and that which is joined
+abbrev pub met_at : Bound → Collection → Key → Externs
+met_at Meet c k = exports_at c k
+met_at Join c k = imports_at c k
+
+abbrev pub joined_at : Bound → Collection → Key → Externs
+joined_at Meet c k = imports_at c k
+joined_at Join c k = exports_at c k
 
 -- the interface at p is all that d has more than c: it has these exports,
 -- and uses what two interfaces do

@@ -10,8 +10,8 @@ ghost use Rattle.wac_component.specs.Tree.{item_tree};
 ghost use Rattle.wac_merge.specs.Bounded.{IsKept};
 ghost use Rattle.wac_merge.specs.Built.{Builds};
 
-use crate::items::{join_items, meet_items};
-use crate::memo::Memo;
+use crate::memo::Bound;
+use crate::steps::bound_of;
 use std::alloc::{AllocError, Global};
 use wac_component::{ItemKind, Types};
 
@@ -40,9 +40,7 @@ pub fn meet(
     ensures grows { Extends types.old types.new }
     ensures bounded { entry_count types.new ≤ entry_count types.old + 2 * entry_count types.old * entry_count types.old }
 {
-    types.sound();
-    let mut memo = Memo::new(alloc);
-    meet_items(alloc, types, &mut memo, a, b)
+    bound_of(alloc, types, Bound::Meet, a, b)
 }
 
 /// The join of two items: the least item where whatever fits where one of the two is asked for
@@ -71,7 +69,5 @@ pub fn join(
     ensures grows { Extends types.old types.new }
     ensures bounded { entry_count types.new ≤ entry_count types.old + 2 * entry_count types.old * entry_count types.old }
 {
-    types.sound();
-    let mut memo = Memo::new(alloc);
-    join_items(alloc, types, &mut memo, a, b)
+    bound_of(alloc, types, Bound::Join, a, b)
 }

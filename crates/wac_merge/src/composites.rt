@@ -1,264 +1,155 @@
-//! The meet and the join of two interfaces and of two worlds.
+//! The bound of two entries, once that of each two that they name is known.
 
-ghost use Rattle.std.specs.Prelude.{◌∷◌, [], IfOk, IfSome, Some};
+ghost use Rattle.std.specs.Prelude.{◌≡◌, ◌∷◌, [], IfOk, IfErr, IfSome};
 ghost use Rattle.std.specs.Option.{option_map};
-ghost use Rattle.std.specs.Str.{bytes_eq};
-ghost use Rattle.wac_core_merge.specs.NameOrder.{HasAllNames, HasSomeNames};
 ghost use Rattle.wac_component.specs.Key.{Stands, AllStand, interface_key, world_key};
+ghost use Rattle.wac_component.specs.Sound.{IsSound};
 ghost use Rattle.wac_merge.specs.Items.{extern_keys, extern_list};
-ghost use Rattle.wac_merge.specs.Bounded.{AreMet, AreJoined};
-ghost use Rattle.wac_merge.specs.Built.{IsMadeOf, AreBuilt};
-ghost use Rattle.wac_merge.specs.Reads.{imports_at, exports_at};
-ghost use Rattle.wac_merge.specs.Memo.{IsTrueMemo, IsBoundOf, Grows, made_of, entry_key};
-ghost use Rattle.wac_merge.specs.Runs.{Runs};
+ghost use Rattle.wac_merge.specs.Built.{AreBuilt};
+ghost use Rattle.wac_merge.specs.Reads.{exports_at};
+ghost use Rattle.wac_merge.specs.Memo.{IsTrueMemo, Grows, made_of, first_key, second_key};
+ghost use Rattle.wac_merge.specs.Runs.{FromBuilt, Runs};
+ghost use Rattle.wac_merge.specs.Told.{LacksOnly, AreBound, HasBoundNames, AreSides, AreSidesBuilt};
 
-use crate::entries::{exports_of, interface_of, world_exports_of, world_imports_of, world_of};
-use crate::externs::{join_externs, meet_externs};
-use crate::memo::{Bound, EntryId, Memo, Pair};
+use crate::entries::{WorldSides, exports_of, interface_of, joined_side, met_side, world_of};
+use crate::externs::bound_externs;
+use crate::memo::{Asked, Bound, BoundMemo, Pair, Untold};
+use crate::modules::bound_modules;
 use indexmap::IndexMap;
-use std::alloc::{AllocError, Global};
 use wac_component::{InterfaceId, ItemKind, Types, WorldId};
 
-// An interface that exports what both do, or none where a name of both has no meet.
-#[cycle(bounds)]
-#[inline(never)]
-pub(crate) fn meet_interfaces(
-    alloc: Global,
+/// Makes the bound of two entries, or notes that they have none.
+pub(crate) fn bound_entries(
     types: &mut Types,
-    memo: &mut Memo,
-    x: InterfaceId,
-    y: InterfaceId,
-) -> Result<Option<EntryId>, AllocError>
-    requires left { Stands types.old (interface_key x) }
-    requires right { Stands types.old (interface_key y) }
+    memo: &mut BoundMemo,
+    asked: Asked,
+) -> Result<(), Untold>
+    requires left { Stands types.old (first_key asked.pair) }
+    requires right { Stands types.old (second_key asked.pair) }
     requires memo { IsTrueMemo types.old memo.old }
     ensures grows { Grows types.old memo.old types.new memo.new }
-    ensures met { IfOk result (IsBoundOf Bound.Meet types.old types.new (Pair.Interfaces x y)) }
-    ensures standing { IfOk result (λ m. IfSome m (λ p. Stands types.new (entry_key p))) }
-    ensures built { Runs (interface_key x ∷ interface_key y ∷ []) types.old (made_of memo.old) types.new (made_of memo.new) (λ c o. IfOk result (λ m. IfSome m (λ p. IsMadeOf c types.new o (interface_key x) (interface_key y) (entry_key p)))) }
+    ensures built { Runs (first_key asked.pair ∷ second_key asked.pair ∷ []) types.old (made_of memo.old) types.new (made_of memo.new) }
+    ensures lacks { IfErr result (LacksOnly types.old (first_key asked.pair ∷ second_key asked.pair ∷ [])) }
 {
-    types.sound();
-    match meet_exports(alloc, types, memo, x, y)? {
-        Some(exports) => Ok(Some(interface_of(types, memo, Bound::Meet, x, y, exports)?)),
-        None => Ok(None),
+    let Asked { bound, pair } = asked;
+    match &pair {
+        Pair::Interfaces(x, y) => bound_interfaces(types, memo, bound, *x, *y),
+        Pair::Worlds(x, y) => bound_worlds(types, memo, bound, *x, *y),
+        Pair::Modules(x, y) => bound_modules(types, memo, bound, *x, *y),
     }
 }
 
-// An interface that exports what both have under one name, joined.
-#[cycle(bounds)]
-#[inline(never)]
-pub(crate) fn join_interfaces(
-    alloc: Global,
+// The same of two interfaces: its exports are those of both, met or joined.
+fn bound_interfaces(
     types: &mut Types,
-    memo: &mut Memo,
+    memo: &mut BoundMemo,
+    bound: Bound,
     x: InterfaceId,
     y: InterfaceId,
-) -> Result<Option<EntryId>, AllocError>
+) -> Result<(), Untold>
     requires left { Stands types.old (interface_key x) }
     requires right { Stands types.old (interface_key y) }
     requires memo { IsTrueMemo types.old memo.old }
     ensures grows { Grows types.old memo.old types.new memo.new }
-    ensures joined { IfOk result (IsBoundOf Bound.Join types.old types.new (Pair.Interfaces x y)) }
-    ensures standing { IfOk result (λ m. IfSome m (λ p. Stands types.new (entry_key p))) }
-    ensures built { Runs (interface_key x ∷ interface_key y ∷ []) types.old (made_of memo.old) types.new (made_of memo.new) (λ c o. IfOk result (λ m. IfSome m (λ p. IsMadeOf c types.new o (interface_key x) (interface_key y) (entry_key p)))) }
+    ensures built { Runs (interface_key x ∷ interface_key y ∷ []) types.old (made_of memo.old) types.new (made_of memo.new) }
+    ensures lacks { IfErr result (LacksOnly types.old (interface_key x ∷ interface_key y ∷ [])) }
 {
     types.sound();
-    let exports = join_exports(alloc, types, memo, x, y)?;
-    Ok(Some(interface_of(types, memo, Bound::Join, x, y, exports)?))
-}
-
-// The exports of both interfaces, met, or none where a name of both has no meet.
-#[cycle(bounds)]
-fn meet_exports(
-    alloc: Global,
-    types: &mut Types,
-    memo: &mut Memo,
-    x: InterfaceId,
-    y: InterfaceId,
-) -> Result<Option<IndexMap<String, ItemKind>>, AllocError>
-    requires left { Stands types.old (interface_key x) }
-    requires right { Stands types.old (interface_key y) }
-    requires memo { IsTrueMemo types.old memo.old }
-    ensures grows { Grows types.old memo.old types.new memo.new }
-    ensures met { IfOk result (λ r. AreMet types.old types.new (exports_at types.old (interface_key x)) (exports_at types.old (interface_key y)) (option_map extern_list r)) }
-    ensures names { IfOk result (λ r. IfSome r (λ m. HasAllNames bytes_eq (exports_at types.old (interface_key x)) (exports_at types.old (interface_key y)) (extern_list m))) }
-    ensures standing { IfOk result (λ r. IfSome r (λ m. AllStand types.new (extern_keys (extern_list m)))) }
-    ensures built { Runs (interface_key x ∷ interface_key y ∷ []) types.old (made_of memo.old) types.new (made_of memo.new) (λ c o. IfOk result (λ r. IfSome r (λ m. AreBuilt c types.new o (exports_at types.old (interface_key x)) (exports_at types.old (interface_key y)) (extern_list m)))) }
-{
-    let first = exports_of(types, x)?;
-    let second = exports_of(types, y)?;
-    meet_externs(alloc, types, memo, &first, &second)
-}
-
-// The exports that both interfaces have under one name, joined.
-#[cycle(bounds)]
-fn join_exports(
-    alloc: Global,
-    types: &mut Types,
-    memo: &mut Memo,
-    x: InterfaceId,
-    y: InterfaceId,
-) -> Result<IndexMap<String, ItemKind>, AllocError>
-    requires left { Stands types.old (interface_key x) }
-    requires right { Stands types.old (interface_key y) }
-    requires memo { IsTrueMemo types.old memo.old }
-    ensures grows { Grows types.old memo.old types.new memo.new }
-    ensures joined { IfOk result (λ j. AreJoined types.old types.new (exports_at types.old (interface_key x)) (exports_at types.old (interface_key y)) (extern_list j)) }
-    ensures names { IfOk result (λ j. HasSomeNames bytes_eq (exports_at types.old (interface_key x)) (extern_list j)) }
-    ensures standing { IfOk result (λ j. AllStand types.new (extern_keys (extern_list j))) }
-    ensures built { Runs (interface_key x ∷ interface_key y ∷ []) types.old (made_of memo.old) types.new (made_of memo.new) (λ c o. IfOk result (λ j. AreBuilt c types.new o (exports_at types.old (interface_key x)) (exports_at types.old (interface_key y)) (extern_list j))) }
-{
-    let first = exports_of(types, x)?;
-    let second = exports_of(types, y)?;
-    join_externs(alloc, types, memo, &first, &second)
-}
-
-// A world that exports what both do and imports what both have under one name, joined; none where
-// a name of both exports has no meet.
-#[cycle(bounds)]
-#[inline(never)]
-pub(crate) fn meet_worlds(
-    alloc: Global,
-    types: &mut Types,
-    memo: &mut Memo,
-    x: WorldId,
-    y: WorldId,
-) -> Result<Option<EntryId>, AllocError>
-    requires left { Stands types.old (world_key x) }
-    requires right { Stands types.old (world_key y) }
-    requires memo { IsTrueMemo types.old memo.old }
-    ensures grows { Grows types.old memo.old types.new memo.new }
-    ensures met { IfOk result (IsBoundOf Bound.Meet types.old types.new (Pair.Worlds x y)) }
-    ensures standing { IfOk result (λ m. IfSome m (λ p. Stands types.new (entry_key p))) }
-    ensures built { Runs (world_key x ∷ world_key y ∷ []) types.old (made_of memo.old) types.new (made_of memo.new) (λ c o. IfOk result (λ m. IfSome m (λ p. IsMadeOf c types.new o (world_key x) (world_key y) (entry_key p)))) }
-{
-    types.sound();
-    match meet_world_exports(alloc, types, memo, x, y)? {
+    match exports_of_both(types, memo, bound, x, y)? {
         Some(exports) => {
-            let imports = join_world_imports(alloc, types, memo, x, y)?;
-            Ok(Some(world_of(types, memo, Bound::Meet, x, y, imports, exports)?))
+            interface_of(types, memo, bound, x, y, exports)?;
+            Ok(())
         }
-        None => Ok(None),
+        None => Ok(memo.refuse(bound, Pair::Interfaces(x, y))?),
     }
 }
 
-// A world that imports what both do and exports what both have under one name, joined; none where
-// a name of both imports has no meet.
-#[cycle(bounds)]
-#[inline(never)]
-pub(crate) fn join_worlds(
-    alloc: Global,
+// What two interfaces export, met or joined.
+fn exports_of_both(
+    types: &Types,
+    memo: &mut BoundMemo,
+    bound: Bound,
+    x: InterfaceId,
+    y: InterfaceId,
+) -> Result<Option<IndexMap<String, ItemKind>>, Untold>
+    requires sound { IsSound types.now }
+    requires left { Stands types.now (interface_key x) }
+    requires right { Stands types.now (interface_key y) }
+    requires memo { IsTrueMemo types.now memo.old }
+    ensures memo { IsTrueMemo types.now memo.new }
+    ensures made { made_of memo.new ≡ made_of memo.old }
+    ensures bound { IfOk result (λ r. AreBound bound types.now types.now (exports_at types.now (interface_key x)) (exports_at types.now (interface_key y)) (option_map extern_list r)) }
+    ensures names { IfOk result (λ r. IfSome r (λ m. HasBoundNames bound (exports_at types.now (interface_key x)) (exports_at types.now (interface_key y)) (extern_list m))) }
+    ensures standing { IfOk result (λ r. IfSome r (λ m. AllStand types.now (extern_keys (extern_list m)))) }
+    ensures built { FromBuilt (interface_key x ∷ interface_key y ∷ []) types.now (made_of memo.old) (λ c o. IfOk result (λ r. IfSome r (λ m. AreBuilt c types.now o (exports_at types.now (interface_key x)) (exports_at types.now (interface_key y)) (extern_list m)))) }
+    ensures lacks { IfErr result (LacksOnly types.now (interface_key x ∷ interface_key y ∷ [])) }
+{
+    let first = exports_of(types, x);
+    let second = exports_of(types, y);
+    bound_externs(types, memo, bound, first, second)
+}
+
+// The same of two worlds: of a meet it exports what both do, met, and imports what both do, joined;
+// of a join the other way round.
+fn bound_worlds(
     types: &mut Types,
-    memo: &mut Memo,
+    memo: &mut BoundMemo,
+    bound: Bound,
     x: WorldId,
     y: WorldId,
-) -> Result<Option<EntryId>, AllocError>
+) -> Result<(), Untold>
     requires left { Stands types.old (world_key x) }
     requires right { Stands types.old (world_key y) }
     requires memo { IsTrueMemo types.old memo.old }
     ensures grows { Grows types.old memo.old types.new memo.new }
-    ensures joined { IfOk result (IsBoundOf Bound.Join types.old types.new (Pair.Worlds x y)) }
-    ensures standing { IfOk result (λ m. IfSome m (λ p. Stands types.new (entry_key p))) }
-    ensures built { Runs (world_key x ∷ world_key y ∷ []) types.old (made_of memo.old) types.new (made_of memo.new) (λ c o. IfOk result (λ m. IfSome m (λ p. IsMadeOf c types.new o (world_key x) (world_key y) (entry_key p)))) }
+    ensures built { Runs (world_key x ∷ world_key y ∷ []) types.old (made_of memo.old) types.new (made_of memo.new) }
+    ensures lacks { IfErr result (LacksOnly types.old (world_key x ∷ world_key y ∷ [])) }
 {
     types.sound();
-    match meet_world_imports(alloc, types, memo, x, y)? {
-        Some(imports) => {
-            let exports = join_world_exports(alloc, types, memo, x, y)?;
-            Ok(Some(world_of(types, memo, Bound::Join, x, y, imports, exports)?))
+    match sides_of_both(types, memo, bound, x, y)? {
+        Some(sides) => {
+            world_of(types, memo, bound, x, y, sides)?;
+            Ok(())
         }
-        None => Ok(None),
+        None => Ok(memo.refuse(bound, Pair::Worlds(x, y))?),
     }
 }
 
-// The exports of both worlds, met, or none where a name of both has no meet.
-#[cycle(bounds)]
-fn meet_world_exports(
-    alloc: Global,
-    types: &mut Types,
-    memo: &mut Memo,
+// What two worlds import and export, met or joined.
+fn sides_of_both(
+    types: &Types,
+    memo: &mut BoundMemo,
+    bound: Bound,
     x: WorldId,
     y: WorldId,
-) -> Result<Option<IndexMap<String, ItemKind>>, AllocError>
-    requires left { Stands types.old (world_key x) }
-    requires right { Stands types.old (world_key y) }
-    requires memo { IsTrueMemo types.old memo.old }
-    ensures grows { Grows types.old memo.old types.new memo.new }
-    ensures met { IfOk result (λ r. AreMet types.old types.new (exports_at types.old (world_key x)) (exports_at types.old (world_key y)) (option_map extern_list r)) }
-    ensures names { IfOk result (λ r. IfSome r (λ m. HasAllNames bytes_eq (exports_at types.old (world_key x)) (exports_at types.old (world_key y)) (extern_list m))) }
-    ensures standing { IfOk result (λ r. IfSome r (λ m. AllStand types.new (extern_keys (extern_list m)))) }
-    ensures built { Runs (world_key x ∷ world_key y ∷ []) types.old (made_of memo.old) types.new (made_of memo.new) (λ c o. IfOk result (λ r. IfSome r (λ m. AreBuilt c types.new o (exports_at types.old (world_key x)) (exports_at types.old (world_key y)) (extern_list m)))) }
+) -> Result<Option<WorldSides>, Untold>
+    requires sound { IsSound types.now }
+    requires left { Stands types.now (world_key x) }
+    requires right { Stands types.now (world_key y) }
+    requires memo { IsTrueMemo types.now memo.old }
+    ensures memo { IsTrueMemo types.now memo.new }
+    ensures made { made_of memo.new ≡ made_of memo.old }
+    ensures bound { IfOk result (AreSides bound types.now (world_key x) (world_key y)) }
+    ensures standing { IfOk result (λ r. IfSome r (λ w. AllStand types.now (extern_keys (extern_list w.imports)) × AllStand types.now (extern_keys (extern_list w.exports)))) }
+    ensures built { FromBuilt (world_key x ∷ world_key y ∷ []) types.now (made_of memo.old) (λ c o. IfOk result (λ r. IfSome r (AreSidesBuilt c types.now o (world_key x) (world_key y)))) }
+    ensures lacks { IfErr result (LacksOnly types.now (world_key x ∷ world_key y ∷ [])) }
 {
-    let first = world_exports_of(types, x)?;
-    let second = world_exports_of(types, y)?;
-    meet_externs(alloc, types, memo, &first, &second)
-}
-
-// The imports of both worlds, met, or none where a name of both has no meet.
-#[cycle(bounds)]
-fn meet_world_imports(
-    alloc: Global,
-    types: &mut Types,
-    memo: &mut Memo,
-    x: WorldId,
-    y: WorldId,
-) -> Result<Option<IndexMap<String, ItemKind>>, AllocError>
-    requires left { Stands types.old (world_key x) }
-    requires right { Stands types.old (world_key y) }
-    requires memo { IsTrueMemo types.old memo.old }
-    ensures grows { Grows types.old memo.old types.new memo.new }
-    ensures met { IfOk result (λ r. AreMet types.old types.new (imports_at types.old (world_key x)) (imports_at types.old (world_key y)) (option_map extern_list r)) }
-    ensures names { IfOk result (λ r. IfSome r (λ m. HasAllNames bytes_eq (imports_at types.old (world_key x)) (imports_at types.old (world_key y)) (extern_list m))) }
-    ensures standing { IfOk result (λ r. IfSome r (λ m. AllStand types.new (extern_keys (extern_list m)))) }
-    ensures built { Runs (world_key x ∷ world_key y ∷ []) types.old (made_of memo.old) types.new (made_of memo.new) (λ c o. IfOk result (λ r. IfSome r (λ m. AreBuilt c types.new o (imports_at types.old (world_key x)) (imports_at types.old (world_key y)) (extern_list m)))) }
-{
-    let first = world_imports_of(types, x)?;
-    let second = world_imports_of(types, y)?;
-    meet_externs(alloc, types, memo, &first, &second)
-}
-
-// The imports that both worlds have under one name, joined.
-#[cycle(bounds)]
-fn join_world_imports(
-    alloc: Global,
-    types: &mut Types,
-    memo: &mut Memo,
-    x: WorldId,
-    y: WorldId,
-) -> Result<IndexMap<String, ItemKind>, AllocError>
-    requires left { Stands types.old (world_key x) }
-    requires right { Stands types.old (world_key y) }
-    requires memo { IsTrueMemo types.old memo.old }
-    ensures grows { Grows types.old memo.old types.new memo.new }
-    ensures joined { IfOk result (λ j. AreJoined types.old types.new (imports_at types.old (world_key x)) (imports_at types.old (world_key y)) (extern_list j)) }
-    ensures names { IfOk result (λ j. HasSomeNames bytes_eq (imports_at types.old (world_key x)) (extern_list j)) }
-    ensures standing { IfOk result (λ j. AllStand types.new (extern_keys (extern_list j))) }
-    ensures built { Runs (world_key x ∷ world_key y ∷ []) types.old (made_of memo.old) types.new (made_of memo.new) (λ c o. IfOk result (λ j. AreBuilt c types.new o (imports_at types.old (world_key x)) (imports_at types.old (world_key y)) (extern_list j))) }
-{
-    let first = world_imports_of(types, x)?;
-    let second = world_imports_of(types, y)?;
-    join_externs(alloc, types, memo, &first, &second)
-}
-
-// The exports that both worlds have under one name, joined.
-#[cycle(bounds)]
-fn join_world_exports(
-    alloc: Global,
-    types: &mut Types,
-    memo: &mut Memo,
-    x: WorldId,
-    y: WorldId,
-) -> Result<IndexMap<String, ItemKind>, AllocError>
-    requires left { Stands types.old (world_key x) }
-    requires right { Stands types.old (world_key y) }
-    requires memo { IsTrueMemo types.old memo.old }
-    ensures grows { Grows types.old memo.old types.new memo.new }
-    ensures joined { IfOk result (λ j. AreJoined types.old types.new (exports_at types.old (world_key x)) (exports_at types.old (world_key y)) (extern_list j)) }
-    ensures names { IfOk result (λ j. HasSomeNames bytes_eq (exports_at types.old (world_key x)) (extern_list j)) }
-    ensures standing { IfOk result (λ j. AllStand types.new (extern_keys (extern_list j))) }
-    ensures built { Runs (world_key x ∷ world_key y ∷ []) types.old (made_of memo.old) types.new (made_of memo.new) (λ c o. IfOk result (λ j. AreBuilt c types.new o (exports_at types.old (world_key x)) (exports_at types.old (world_key y)) (extern_list j))) }
-{
-    let first = world_exports_of(types, x)?;
-    let second = world_exports_of(types, y)?;
-    join_externs(alloc, types, memo, &first, &second)
+    let (first, second) = (met_side(types, bound, x), met_side(types, bound, y));
+    let Some(met) = bound_externs(types, memo, Bound::Meet, first, second)? else {
+        return Ok(None);
+    };
+    let (first, second) = (joined_side(types, bound, x), joined_side(types, bound, y));
+    let Some(joined) = bound_externs(types, memo, Bound::Join, first, second)? else {
+        return Ok(None);
+    };
+    match bound {
+        Bound::Meet => Ok(Some(WorldSides {
+            imports: joined,
+            exports: met,
+        })),
+        Bound::Join => Ok(Some(WorldSides {
+            imports: met,
+            exports: joined,
+        })),
+    }
 }

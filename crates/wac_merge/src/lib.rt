@@ -12,6 +12,7 @@ mod modules;
 mod names;
 mod order;
 mod pairs;
+mod steps;
 
 pub use bounds::{join, meet};
 pub use names::{extern_named, put_extern};

@@ -32,7 +32,6 @@ pub fn put_extern(
 }
 
 // Puts the items of the second side last whose names the first side lacks.
-#[inline(never)]
 pub(crate) fn add_others(
     externs: &mut IndexMap<String, ItemKind>,
     second: &IndexMap<String, ItemKind>,

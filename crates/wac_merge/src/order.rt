@@ -6,18 +6,15 @@ ghost use Rattle.wac_component.specs.Key.{AllStand, item_keys};
 ghost use Rattle.wac_component.specs.Tree.{item_tree};
 ghost use Rattle.wac_merge.specs.Memo.{IsTrueMemo, made_of};
 
-use crate::memo::Memo;
-use std::alloc::{AllocError, Global};
+use crate::memo::BoundMemo;
+use std::alloc::AllocError;
 use wac_component::{ItemKind, Types};
 
 // Whether the left item fits where the right one is asked for. What is found of the pairs below
-// them is remembered: what merges the two asks about those next. Its locals, as those of what adds
-// an entry, would stand in the frame of every level of a recursion.
-#[inline(never)]
+// them is remembered: what merges the two asks about those next.
 pub(crate) fn fits(
-    alloc: Global,
     types: &Types,
-    memo: &mut Memo,
+    memo: &mut BoundMemo,
     a: ItemKind,
     b: ItemKind,
 ) -> Result<bool, AllocError>
@@ -28,5 +25,5 @@ pub(crate) fn fits(
     ensures made { made_of memo.new ≡ made_of memo.old }
     ensures memo { IsTrueMemo types.now memo.new }
 {
-    memo.compared.fits(alloc, a, types, b, types)
+    memo.compared.fits(memo.alloc, a, types, b, types)
 }

@@ -10,7 +10,7 @@ ghost use Rattle.wac_merge.specs.Bounded.{AreUnlike};
 ghost use Rattle.wac_merge.specs.Items.{entry_item};
 ghost use Rattle.wac_merge.specs.Memo.{kind_of, first_key, second_key, entry_key};
 
-use crate::memo::{EntryId, Pair};
+use crate::memo::{BoundId, Pair};
 use wac_component::{ItemKind, Type};
 
 /// The two entries of two items, and whether both are types; `None` where the items are not alike.
@@ -41,7 +41,7 @@ fn pair_of_types(a: &Type, b: &Type) -> Option<Pair>
 }
 
 /// The item, or the type, that names an entry.
-pub(crate) fn item_of(is_type: bool, entry: Option<EntryId>) -> Option<ItemKind>
+pub(crate) fn item_of(is_type: bool, entry: Option<BoundId>) -> Option<ItemKind>
     ensures { result ≡ option_map (λ e. entry_item (kind_of is_type) (entry_key e)) entry }
 {
     let entry = entry?;
@@ -49,19 +49,19 @@ pub(crate) fn item_of(is_type: bool, entry: Option<EntryId>) -> Option<ItemKind>
         return Some(ItemKind::Type(type_of(entry)));
     }
     Some(match entry {
-        EntryId::Interface(id) => ItemKind::Instance(id),
-        EntryId::World(id) => ItemKind::Component(id),
-        EntryId::Module(id) => ItemKind::Module(id),
+        BoundId::Interface(id) => ItemKind::Instance(id),
+        BoundId::World(id) => ItemKind::Component(id),
+        BoundId::Module(id) => ItemKind::Module(id),
     })
 }
 
 // The type that an entry is.
-fn type_of(entry: EntryId) -> Type
+fn type_of(entry: BoundId) -> Type
     ensures { OfType result ≡ entry_item type_item (entry_key entry) }
 {
     match entry {
-        EntryId::Interface(id) => Type::Interface(id),
-        EntryId::World(id) => Type::World(id),
-        EntryId::Module(id) => Type::Module(id),
+        BoundId::Interface(id) => Type::Interface(id),
+        BoundId::World(id) => Type::World(id),
+        BoundId::Module(id) => Type::Module(id),
     }
 }

@@ -13,6 +13,7 @@ use Rattle.wac_component.specs.Tree.{item_tree, items_of}
 use Rattle.wac_component.specs.declared.items.ItemKind.{ItemKind}
 use Rattle.wac_component.specs.Open.{open_next, step}
 use Rattle.wac_component.specs.Entries.{entry_identifier, identifier_at}
+use Rattle.wac_component.specs.Memo.{AddsPair, Remembered}
 use Rattle.wac_component.proofs.Adding.{IsSound-with_entry, Extends-with_entry}
 use Rattle.wac_component.proofs.ImportKeys.{imports-apart}
 use Rattle.wac_component.proofs.Keys.{Each-left, Each-right, Each-append}
@@ -24,7 +25,7 @@ use Rattle.wac_narrowing.specs.Identified.{use_names, IsQuiet, IsCovered}
 use Rattle.wac_narrowing.specs.Apart.{IsApart, AreApart}
 use Rattle.wac_narrowing.specs.Narrows.{IsStep, AddsShared, CanGrow, grown}
 use Rattle.wac_narrowing.specs.Standing.{StandsFor, IsCopy}
-use Rattle.wac_narrowing.specs.State.{State, Memo, AddsPair, IsKept, Runs}
+use Rattle.wac_narrowing.specs.State.{State, IsKept, Runs}
 use Rattle.wac_narrowing.specs.Remembers.{IsRememberedAs, RemembersTruly}
 use Rattle.wac_narrowing.specs.Taking.{SameTree, IsClosedIn, AreTakenKeys, IsCopiedKey, AreCopiedKeys, IsTakenItem, IsCopiedItem, AreMapped}
 use Rattle.wac_narrowing.specs.Last.{last_key}
@@ -65,7 +66,7 @@ module _ {T : Type 0} (track : Text → T) (f : Collection) (s : State) (kept : 
 
   -- an interface with an entry_identifier, of parts that were taken in,
   -- is closed once it is remembered
-  closed_shared : (now : Memo) (theirs own : Key) (js : List Key) → AddsPair s.taken now theirs own → AreTakenKeys track f s (open_next f theirs) js → IsClosedIn f now theirs
+  closed_shared : (now : Remembered) (theirs own : Key) (js : List Key) → AddsPair s.taken now theirs own → AreTakenKeys track f s (open_next f theirs) js → IsClosedIn f now theirs
   closed_shared now theirs own js adds parts = closed_by_parts f now theirs (λ n is. (own, adds.is))
       (λ i m u n w is. let r = (taken_of track f s (open_next f theirs) js i parts m).2.closed u n w is in (r.0, adds.kept u r.0 r.1))
 

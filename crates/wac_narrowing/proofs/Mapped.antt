@@ -14,6 +14,7 @@ use Rattle.wac_component.specs.Sound.{IsSound}
 use Rattle.wac_component.specs.Tree.{item_tree, items_of}
 use Rattle.wac_component.specs.declared.items.ItemKind.{ItemKind}
 use Rattle.wac_component.specs.Entries.{entry_identifier, identifier_at}
+use Rattle.wac_component.specs.Memo.{Remembered}
 use Rattle.wac_component.specs.Open.{open_next, stay, step}
 use Rattle.wac_component.proofs.Keys.{Each-left, Each-right, Each-append}
 use Rattle.wac_component.proofs.Among.{each_found}
@@ -23,7 +24,7 @@ use Rattle.wac_narrowing.specs.Identified.{use_names, use_names_at, IsUnstopped,
 use Rattle.wac_narrowing.specs.Narrows.{Narrows}
 use Rattle.wac_narrowing.specs.Remembers.{IsRememberedAs, RemembersTruly}
 use Rattle.wac_narrowing.specs.Standing.{StandsFor}
-use Rattle.wac_narrowing.specs.State.{State, Memo, IsKept, Runs}
+use Rattle.wac_narrowing.specs.State.{State, IsKept, Runs}
 use Rattle.wac_narrowing.specs.Taking.{IsClosedIn, IsTakenKey, IsCopiedKey, ArePaired, AreTakenKeys, AreCopiedKeys, no_keys, one_key, IsTakenItem, IsCopiedItem, AreMapped, none, one}
 use Rattle.wac_narrowing.proofs.Adding.{Narrows-all_stand, Narrows-all_apart}
 use Rattle.wac_narrowing.proofs.Remembered.{IsRememberedAs-step, quiet_unstopped, plain_remembered}
@@ -145,7 +146,7 @@ served_names_still f c d ss ts es fs n st h m = at (lookup bytes_eq es m) (looku
     at (Some x) (Some y) fit k = Fits-trans (item_tree d x) (item_tree c x) (item_tree f y) (fit x refl) k
 
 -- an id is closed where its parts are, and it is itself remembered if it is identified
-pub closed_by_parts : (f : Collection) (now : Memo) (theirs : Key) → ((n : Text) → identifier_at f theirs ≡ Some n → (o : Key) × (now theirs ≡ Some o)) → ((i : Key) → IsAmong i (open_next f theirs) → IsClosedIn f now i) → IsClosedIn f now theirs
+pub closed_by_parts : (f : Collection) (now : Remembered) (theirs : Key) → ((n : Text) → identifier_at f theirs ≡ Some n → (o : Key) × (now theirs ≡ Some o)) → ((i : Key) → IsAmong i (open_next f theirs) → IsClosedIn f now i) → IsClosedIn f now theirs
 closed_by_parts f now theirs self parts t n stay is = self n is
 closed_by_parts f now theirs self parts t n (step {j = j} m w) is = parts j m t n w is
 

@@ -12,6 +12,7 @@ use Rattle.wac_component.specs.Sound.{IsSound}
 use Rattle.wac_component.specs.Tree.{item_tree}
 use Rattle.wac_component.specs.Open.{open_next, OpenReaches, stay, step}
 use Rattle.wac_component.specs.Entries.{entry_identifier, identifier_at}
+use Rattle.wac_component.specs.Memo.{AddsPair, Remembered}
 use Rattle.wac_component.proofs.OpenWalks.{open_stands, opens_stand}
 use Rattle.wac_merge.specs.Items.{entry_item}
 use Rattle.wac_merge.proofs.ItemKeys.{each_entry_item}
@@ -19,13 +20,13 @@ use Rattle.wac_narrowing.specs.Identified.{use_names, use_names_at, StopsAt, IsU
 use Rattle.wac_narrowing.specs.Narrows.{Narrows, KeepsStops}
 use Rattle.wac_narrowing.specs.Remembers.{IsSharedFor, IsRememberedAs, RemembersTruly}
 use Rattle.wac_narrowing.specs.Standing.{StandsFor, KeepsNames, IsCopy}
-use Rattle.wac_narrowing.specs.State.{State, Memo, AddsPair, IsOneWith}
+use Rattle.wac_narrowing.specs.State.{State, IsOneWith}
 use Rattle.wac_narrowing.proofs.Running.{StandsFor-Narrows, IsCopy-step, pair_or_before}
 use Rattle.wac_narrowing.proofs.Stopping.{stops_was, stops_first}
 use Rattle.wac_narrowing.proofs.Adding.{identifier_kept, open_next_kept, opens_was}
 
 -- each identified interface to which an id of g openly leads is remembered
-abbrev ClosedAt : Collection → Memo → Key → Type 0
+abbrev ClosedAt : Collection → Remembered → Key → Type 0
 ClosedAt g memo x = x.id.number ≡ g.number → (u : Key) (n : Text) → OpenReaches g x u → identifier_at g u ≡ Some n → (o : Key) × (memo u ≡ Some o)
 
 module _ {T : Type 0} (track : Text → T) where
@@ -72,7 +73,7 @@ module _ {T : Type 0} (track : Text → T) where
   }
 
   -- one more id was taken in, and each identified interface to which it openly leads
-  pub RemembersTruly-take : (f g : Collection) (s : State) (now : Memo) (a b : Key) → IsOneWith f g → a.id.number ≡ f.number → AddsPair s.taken now a b → IsRememberedAs track f s.own s.shared a b
+  pub RemembersTruly-take : (f g : Collection) (s : State) (now : Remembered) (a b : Key) → IsOneWith f g → a.id.number ≡ f.number → AddsPair s.taken now a b → IsRememberedAs track f s.own s.shared a b
       → ((t : Key) (n : Text) → OpenReaches f a t → identifier_at f t ≡ Some n → (o : Key) × (now t ≡ Some o))
       → RemembersTruly track g s → RemembersTruly track g (record s { taken = now })
   RemembersTruly-take f g s now a b one number adds new closed t = record {
@@ -89,7 +90,7 @@ module _ {T : Type 0} (track : Text → T) where
       old_closed : (theirs own : Key) → s.taken theirs ≡ Some own → ClosedAt g now theirs
       old_closed theirs own p q u n w is = let r = t.closed theirs own u n p q w is in (r.0, adds.kept u r.0 r.1)
 
-  pub RemembersTruly-copy : (f g : Collection) (s : State) (now : Memo) (a b : Key) → IsOneWith f g → a.id.number ≡ f.number → AddsPair s.copies now a b → IsCopy f s.own s.shared a b → RemembersTruly track g s → RemembersTruly track g (record s { copies = now })
+  pub RemembersTruly-copy : (f g : Collection) (s : State) (now : Remembered) (a b : Key) → IsOneWith f g → a.id.number ≡ f.number → AddsPair s.copies now a b → IsCopy f s.own s.shared a b → RemembersTruly track g s → RemembersTruly track g (record s { copies = now })
   RemembersTruly-copy f g s now a b one number adds new t = record {
     taken = t.taken;
     copies = pair_or_before (λ x y. x.id.number ≡ g.number → IsCopy g s.own s.shared x y) s.copies now a b adds

@@ -5,6 +5,7 @@ use Rattle.wac_model.specs.Text.{Text}
 use Rattle.wac_model.proofs.ItemOrder.{Fits-refl, Fits-trans}
 use Rattle.wac_component.specs.Collection.{Collection}
 use Rattle.wac_component.specs.Key.{Key, item_keys, Each, Stands, AllStand}
+use Rattle.wac_component.specs.Memo.{AddsPair, Remembered}
 use Rattle.wac_component.specs.Reach.{stay}
 use Rattle.wac_component.specs.Tree.{item_tree}
 use Rattle.wac_component.specs.declared.items.ItemKind.{ItemKind}
@@ -16,7 +17,7 @@ use Rattle.wac_narrowing.specs.Identified.{use_names, IsCovered}
 use Rattle.wac_narrowing.specs.Imports.{Imports, ImportsStand, ImportsCovered, IsImportFor, ImportsFit, IsServed}
 use Rattle.wac_narrowing.specs.Narrows.{Narrows, KeepsStops, IsStep}
 use Rattle.wac_narrowing.specs.Standing.{StandsFor, IsCopy}
-use Rattle.wac_narrowing.specs.State.{State, Memo, AddsPair, IsKept, IsTrueOf, IsOneWith, Runs}
+use Rattle.wac_narrowing.specs.State.{State, IsKept, IsTrueOf, IsOneWith, Runs}
 use Rattle.wac_narrowing.proofs.Adding.{Narrows-refl, Narrows-trans, Narrows-all_stand, fits_if_same}
 use Rattle.wac_narrowing.proofs.Stopping.{KeepsStops-refl, KeepsStops-trans}
 
@@ -71,7 +72,7 @@ pub ImportsFit-refl : (c : Collection) (is : Imports) → ImportsFit c is c is
 ImportsFit-refl c is n x q = record { import = x; is = q; fits = Fits-refl (item_tree c x) }
 
 -- what holds of the new pair and of those before holds of all
-pub pair_or_before : (P : Key → Key → Type 0) (before now : Memo) (a b : Key) → AddsPair before now a b → P a b → ((theirs own : Key) → before theirs ≡ Some own → P theirs own) → (theirs own : Key) → now theirs ≡ Some own → P theirs own
+pub pair_or_before : (P : Key → Key → Type 0) (before now : Remembered) (a b : Key) → AddsPair before now a b → P a b → ((theirs own : Key) → before theirs ≡ Some own → P theirs own) → (theirs own : Key) → now theirs ≡ Some own → P theirs own
 pair_or_before P before now a b adds new old theirs own is = elim (adds.only theirs own is) [
   | inl same ↦ subst (λ (x : Key). P x own) (sym same.0) (subst (λ (y : Key). P a y) (sym same.1) new)
   | inr stood ↦ old theirs own stood
@@ -140,7 +141,7 @@ module _ (IsTrue : Collection → State → Type 0) (f : Collection) where
   }
 
   -- one more id was taken in
-  pub Runs-take : (s : State) (now : Memo) (a b : Key) → AddsPair s.taken now a b → (IsKept s → Stands s.own b × IsCovered s.own s.shared b)
+  pub Runs-take : (s : State) (now : Remembered) (a b : Key) → AddsPair s.taken now a b → (IsKept s → Stands s.own b × IsCovered s.own s.shared b)
       → (IsKept s → (g : Collection) → IsOneWith f g → IsTrue g s → IsTrue g (record s { taken = now })) → Runs IsTrue f s (record s { taken = now })
   Runs-take s now a b adds own true = record {
     kept = λ h. record {
@@ -159,7 +160,7 @@ module _ (IsTrue : Collection → State → Type 0) (f : Collection) where
   }
 
   -- one more was copied
-  pub Runs-copy : (s : State) (now : Memo) (a b : Key) → AddsPair s.copies now a b → (IsKept s → Stands s.own b × IsApart s.own s.shared b)
+  pub Runs-copy : (s : State) (now : Remembered) (a b : Key) → AddsPair s.copies now a b → (IsKept s → Stands s.own b × IsApart s.own s.shared b)
       → (IsKept s → (g : Collection) → IsOneWith f g → IsTrue g s → IsTrue g (record s { copies = now })) → Runs IsTrue f s (record s { copies = now })
   Runs-copy s now a b adds own true = record {
     kept = λ h. record {
@@ -200,14 +201,14 @@ IsTrueOf-step g s d ts step t = record {
   copies = λ theirs own p q. IsCopy-step g s.own d s.shared ts theirs own step.narrows step.stops (t.copies theirs own p q);
 }
 
-pub IsTrueOf-take : (f g : Collection) (s : State) (now : Memo) (a b : Key) → IsOneWith f g → a.id.number ≡ f.number → AddsPair s.taken now a b → StandsFor f s.own a b → IsTrueOf g s → IsTrueOf g (record s { taken = now })
+pub IsTrueOf-take : (f g : Collection) (s : State) (now : Remembered) (a b : Key) → IsOneWith f g → a.id.number ≡ f.number → AddsPair s.taken now a b → StandsFor f s.own a b → IsTrueOf g s → IsTrueOf g (record s { taken = now })
 IsTrueOf-take f g s now a b one number adds new t = record {
   taken = pair_or_before (λ x y. x.id.number ≡ g.number → StandsFor g s.own x y) s.taken now a b adds
       (λ q. subst (λ (e : Collection). StandsFor e s.own a b) (sym (one (sym q ∙ number))) new) t.taken;
   copies = t.copies;
 }
 
-pub IsTrueOf-copy : (f g : Collection) (s : State) (now : Memo) (a b : Key) → IsOneWith f g → a.id.number ≡ f.number → AddsPair s.copies now a b → IsCopy f s.own s.shared a b → IsTrueOf g s → IsTrueOf g (record s { copies = now })
+pub IsTrueOf-copy : (f g : Collection) (s : State) (now : Remembered) (a b : Key) → IsOneWith f g → a.id.number ≡ f.number → AddsPair s.copies now a b → IsCopy f s.own s.shared a b → IsTrueOf g s → IsTrueOf g (record s { copies = now })
 IsTrueOf-copy f g s now a b one number adds new t = record {
   taken = t.taken;
   copies = pair_or_before (λ x y. x.id.number ≡ g.number → IsCopy g s.own s.shared x y) s.copies now a b adds

@@ -7,13 +7,14 @@ use Rattle.wac_component.specs.Growth.{with_entry}
 use Rattle.wac_component.specs.Key.{Key, Entry, entry_keys, other_keys, import_keys, interface_key, world_key, use_keys, named_keys, Stands, AllStand}
 use Rattle.wac_component.specs.Sound.{IsSound}
 use Rattle.wac_component.specs.Entries.{entry_identifier, identifier_at}
+use Rattle.wac_component.specs.Memo.{AddsPair}
 use Rattle.wac_component.specs.Open.{open_next}
 use Rattle.wac_narrowing.specs.Apart.{AreApart}
 use Rattle.wac_narrowing.specs.Identified.{used_names, use_names, use_names_at, IsQuiet}
 use Rattle.wac_narrowing.specs.Last.{last_key}
 use Rattle.wac_narrowing.specs.Remembers.{RemembersTruly}
 use Rattle.wac_narrowing.specs.Standing.{StandsFor, IsCopy}
-use Rattle.wac_narrowing.specs.State.{State, AddsPair, Runs}
+use Rattle.wac_narrowing.specs.State.{State, Runs}
 use Rattle.wac_narrowing.specs.Taking.{SameTree, AreTakenKeys, AreCopiedKeys, IsTakenKey, IsTakenItem, IsCopiedItem, AreMapped}
 
 -- the state runs on, and the own entry was taken in for the foreign one

@@ -16,6 +16,7 @@ use Rattle.wac_component.specs.declared.items.ValueType.{ValueType}
 use Rattle.wac_component.specs.declared.items.ValueType.TheVariants.{Defined}
 use Rattle.wac_component.specs.Open.{open_next, OpenReaches}
 use Rattle.wac_component.specs.Entries.{entry_identifier, identifier_at}
+use Rattle.wac_component.specs.Memo.{AddsPair, Remembered}
 use Rattle.wac_checker.specs.Externs.{AreServed}
 use Rattle.wac_merge.specs.Built.{Builds}
 use Rattle.wac_names.specs.Class.{Class, class_of}
@@ -29,7 +30,7 @@ use Rattle.wac_narrowing.specs.Last.{last_key}
 use Rattle.wac_narrowing.specs.Entering.{IsEntered, IsCopiedInto, AddsEntry, AddsCopy, MayEnter, MayBeCopy, InterfaceIsTaken, WorldIsTaken, InterfaceIsCopied, WorldIsCopied}
 use Rattle.wac_narrowing.specs.Leaves.{SaysSame}
 use Rattle.wac_narrowing.specs.Values.{IsTakenValue, IsCopiedValue, SameValue, AreFuncs, AreDefined}
-use Rattle.wac_narrowing.specs.State.{State, Memo, AddsPair, IsKept, IsTrueOf, Runs}
+use Rattle.wac_narrowing.specs.State.{State, IsKept, IsTrueOf, Runs}
 use Rattle.wac_narrowing.specs.Remembers.{IsRememberedAs, RemembersTruly}
 use Rattle.wac_narrowing.specs.Traced.{IsSharedAs, LeadsAlong, IsTraced, Root, IsRoot, Arrows}
 
@@ -165,7 +166,7 @@ EqualTreesStandFor = (f c : Collection) (theirs own : Key) → own.sort ≡ thei
 -- ---- runs
 
 -- what a run may do, for a predicate of what is remembered that says this of a new pair
-pub record HasRuns (IsTrue : Collection → State → Type 0) (IsNew : Collection → State → Memo → Key → Key → Type 0) : Type 0 where
+pub record HasRuns (IsTrue : Collection → State → Type 0) (IsNew : Collection → State → Remembered → Key → Key → Type 0) : Type 0 where
   -- nothing is a run, and two are one
   pub none : (f : Collection) (s t : State) → t ≡ s → Runs IsTrue f s t
   pub follow : (f : Collection) (s t u : State) → Runs IsTrue f s t → Runs IsTrue f t u → Runs IsTrue f s u
@@ -222,7 +223,7 @@ PlainIsRemembered = (f d : Collection) (s : State) (theirs own : Key) (z : Entry
 
 -- an id is closed where its parts are, and it is itself remembered if it is identified
 abbrev pub ClosedByParts : Type 0
-ClosedByParts = (f : Collection) (now : Memo) (theirs : Key) → ((n : Text) → identifier_at f theirs ≡ Some n → (o : Key) × (now theirs ≡ Some o)) → ((i : Key) → IsAmong i (open_next f theirs) → IsClosedIn f now i) → IsClosedIn f now theirs
+ClosedByParts = (f : Collection) (now : Remembered) (theirs : Key) → ((n : Text) → identifier_at f theirs ≡ Some n → (o : Key) × (now theirs ≡ Some o)) → ((i : Key) → IsAmong i (open_next f theirs) → IsClosedIn f now i) → IsClosedIn f now theirs
 
 -- the shared interface on the track
 abbrev pub SharedIsRemembered : Type 0

@@ -8,20 +8,21 @@ use Rattle.wac_component.specs.Key.{Key, Each, AllStand, item_keys}
 use Rattle.wac_component.specs.Tree.{item_tree}
 use Rattle.wac_component.specs.declared.items.ItemKind.{ItemKind}
 use Rattle.wac_component.specs.Entries.{identifier_at}
+use Rattle.wac_component.specs.Memo.{Remembered}
 use Rattle.wac_component.specs.Open.{OpenReaches}
 use Rattle.wac_merge.specs.Items.{entry_item}
 use Rattle.wac_narrowing.specs.Apart.{AreApart}
 use Rattle.wac_narrowing.specs.Identified.{IsQuiet, IsCovered}
 use Rattle.wac_narrowing.specs.Remembers.{IsRememberedAs}
 use Rattle.wac_narrowing.specs.Standing.{IsCopy}
-use Rattle.wac_narrowing.specs.State.{State, Memo}
+use Rattle.wac_narrowing.specs.State.{State}
 
 -- the two entries have the same tree
 abbrev pub SameTree : Collection → Collection → Key → Key → Type 0
 SameTree f c theirs own = (k : Kind) → item_tree c (entry_item k own) ≡ item_tree f (entry_item k theirs)
 
 -- each identified interface to which the id openly leads was taken in
-abbrev pub IsClosedIn : Collection → Memo → Key → Type 0
+abbrev pub IsClosedIn : Collection → Remembered → Key → Type 0
 IsClosedIn f now theirs = (t : Key) (n : Text) → OpenReaches f theirs t → identifier_at f t ≡ Some n → (o : Key) × (now t ≡ Some o)
 
 -- the own entry was taken in for the id, and may be remembered for it

@@ -7,6 +7,7 @@ use Rattle.wac_component.specs.Collection.{Collection, InterfaceContent}
 use Rattle.wac_component.specs.Entries.{identifier_at}
 use Rattle.wac_component.specs.Growth.{Extends}
 use Rattle.wac_component.specs.Key.{Key, Entry, interface_entry, entry_keys, other_keys, import_keys, interface_key, interface_keys, item_keys, Each, Stands, AllStand}
+use Rattle.wac_component.specs.Memo.{AddsPair, Remembered}
 use Rattle.wac_component.specs.Open.{open_next, OpenReaches, step}
 use Rattle.wac_component.specs.Reach.{IsAmong, Reaches}
 use Rattle.wac_component.specs.Replacing.{NamesReach}
@@ -24,7 +25,7 @@ use Rattle.wac_narrowing.specs.Imports.{Imports}
 use Rattle.wac_narrowing.specs.Last.{last_key}
 use Rattle.wac_narrowing.specs.Laws.{IsArrowed, LeadsAlongArrows}
 use Rattle.wac_narrowing.specs.Narrows.{AddsShared, CanGrow, grown}
-use Rattle.wac_narrowing.specs.State.{State, Memo, AddsPair, IsKept}
+use Rattle.wac_narrowing.specs.State.{State, IsKept}
 use Rattle.wac_narrowing.specs.Taking.{SameTree}
 use Rattle.wac_narrowing.specs.Traced.{Arrows}
 use Rattle.wac_narrowing.proofs.Adding.{last_at}
@@ -93,7 +94,7 @@ module _ (a : Attempt) where
   still_untold : (s t : State) → IsKept s → Extends s.own t.own → t.taken ≡ s.taken → IsUntold a s → IsUntold a t
   still_untold s t kept grows same h = record {
     grows = Extends-trans a.sources.start s.own t.own h.grows grows;
-    same = λ theirs own r is. let was = subst (λ (m : Memo). m theirs ≡ Some own) same is in same_still s t theirs own kept grows was (h.same theirs own r was);
+    same = λ theirs own r is. let was = subst (λ (m : Remembered). m theirs ≡ Some own) same is in same_still s t theirs own kept grows was (h.same theirs own r was);
   }
 
   -- also where one more is noted that has its tree
@@ -113,7 +114,7 @@ module _ (a : Attempt) where
   no_new_root : (s t : State) → t.shared ≡ s.shared → t.imports ≡ s.imports → t.taken ≡ s.taken → (k : Key) → IsOpenRoot t k → IsOpenRoot s k ⊎ IsOpenKey t k
   no_new_root s t shared imports taken k (of_shared m) = inl (of_shared (subst (λ (ks : List Key). IsAmong k ks) shared m))
   no_new_root s t shared imports taken k (of_import {n = n} {x = x} is m) = inl (of_import (subst (λ (i : Imports). i n ≡ Some x) imports is) m)
-  no_new_root s t shared imports taken k (of_taken {theirs = j} is) = inl (of_taken (subst (λ (m : Memo). m j ≡ Some k) taken is))
+  no_new_root s t shared imports taken k (of_taken {theirs = j} is) = inl (of_taken (subst (λ (m : Remembered). m j ≡ Some k) taken is))
 
   -- or the one that was noted
   noted_root : (s t : State) (theirs own : Key) → t.shared ≡ s.shared → t.imports ≡ s.imports → AddsPair s.taken t.taken theirs own → IsOpenKey t own → (k : Key) → IsOpenRoot t k → IsOpenRoot s k ⊎ IsOpenKey t k
@@ -189,7 +190,7 @@ module _ (a : Attempt) where
 
   -- low and open ids are those that were, where the own entries and the copies do not change
   low_in : (s t : State) (k : Key) → t.own ≡ s.own → t.copies ≡ s.copies → IsLow s k → IsLow t k
-  low_in s t k own copies (of_copy theirs o is w) = of_copy theirs o (subst (λ (m : Memo). m theirs ≡ Some o) (sym copies) is) (subst (λ (c : Collection). Reaches c o k) (sym own) w)
+  low_in s t k own copies (of_copy theirs o is w) = of_copy theirs o (subst (λ (m : Remembered). m theirs ≡ Some o) (sym copies) is) (subst (λ (c : Collection). Reaches c o k) (sym own) w)
   low_in s t k own copies (of_below b) = of_below (subst (λ (c : Collection). IsBelowImport c k) (sym own) b)
 
   open_in : (s t : State) (k : Key) → t.own ≡ s.own → t.copies ≡ s.copies → IsOpenKey s k → IsOpenKey t k
@@ -220,4 +221,4 @@ module _ (a : Attempt) where
       roots : StaySplit s t → (k : Key) → IsOpenRoot t k → IsOpenRoot s k ⊎ IsOpenKey t k
       roots stays k (of_shared m) = inl (of_shared (subst (λ (ks : List Key). IsAmong k ks) shared m))
       roots stays k (of_import {n = n} {x = x} is m) = inr (open_in s t k same copies (new n x is k m).opens)
-      roots stays k (of_taken {theirs = j} is) = inl (of_taken (subst (λ (q : Memo). q j ≡ Some k) taken is))
+      roots stays k (of_taken {theirs = j} is) = inl (of_taken (subst (λ (q : Remembered). q j ≡ Some k) taken is))

@@ -10,6 +10,7 @@ use Rattle.wac_component.specs.Key.{Key, Entry, interface_entry, entry_keys, int
 use Rattle.wac_component.specs.Reach.{IsAmong}
 use Rattle.wac_component.specs.Replacing.{NamesReach}
 use Rattle.wac_component.specs.Entries.{entry_identifier, identifier_at}
+use Rattle.wac_component.specs.Memo.{AddsPair}
 use Rattle.wac_component.specs.declared.items.ItemKind.{ItemKind}
 use Rattle.wac_component.proofs.Adding.{Extends-with_entry}
 use Rattle.wac_names.specs.Class.{class_of}
@@ -18,7 +19,7 @@ use Rattle.wac_merge.specs.Built.{Builds}
 use Rattle.wac_narrowing.specs.Entering.{AddsEntry, AddsCopy}
 use Rattle.wac_narrowing.specs.Last.{last_key}
 use Rattle.wac_narrowing.specs.Narrows.{AddsShared, CanGrow, grown}
-use Rattle.wac_narrowing.specs.State.{State, AddsPair, IsKept, Runs}
+use Rattle.wac_narrowing.specs.State.{State, IsKept, Runs}
 use Rattle.wac_narrowing.proofs.Adding.{identifier_kept, last_at}
 use Rattle.wac_narrowing.proofs.Growing.{identifier_grown}
 use Rattle.wac_reasons.specs.Entering.{IsFromSources}

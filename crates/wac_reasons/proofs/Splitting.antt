@@ -6,6 +6,7 @@ use Rattle.wac_component.specs.Collection.{Collection, UseContent, InterfaceCont
 use Rattle.wac_component.specs.Implicit.{identifier, HasIdentifier}
 use Rattle.wac_component.specs.Growth.{Extends, with_entry}
 use Rattle.wac_component.specs.Key.{Key, Entry, entry_keys, other_keys, import_keys, optional_keys, interface_key, interface_keys, item_keys, next, Each, Stands, AllStand}
+use Rattle.wac_component.specs.Memo.{AddsPair, Remembered}
 use Rattle.wac_component.specs.Reach.{IsAmong, Reaches, stay, step}
 use Rattle.wac_component.specs.Replacing.{NamesReach}
 use Rattle.wac_component.specs.Sound.{IsSound}
@@ -26,7 +27,7 @@ use Rattle.wac_merge.specs.Built.{Origins, OnlyBuilds, IsBuilt}
 use Rattle.wac_narrowing.specs.Laws.{IsNew}
 use Rattle.wac_narrowing.specs.Last.{last_key}
 use Rattle.wac_narrowing.specs.Narrows.{CanGrow, grown}
-use Rattle.wac_narrowing.specs.State.{State, Memo, AddsPair, IsKept}
+use Rattle.wac_narrowing.specs.State.{State, IsKept}
 use Rattle.wac_narrowing.proofs.Adding.{walk_was, opens_was, import_next_kept, next_kept, last_at}
 use Rattle.wac_narrowing.proofs.Building.{IsFrom, stood, made, from_built, from_opens, from_reaches, added_imports}
 use Rattle.wac_narrowing.proofs.Growing.{walk_back, opens_back, entry_other, entry_grown}
@@ -121,13 +122,13 @@ module _ (s t : State) (kept : IsKept s) (z : Entry) (own : t.own ≡ with_entry
   -- as an entry that is open, where what it openly names is
   module _ (same : t.copies ≡ s.copies) where
     same_copy : (theirs o : Key) → t.copies theirs ≡ Some o → s.copies theirs ≡ Some o
-    same_copy theirs o is = subst (λ (m : Memo). m theirs ≡ Some o) same is
+    same_copy theirs o is = subst (λ (m : Remembered). m theirs ≡ Some o) same is
 
     low_was : (k : Key) → Stands s.own k → IsLow t k → IsLow s k
     low_was = low_back s t kept grows (λ k o is. inl (same_copy k o is)) imports_back
 
     pub entry_splits : StaySplit s t
-    entry_splits = record { opens = opens_still s t kept grows low_was; lows = low_still s t kept grows (λ k o is. subst (λ (m : Memo). m k ≡ Some o) (sym same) is) }
+    entry_splits = record { opens = opens_still s t kept grows low_was; lows = low_still s t kept grows (λ k o is. subst (λ (m : Remembered). m k ≡ Some o) (sym same) is) }
 
     not_low : IsLow t (last_key s.own z) → ⊥
     not_low (of_copy theirs o is w) = let st = (kept.copies theirs o (same_copy theirs o is)).0 in last.is_new (walks_stand s.own kept.good.sound o (last_key s.own z) st (walk_was s.own t.own kept.good.sound grows o (last_key s.own z) st w))
@@ -159,7 +160,7 @@ module _ (s t : State) (kept : IsKept s) (e : Id) (old new : InterfaceContent) (
 
   low_before : (j : Key) → IsLow t j → IsLow s j
   low_before j (of_copy theirs o is w) =
-      let was = subst (λ (m : Memo). m theirs ≡ Some o) same is in
+      let was = subst (λ (m : Remembered). m theirs ≡ Some o) same is in
       low_part o j (kept.copies theirs o was).0 (of_copy theirs o was stay) (subst (λ (c : Collection). Reaches c o j) own w)
   low_before j (of_import b) = by_key (Key-discrete b.world (interface_key e))
     where
@@ -191,7 +192,7 @@ module _ (s t : State) (kept : IsKept s) (e : Id) (old new : InterfaceContent) (
 
   grown_lows : (k : Key) → IsLow s k → IsLow t k
   grown_lows k (of_copy theirs o is w) =
-      of_copy theirs o (subst (λ (m : Memo). m theirs ≡ Some o) (sym same) is) (subst (λ (c : Collection). Reaches c o k) (sym own) (walk_forward o k (kept.copies theirs o is).0 (of_copy theirs o is stay) w))
+      of_copy theirs o (subst (λ (m : Remembered). m theirs ≡ Some o) (sym same) is) (subst (λ (c : Collection). Reaches c o k) (sym own) (walk_forward o k (kept.copies theirs o is).0 (of_copy theirs o is stay) w))
   grown_lows k (of_import b) = by_key (Key-discrete b.world (interface_key e))
     where
       by_key : Dec (b.world ≡ interface_key e) → IsLow t k
@@ -221,7 +222,7 @@ module _ (s t : State) (o : Origins) (kept : IsKept s) (only : OnlyBuilds s.own 
   -- what is low now stood, and was so, or was made of two that were
   low_from : (k : Key) → IsLow t k → IsFrom s.own t.own o kept.good.sound only (IsLow s) k
   low_from k (of_copy theirs p is w) =
-      let was = subst (λ (m : Memo). m theirs ≡ Some p) same is in
+      let was = subst (λ (m : Remembered). m theirs ≡ Some p) same is in
       from_reaches s.own t.own o kept.good.sound only (IsLow s) low_next p k (stood (kept.copies theirs p was).0 (of_copy theirs p was stay)) w
   low_from k (of_import b) = from_reaches s.own t.own o kept.good.sound only (IsLow s) low_next b.reached.0 k (elim (only.added b.world b.stands) [
     | inl was ↦
@@ -242,7 +243,7 @@ module _ (s t : State) (o : Origins) (kept : IsKept s) (only : OnlyBuilds s.own 
   pub built_splits : StaySplit s t
   built_splits = record {
     opens = λ k st h j w low. not_both j (low_from j low) (from_opens s.own t.own o kept.good.sound only (IsOpenKey s) open_on k j (stood st h) w);
-    lows = low_still s t kept only.extends (λ theirs p is. subst (λ (m : Memo). m theirs ≡ Some p) (sym same) is);
+    lows = low_still s t kept only.extends (λ theirs p is. subst (λ (m : Remembered). m theirs ≡ Some p) (sym same) is);
   }
 
   pub built_open : (a b y : ItemKind) → IsBuilt s.own t.own o a b y → AllStand s.own (item_keys a) → AllStand s.own (item_keys b) → Each (IsOpenKey s) (item_keys a) → Each (IsOpenKey s) (item_keys b) → Each (IsOpenKey t) (item_keys y)

@@ -6,6 +6,7 @@ use Rattle.wac_component.specs.Implicit.{identifier, HasIdentifier}
 use Rattle.wac_component.specs.Key.{Key, interface_key, item_keys, Stands}
 use Rattle.wac_component.specs.Reach.{IsAmong}
 use Rattle.wac_component.specs.Entries.{HasUse, identifier_at}
+use Rattle.wac_component.specs.Memo.{AddsPair, Remembered}
 use Rattle.wac_component.specs.Open.{stay}
 use Rattle.wac_component.specs.declared.items.ItemKind.{ItemKind}
 use Rattle.wac_component.proofs.Among.{among_each}
@@ -14,7 +15,7 @@ use Rattle.wac_call_lists.specs.Attempt.{Sources, IsSource, held}
 use Rattle.wac_narrowing.specs.Imports.{Imports}
 use Rattle.wac_narrowing.specs.Laws.{IsNew}
 use Rattle.wac_narrowing.specs.Narrows.{AddsShared}
-use Rattle.wac_narrowing.specs.State.{State, Memo, AddsPair, IsKept}
+use Rattle.wac_narrowing.specs.State.{State, IsKept}
 use Rattle.wac_reasons.specs.Sharing.{IsOpenRoot, of_shared, of_import, of_taken, IsSharer, AreSourced, AreHeld}
 use Rattle.wac_reasons.specs.Sourced.{IsUseFrom, IsSourced}
 use Rattle.wac_reasons.proofs.Cycles.{identified_interface, identified_on}
@@ -30,9 +31,9 @@ root_stands s kept k (of_taken {theirs = theirs} is) = (kept.taken theirs k is).
 same_roots : (s t : State) → t.shared ≡ s.shared → t.imports ≡ s.imports → t.taken ≡ s.taken → (k : Key) → IsOpenRoot t k → IsOpenRoot s k
 same_roots s t same_shared same_imports same_taken k (of_shared m) = of_shared (subst (λ (ks : List Key). IsAmong k ks) same_shared m)
 same_roots s t same_shared same_imports same_taken k (of_import {n = n} {x = x} is m) = of_import (subst (λ (i : Imports). i n ≡ Some x) same_imports is) m
-same_roots s t same_shared same_imports same_taken k (of_taken {theirs = theirs} is) = of_taken (subst (λ (m : Memo). m theirs ≡ Some k) same_taken is)
+same_roots s t same_shared same_imports same_taken k (of_taken {theirs = theirs} is) = of_taken (subst (λ (m : Remembered). m theirs ≡ Some k) same_taken is)
 
-still_some : (s t : Memo) → ((k o : Key) → s k ≡ Some o → (z : Key) × (t k ≡ Some z)) → (k : Key) → IsSome (s k) → IsSome (t k)
+still_some : (s t : Remembered) → ((k o : Key) → s k ≡ Some o → (z : Key) × (t k ≡ Some z)) → (k : Key) → IsSome (s k) → IsSome (t k)
 still_some s t more k there = go (s k) refl there
   where
     go : (o : Option Key) → s k ≡ o → IsSome o → IsSome (t k)
@@ -58,7 +59,7 @@ module _ (sources : Sources) where
     roots = λ k r. let was = same_roots s t same_shared same_imports same_taken k r in move k (root_stands s kept k was) (h.roots k was);
     sharers = λ k n m is.
         let among = subst (λ (ks : List Key). IsAmong k ks) same_shared m in
-        sharer_moves s t n n refl (λ j o q. (o, subst (λ (m : Memo). m j ≡ Some o) (sym same_taken) q)) (h.sharers k n among (sym (names k (root_stands s kept k (of_shared among))) ∙ is));
+        sharer_moves s t n n refl (λ j o q. (o, subst (λ (m : Remembered). m j ≡ Some o) (sym same_taken) q)) (h.sharers k n among (sym (names k (root_stands s kept k (of_shared among))) ∙ is));
   }
 
   -- one more id is remembered, or shared, or other imports stand: what
@@ -88,24 +89,24 @@ module _ (sources : Sources) where
   pub shared_in : (s t : State) (own : Key) → t.own ≡ s.own → t.imports ≡ s.imports → t.taken ≡ s.taken → AddsShared s.shared t.shared own
       → IsSourced (IsSource sources) s.own own → ((n : Text) → identifier_at s.own own ≡ Some n → IsSharer sources t n) → AreSourced sources s → AreSourced sources t
   shared_in s t own same_own same_imports same_taken adds new sharer h =
-      more_roots s t same_own (λ k o is. (o, subst (λ (m : Memo). m k ≡ Some o) (sym same_taken) is)) roots
+      more_roots s t same_own (λ k o is. (o, subst (λ (m : Remembered). m k ≡ Some o) (sym same_taken) is)) roots
       (λ k n m is. elim (adds.only k m) [ inl q ↦ inr (sharer n (sym (ap (identifier_at s.own) q) ∙ is)) | inr was ↦ inl was ]) h
     where
       roots : (k : Key) → IsOpenRoot t k → IsOpenRoot s k ⊎ IsSourced (IsSource sources) s.own k
       roots k (of_shared m) = elim (adds.only k m) [ inl q ↦ inr (subst (λ (o : Key). IsSourced (IsSource sources) s.own o) (sym q) new) | inr was ↦ inl (of_shared was) ]
       roots k (of_import {n = n} {x = x} is m) = inl (of_import (subst (λ (i : Imports). i n ≡ Some x) same_imports is) m)
-      roots k (of_taken {theirs = j} is) = inl (of_taken (subst (λ (m : Memo). m j ≡ Some k) same_taken is))
+      roots k (of_taken {theirs = j} is) = inl (of_taken (subst (λ (m : Remembered). m j ≡ Some k) same_taken is))
 
   -- other imports stand
   pub imports_in : (s t : State) → t.own ≡ s.own → t.shared ≡ s.shared → t.taken ≡ s.taken
       → ((n : Text) (x : ItemKind) → t.imports n ≡ Some x → (k : Key) → IsAmong k (item_keys x) → IsSourced (IsSource sources) s.own k) → AreSourced sources s → AreSourced sources t
   imports_in s t same_own same_shared same_taken new h =
-      more_roots s t same_own (λ k o is. (o, subst (λ (m : Memo). m k ≡ Some o) (sym same_taken) is)) roots (λ k n m is. inl (subst (λ (ks : List Key). IsAmong k ks) same_shared m)) h
+      more_roots s t same_own (λ k o is. (o, subst (λ (m : Remembered). m k ≡ Some o) (sym same_taken) is)) roots (λ k n m is. inl (subst (λ (ks : List Key). IsAmong k ks) same_shared m)) h
     where
       roots : (k : Key) → IsOpenRoot t k → IsOpenRoot s k ⊎ IsSourced (IsSource sources) s.own k
       roots k (of_shared m) = inl (of_shared (subst (λ (ks : List Key). IsAmong k ks) same_shared m))
       roots k (of_import {n = n} {x = x} is m) = inr (new n x is k m)
-      roots k (of_taken {theirs = j} is) = inl (of_taken (subst (λ (m : Memo). m j ≡ Some k) same_taken is))
+      roots k (of_taken {theirs = j} is) = inl (of_taken (subst (λ (m : Remembered). m j ≡ Some k) same_taken is))
 
 -- at the start, all that is held is a source
 pub start_sourced : (sources : Sources) (s : State) → sources.start ≡ s.own → AreHeld s → AreSourced sources s

@@ -13,6 +13,7 @@ use Rattle.wac_component.specs.Replacing.{NamesReach}
 use Rattle.wac_component.specs.Sound.{IsSound}
 use Rattle.wac_component.specs.Tree.{item_tree}
 use Rattle.wac_component.specs.Entries.{exports_at, uses_at, HasUse, identifier_at}
+use Rattle.wac_component.specs.Memo.{AddsPair}
 use Rattle.wac_component.specs.Open.{open_next}
 use Rattle.wac_component.specs.declared.items.ItemKind.{ItemKind}
 use Rattle.wac_names.specs.Class.{class_of}
@@ -30,7 +31,7 @@ use Rattle.wac_narrowing.specs.Last.{last_key}
 use Rattle.wac_narrowing.specs.Laws.{IsNew}
 use Rattle.wac_narrowing.specs.Narrows.{Narrows, KeepsStops, AddsShared, CanGrow, grown}
 use Rattle.wac_narrowing.specs.Remembers.{RemembersTruly}
-use Rattle.wac_narrowing.specs.State.{State, AddsPair, IsKept, Runs}
+use Rattle.wac_narrowing.specs.State.{State, IsKept, Runs}
 use Rattle.wac_narrowing.specs.Taking.{IsTakenItem, AreMapped}
 use Rattle.wac_narrowing.specs.Traced.{Root, Arrows}
 use Rattle.wac_reasons.specs.Bare.{AreAlwaysApart}

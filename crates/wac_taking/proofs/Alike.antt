@@ -10,6 +10,7 @@ use Rattle.wac_component.specs.Collection.{Collection, DefinedContent, ResourceC
 use Rattle.wac_component.specs.Entries.{identifier_at, owner_at}
 use Rattle.wac_component.specs.Height.{height, keys_height}
 use Rattle.wac_component.specs.Key.{Key, Sort, defined_sort, resource_sort, func_sort, interface_sort, world_sort, module_sort, defined_entry, resource_entry, optional_keys, other_keys, alias_keys, resource_key, defined_key, interface_key, Stands, Each, AllStand, item_keys, named_keys, use_keys}
+use Rattle.wac_component.specs.Memo.{AddsPair, Remembered, memo_of}
 use Rattle.wac_component.specs.Open.{open_next, OpenReaches, stay, step}
 use Rattle.wac_component.specs.Reach.{IsAmong, here, there}
 use Rattle.wac_component.specs.Sound.{IsSound}
@@ -28,7 +29,7 @@ use Rattle.wac_merge.proofs.ItemKeys.{each_entry_item}
 use Rattle.wac_names.specs.Class.{class_of}
 use Rattle.wac_narrowing.specs.Identified.{use_names, use_names_at, StopsAt, stop, goes_on, IsUnstopped, IsQuiet, OpenlyOn, IsCovered}
 use Rattle.wac_narrowing.specs.Remembers.{RemembersTruly, IsRememberedAs}
-use Rattle.wac_narrowing.specs.State.{State, Memo as Remembered, AddsPair, IsKept, IsOneWith, Runs}
+use Rattle.wac_narrowing.specs.State.{State, IsKept, IsOneWith, Runs}
 use Rattle.wac_narrowing.specs.Taking.{SameTree, IsTakenKey, IsClosedIn}
 use Rattle.wac_narrowing.specs.Standing.{StandsFor}
 use Rattle.wac_narrowing.specs.Values.{IfAny, neither, both}
@@ -40,8 +41,7 @@ use Rattle.wac_call_lists.specs.Attempt.{Attempt}
 use Rattle.wac_reasons.specs.Sharing.{of_shared}
 use Rattle.wac_reasons.specs.Trial.{IsAccounted, IsOpenSource}
 use Rattle.wac_reasons.proofs.Accounts.{root_open, part_open, accounted_then, accounted_taken}
-use Rattle.wac_copies.specs.Memo.{memo_of}
-use Rattle.wac_copies.specs.declared.memo.Memo.{Memo}
+use Rattle.wac_component.specs.declared.memo.Memo.{Memo}
 use Rattle.wac_alike.specs.Alike.{made_keys, made_next, IsMadeOf, itself, part, AreOwnersIdentified, AreAlike, AreOwnedIn}
 use Rattle.wac_alike.proofs.MadeOf.{IsTypeKey, is_type_sort, made_opens, made_types, made_stands, made_unidentified, made_or_owned, no_identifier}
 use Rattle.wac_taking.specs.Takes.{state_of, MayTake, IsOwnEntry, IsNear, IsNearest, near_keys, AreNear, AreLedTo, AreWithin, TakesBy, Takes, owners_keys, LeadsToOwner, OwnersImported, IsOwnerImported, IsTakenOwner, AreOwnersTaken}

@@ -20,8 +20,8 @@ use Rattle.wac_narrowing.specs.Remembers.{RemembersTruly}
 use Rattle.wac_narrowing.specs.State.{State, IsKept, Runs}
 use Rattle.wac_narrowing.specs.Taking.{IsTakenKey, IsTakenItem}
 use Rattle.wac_narrowing.specs.Values.{IsTakenValue, AreDefined}
-use Rattle.wac_copies.proofs.Arms.{types-named}
-use Rattle.wac_copies.proofs.Placed.{ArePlaced, AreSet, placed_more, placed_next, placed_rest, set_more, set_next}
+use Rattle.wac_taking.proofs.PartHeights.{types-named}
+use Rattle.wac_taking.proofs.Placed.{ArePlaced, AreSet, placed_more, placed_next, placed_rest, set_more, set_next}
 use Rattle.wac_taking.specs.Takes.{MayTake, AreWithin, TakesBy, IsTakenUse}
 use Rattle.wac_taking.specs.declared.state.Merging.{Merging}
 use Rattle.wac_taking.proofs.Within.{within_all}

@@ -7,6 +7,7 @@ use Rattle.wac_component.specs.Entries.{identifier_at}
 use Rattle.wac_component.specs.Height.{height}
 use Rattle.wac_component.specs.Id.{Id}
 use Rattle.wac_component.specs.Key.{Key, Each, Stands, AllStand, interface_entry, entry_at, interface_key, interface_keys, named_keys, use_keys, optional_keys, other_keys}
+use Rattle.wac_component.specs.Memo.{AddsPair, memo_of}
 use Rattle.wac_component.specs.Open.{open_next, step}
 use Rattle.wac_component.specs.Reach.{IsAmong}
 use Rattle.wac_component.specs.Replacing.{NamesReach}
@@ -22,7 +23,7 @@ use Rattle.wac_narrowing.specs.Entering.{InterfaceIsTaken}
 use Rattle.wac_narrowing.specs.Identified.{IsCovered}
 use Rattle.wac_narrowing.specs.Narrows.{IsStep, CanGrow, grown}
 use Rattle.wac_narrowing.specs.Remembers.{RemembersTruly}
-use Rattle.wac_narrowing.specs.State.{State, AddsPair, IsKept, Runs}
+use Rattle.wac_narrowing.specs.State.{State, IsKept, Runs}
 use Rattle.wac_narrowing.specs.Taking.{IsTakenKey, IsTakenItem}
 use Rattle.wac_narrowing.proofs.Growing.{stood}
 use Rattle.wac_narrowing.proofs.Entering.{interface_named, interface_covered, grown_interface_enters}
@@ -30,8 +31,7 @@ use Rattle.wac_narrowing.proofs.Mapped.{mapped_more, taken_keys_still, taken_ite
 use Rattle.wac_narrowing.proofs.Remembered.{RemembersTruly-step}
 use Rattle.wac_narrowing.proofs.Running.{Runs-step, Runs-trans}
 use Rattle.wac_reasons.specs.Split.{AddsSharedOrBelow}
-use Rattle.wac_copies.specs.Memo.{memo_of}
-use Rattle.wac_copies.specs.declared.memo.Memo.{Memo}
+use Rattle.wac_component.specs.declared.memo.Memo.{Memo}
 use Rattle.wac_taking.specs.Growing.{AreMetWith}
 use Rattle.wac_taking.specs.Takes.{shared_in, state_of, MayTake, MayPut, Takes}
 use Rattle.wac_taking.specs.declared.state.Merging.{Merging}

@@ -1,3 +1,6 @@
+pub mod PartHeights
+pub mod Placed
+pub mod Contents
 pub mod TakeLemmas
 pub mod GrowLemmas
 pub mod GrowAccounts

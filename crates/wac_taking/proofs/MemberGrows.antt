@@ -15,6 +15,7 @@ use Rattle.wac_component.specs.Collection.{Collection, UseContent, InterfaceCont
 use Rattle.wac_component.specs.Entries.{entry_uses, HasUse, uses_at, exports_at, identifier_at}
 use Rattle.wac_component.specs.Id.{Id}
 use Rattle.wac_component.specs.Key.{Key, Each, Stands, AllStand, interface_entry, interface_key, interface_keys, item_keys, named_keys, use_keys}
+use Rattle.wac_component.specs.Memo.{AddsPair, memo_of}
 use Rattle.wac_component.specs.Replacing.{NamesReach}
 use Rattle.wac_component.specs.Sound.{IsSound}
 use Rattle.wac_component.specs.Tree.{item_tree}
@@ -39,11 +40,9 @@ use Rattle.wac_call_lists.proofs.Members.{one_track}
 use Rattle.wac_call_lists.proofs.Read.{exports_of_entry, lookup_contains}
 use Rattle.wac_call_lists.proofs.TakenIn.{sharing_goes_on}
 use Rattle.wac_call_lists.proofs.WitReasons.{clashing_exports}
-use Rattle.wac_copies.specs.Memo.{memo_of}
-use Rattle.wac_copies.specs.declared.memo.Memo.{Memo}
+use Rattle.wac_component.specs.declared.memo.Memo.{Memo}
 use Rattle.wac_narrowing.specs.Laws.{IsArrowed}
 use Rattle.wac_narrowing.specs.Narrows.{grown}
-use Rattle.wac_narrowing.specs.State.{AddsPair}
 use Rattle.wac_refusals.specs.declared.error.AggregateError.{AggregateError}
 use Rattle.wac_refusals.specs.declared.error.AggregateError.TheVariants.{Memory}
 use Rattle.wac_taking.specs.Growing.{AreMetWith}

@@ -10,6 +10,7 @@ use Rattle.wac_component.specs.Collection.{Collection, UseContent}
 use Rattle.wac_component.specs.Id.{Id}
 use Rattle.wac_component.specs.Implicit.{HasIdentifier, identifier}
 use Rattle.wac_component.specs.Key.{Key, Stands, interface_key}
+use Rattle.wac_component.specs.Memo.{AddsPair, memo_of}
 use Rattle.wac_component.specs.Reach.{IsAmong}
 use Rattle.wac_component.specs.Tree.{item_tree, items_of}
 use Rattle.wac_component.specs.declared.items.ItemKind.{ItemKind}
@@ -22,9 +23,8 @@ use Rattle.wac_call_lists.specs.Entries.{ReachesByUses, stay}
 use Rattle.wac_call_lists.specs.Shared.{Taken, AreShared, IsUseOf}
 use Rattle.wac_call_lists.specs.WitList.{IsLeafItem}
 use Rattle.wac_narrowing.specs.Laws.{IsArrowed}
-use Rattle.wac_narrowing.specs.State.{State, AddsPair, IsOneWith}
+use Rattle.wac_narrowing.specs.State.{State, IsOneWith}
 use Rattle.wac_narrowing.specs.Taking.{AreMapped, none, one, IsTakenItem}
-use Rattle.wac_copies.specs.Memo.{memo_of}
 use Rattle.wac_taking.specs.Members.{HasTakenIn, HasAllOf, AreMore, TakesMembers, roots_of}
 use Rattle.wac_taking.specs.Takes.{MayTake, IsTakenUse, shared_in, shared_keys, state_of}
 use Rattle.wac_taking.specs.declared.state.Merging.{Merging}

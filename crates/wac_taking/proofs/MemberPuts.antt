@@ -17,6 +17,7 @@ use Rattle.wac_component.specs.Id.{Id}
 use Rattle.wac_component.specs.Implicit.{identifier}
 use Rattle.wac_component.specs.Key.{Key, Stands, AllStand, entry_at, interface_entry, interface_key, interface_keys, item_keys, named_keys, use_keys}
 use Rattle.wac_component.specs.Laws.{HasLeavesOf}
+use Rattle.wac_component.specs.Memo.{AddsPair, memo_of}
 use Rattle.wac_component.specs.Reach.{IsAmong}
 use Rattle.wac_component.specs.Sound.{IsSound}
 use Rattle.wac_component.specs.Tree.{item_tree, items_of}
@@ -37,11 +38,9 @@ use Rattle.wac_call_lists.proofs.TakenIn.{sharing_goes_on}
 use Rattle.wac_narrowing.specs.Last.{last_key}
 use Rattle.wac_narrowing.specs.Laws.{IsArrowed}
 use Rattle.wac_narrowing.specs.Narrows.{AddsShared}
-use Rattle.wac_narrowing.specs.State.{AddsPair}
 use Rattle.wac_narrowing.specs.Traced.{here}
 use Rattle.wac_narrowing.proofs.Adding.{last_at}
 use Rattle.wac_narrowing.proofs.Entering.{interface_named}
-use Rattle.wac_copies.specs.Memo.{memo_of}
 use Rattle.wac_reasons.proofs.Moving.{identifier_is}
 use Rattle.wac_taking.specs.Members.{HasTakenIn, TakesMembers, roots_of}
 use Rattle.wac_taking.specs.Takes.{MayTake, MayPut, shared_in, shared_keys, state_of}

@@ -24,7 +24,7 @@ use Rattle.wac_call_lists.specs.WitList.{AreWit}
 use Rattle.wac_call_lists.proofs.ByUses.{ByUses-trans, by_uses}
 use Rattle.wac_call_lists.proofs.Read.{use_opens}
 use Rattle.wac_call_lists.proofs.TakenIn.{sharing_goes_on}
-use Rattle.wac_copies.specs.Memo.{memo_of}
+use Rattle.wac_component.specs.Memo.{memo_of}
 use Rattle.wac_narrowing.specs.State.{IsOneWith, IsKept, Runs}
 use Rattle.wac_narrowing.specs.Remembers.{RemembersTruly}
 use Rattle.wac_narrowing.specs.Laws.{IsArrowed}

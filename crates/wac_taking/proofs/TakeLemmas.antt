@@ -9,6 +9,7 @@ use Rattle.wac_component.specs.Growth.{Extends, with_entry}
 use Rattle.wac_component.specs.Height.{height}
 use Rattle.wac_component.specs.Id.{Id}
 use Rattle.wac_component.specs.Key.{Key, Entry, Each, Stands, AllStand, item_keys, import_keys, optional_keys, resource_key, interface_key}
+use Rattle.wac_component.specs.Memo.{AddsPair, Remembered, memo_of}
 use Rattle.wac_component.specs.Open.{open_next, import_next, OpenReaches, stay, step}
 use Rattle.wac_component.specs.Sound.{IsSound}
 use Rattle.wac_component.specs.declared.items.ItemKind.{ItemKind}
@@ -23,7 +24,7 @@ use Rattle.wac_names.proofs.Classes.{classes_decided}
 use Rattle.wac_narrowing.specs.Last.{last_key}
 use Rattle.wac_narrowing.specs.Narrows.{AddsShared}
 use Rattle.wac_narrowing.specs.Remembers.{RemembersTruly}
-use Rattle.wac_narrowing.specs.State.{State, Memo as Remembered, AddsPair, IsKept, IsOneWith, Runs}
+use Rattle.wac_narrowing.specs.State.{State, IsKept, IsOneWith, Runs}
 use Rattle.wac_narrowing.specs.Taking.{IsTakenKey, IsCopiedKey, AreCopiedKeys}
 use Rattle.wac_narrowing.specs.Identified.{IsCovered}
 use Rattle.wac_narrowing.specs.Imports.{IsImportFor}
@@ -40,8 +41,7 @@ use Rattle.wac_reasons.proofs.EntryAccounts.{IsMadeFrom, made_accounted}
 use Rattle.wac_reasons.proofs.SharedOrBelow.{adds_none, adds_then}
 use Rattle.wac_reasons.proofs.Splitting.{walk_on}
 use Rattle.wac_copies.specs.Copies.{IsState, MayCopy, IsBelowCopy, Copies}
-use Rattle.wac_copies.specs.Memo.{memo_of}
-use Rattle.wac_copies.specs.declared.memo.Memo.{Memo}
+use Rattle.wac_component.specs.declared.memo.Memo.{Memo}
 use Rattle.wac_taking.specs.Takes.{shared_keys, shared_in, state_of, AreFiledIn, MayTake, AreWithin, LeadsToOwner, OwnersImported, IsOwnersImport, IsSharedFrom, IsOwnerImported, AreKnown, OnlyGrows, TakesBy, AreNear, Takes}
 use Rattle.wac_taking.specs.declared.state.Merging.{Merging}
 use Rattle.wac_component.proofs.Adding.{Extends-with_entry}

@@ -16,7 +16,7 @@ use Rattle.wac_component.proofs.Among.{among_left, among_right}
 use Rattle.wac_component.proofs.OpenWalks.{OpenReaches-trans}
 use Rattle.wac_component.specs.Sound.{IsSound}
 use Rattle.wac_component.proofs.Reading.{resource_at, resource_standing}
-use Rattle.wac_copies.proofs.Arms.{named_flat, used_use}
+use Rattle.wac_taking.proofs.PartHeights.{named_flat, used_use}
 use Rattle.wac_taking.specs.Takes.{OpenlyFrom, AreWithin, LeadsToOwner, alias_at}
 
 module _ (f : Collection) where

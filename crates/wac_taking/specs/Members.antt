@@ -12,7 +12,7 @@ use Rattle.wac_call_lists.specs.Entries.{ReachesByUses}
 use Rattle.wac_call_lists.specs.Reason.{Refusal, mismatch, used_interface, used_name, cycle}
 use Rattle.wac_call_lists.specs.Shared.{Taken, SharedEntries, AreShared, CannotTake}
 use Rattle.wac_call_lists.specs.WitList.{AreWit}
-use Rattle.wac_copies.specs.Memo.{memo_of}
+use Rattle.wac_component.specs.Memo.{memo_of}
 use Rattle.wac_narrowing.specs.Laws.{IsArrowed}
 use Rattle.wac_narrowing.specs.State.{IsOneWith}
 use Rattle.wac_narrowing.specs.Traced.{Root, Arrows}

@@ -27,7 +27,7 @@ use Rattle.wac_narrowing.specs.Taking.{AreMapped, AreTakenKeys, IsTakenKey, IsTa
 use Rattle.wac_narrowing.specs.Values.{IfAny}
 use Rattle.wac_reasons.specs.Split.{AddsSharedOrBelow}
 use Rattle.wac_reasons.specs.Trial.{IsTrial, IsAccounted, IsOpenSource, StaysAccounted}
-use Rattle.wac_copies.specs.Memo.{memo_of}
+use Rattle.wac_component.specs.Memo.{memo_of}
 use Rattle.wac_imports.specs.Import.{ImportContent, import_of, import_at}
 use Rattle.wac_taking.specs.declared.state.Merging.{Merging}
 

@@ -2,8 +2,7 @@
 
 use indexmap::IndexMap;
 use std::alloc::Global;
-use wac_component::{InterfaceId, Types};
-use wac_copies::Memo;
+use wac_component::{InterfaceId, Memo, Types};
 use wac_imports::ImportList;
 use wac_mismatch::SubtypeCheck;
 use wac_names::NameClass;

@@ -10,8 +10,8 @@ pub use wac_aggregator::{
 };
 pub use wac_checker::SubtypeChecker;
 pub use wac_component::{
-    DefinedType, DefinedTypeId, Enum, ExternKind, Flags, FuncKind, FuncType, FuncTypeId, Interface,
-    InterfaceId, ItemKind, ModuleError, ModuleTypeId, Record, ReplaceError, Resource,
+    DefinedType, DefinedTypeId, EntryId, Enum, ExternKind, Flags, FuncKind, FuncType, FuncTypeId,
+    Interface, InterfaceId, ItemKind, ModuleError, ModuleTypeId, Record, ReplaceError, Resource,
     ResourceAlias, ResourceId, Type, Types, UsedType, ValueType, Variant, World, WorldId,
 };
 pub use wac_core::{

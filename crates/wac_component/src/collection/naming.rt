@@ -1,26 +1,34 @@
 //! The ids that entries name.
 
-ghost use Rattle.std.specs.Prelude.{◌≡◌, ◌++◌, map, OnOk, IfOk};
+ghost use Rattle.std.specs.Prelude.{◌≡◌, ◌<◌, ◌++◌, Some, length, map, slice_get, OnOk, IfOk};
 ghost use Rattle.std.specs.Option.{option_to_list};
-ghost use Rattle.wac_component.specs.Key.{value_keys, type_keys};
-ghost use Rattle.wac_component.specs.Naming.{key_of};
+ghost use Rattle.wac_component.specs.Key.{value_keys, type_keys, item_keys, named_keys};
+ghost use Rattle.wac_component.specs.Content.{named};
+ghost use Rattle.wac_component.specs.Naming.{key_of, Puts};
 ghost use Rattle.wac_component.specs.Parts.{places, all_places, place_keys, places_keys};
 
-use crate::parts::{AllParts, Parts};
+use crate::parts::{AllParts, Parts, items_parts};
 use crate::{
     DefinedTypeId, FuncTypeId, InterfaceId, ItemKind, ModuleTypeId, ResourceId, Type, ValueType,
     WorldId,
 };
+use indexmap::{IndexMap, IndexSet};
 use std::alloc::{AllocError, Global};
 
-// The id of an entry of any sort.
+/// The id of an entry of any sort.
 #[derive(Clone, Copy, PartialEq, Eq, Hash)]
-pub(crate) enum EntryId {
+pub enum EntryId {
+    /// A defined type.
     Defined(DefinedTypeId),
+    /// A resource.
     Resource(ResourceId),
+    /// A function type.
     Func(FuncTypeId),
+    /// An interface.
     Interface(InterfaceId),
+    /// A world.
     World(WorldId),
+    /// A core module type.
     Module(ModuleTypeId),
 }
 
@@ -88,4 +96,41 @@ pub(crate) fn named_ids(alloc: Global, all: &AllParts<'_>) -> Result<Vec<EntryId
     push_parts(&mut ids, &all.1)?;
     push_parts(&mut ids, &all.2)?;
     Ok(ids)
+}
+
+/// The id in an item, or none.
+pub fn item_ids(alloc: Global, kind: &ItemKind) -> Result<Vec<EntryId>, AllocError>
+    ensures { IfOk result (λ ids. map key_of ids.items ≡ item_keys kind.now) }
+{
+    let mut ids = Vec::new(alloc);
+    push_id(&mut ids, place_id(Some(*kind)))?;
+    Ok(ids)
+}
+
+/// The ids in items under names, in order.
+pub fn items_ids(
+    alloc: Global,
+    items: &IndexMap<String, ItemKind>,
+) -> Result<Vec<EntryId>, AllocError>
+    ensures { IfOk result (λ ids. map key_of ids.items ≡ named_keys item_keys (named (λ k. k) items.now.entries)) }
+{
+    named_ids(alloc, &items_parts(items))
+}
+
+/// Puts those ids last that aren't there.
+pub fn put_ids(reached: &mut IndexSet<EntryId>, ids: &[EntryId]) -> Result<(), AllocError>
+    ensures { OnOk result (Puts (map key_of ids.now) (map key_of reached.old.keys) (map key_of reached.new.keys)) }
+{
+    for id in ids {
+        reached.insert(*id)?;
+    }
+    Ok(())
+}
+
+/// The id at a place.
+pub fn id_at(ids: &IndexSet<EntryId>, index: usize) -> EntryId
+    requires { index < length ids.now.keys }
+    ensures { slice_get ids.now.keys index ≡ Some result }
+{
+    *ids.get_index(index).unwrap()
 }

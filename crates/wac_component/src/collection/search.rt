@@ -1,55 +1,16 @@
 //! Looking for a walk along ids.
 
-ghost use Rattle.std.specs.Prelude.{◌≡◌, ◌<◌, ◌↔◌, length, map, slice_get, IsTrue, OnOk, IfOk};
-ghost use Rattle.std.specs.Option.{option_to_list};
+ghost use Rattle.std.specs.Prelude.{◌≡◌, ◌↔◌, map, IsTrue, OnOk, IfOk};
 ghost use Rattle.wac_component.specs.Key.{Stands, AllStand, next};
 ghost use Rattle.wac_component.specs.Naming.{key_of, Puts};
-ghost use Rattle.wac_component.specs.Parts.{places, all_places, places_keys};
+ghost use Rattle.wac_component.specs.Parts.{all_places, places_keys};
 ghost use Rattle.wac_component.specs.Replacing.{NamesReach};
 
 use super::Types;
-use super::naming::{EntryId, place_id};
-use crate::parts::{AllParts, NONE, Parts};
+use super::naming::{EntryId, id_at, named_ids, put_ids};
+use crate::parts::{AllParts, NONE};
 use indexmap::IndexSet;
-use std::alloc::AllocError;
-
-// Puts an id last, if there is one that isn't there.
-fn put(reached: &mut IndexSet<EntryId>, id: Option<EntryId>) -> Result<(), AllocError>
-    ensures { OnOk result (Puts (map key_of (option_to_list id)) (map key_of reached.old.keys) (map key_of reached.new.keys)) }
-{
-    if let Some(id) = id {
-        reached.insert(id)?;
-    }
-    Ok(())
-}
-
-// Puts those ids last that aren't there.
-fn put_ids(reached: &mut IndexSet<EntryId>, ids: &[EntryId]) -> Result<(), AllocError>
-    ensures { OnOk result (Puts (map key_of ids.now) (map key_of reached.old.keys) (map key_of reached.new.keys)) }
-{
-    for id in ids {
-        put(reached, Some(*id))?;
-    }
-    Ok(())
-}
-
-// Puts those ids in a list of items last that aren't there.
-fn put_parts(reached: &mut IndexSet<EntryId>, parts: &Parts<'_>) -> Result<(), AllocError>
-    ensures { OnOk result (Puts (places_keys (places parts.now)) (map key_of reached.old.keys) (map key_of reached.new.keys)) }
-{
-    for i in 0..parts.len() {
-        put(reached, place_id(parts.get(i)))?;
-    }
-    Ok(())
-}
-
-// The id at a place.
-fn id_at(reached: &IndexSet<EntryId>, index: usize) -> EntryId
-    requires { index < length reached.now.keys }
-    ensures { slice_get reached.now.keys index ≡ Some result }
-{
-    *reached.get_index(index).unwrap()
-}
+use std::alloc::{AllocError, Global};
 
 impl Types {
     // What an entry names.
@@ -67,16 +28,21 @@ impl Types {
         }
     }
 
+    /// What an entry names, in order.
+    pub fn ids_in(&self, alloc: Global, id: EntryId) -> Result<Vec<EntryId>, AllocError>
+        requires { Stands self.now (key_of id) }
+        ensures { IfOk result (λ ids. map key_of ids.items ≡ next self.now (key_of id)) }
+    {
+        named_ids(alloc, &self.parts_at(id))
+    }
+
     // Puts those ids in an entry last that aren't there.
     fn put_named(&self, reached: &mut IndexSet<EntryId>, id: EntryId) -> Result<(), AllocError>
         requires { Stands self.now (key_of id) }
         ensures { OnOk result (Puts (next self.now (key_of id)) (map key_of reached.old.keys) (map key_of reached.new.keys)) }
     {
-        let all = self.parts_at(id);
-        put_parts(reached, &all.0)?;
-        put_parts(reached, &all.1)?;
-        put_parts(reached, &all.2)?;
-        Ok(())
+        let named = self.ids_in(*self.defined.allocator(), id)?;
+        put_ids(reached, &named)
     }
 
     // Whether a walk along ids leads from one of these to another. Each id is gone through once.

@@ -1,7 +1,7 @@
 use Rattle.std.proofs.Common.{List, sym, subst, ◌∙◌}
 use Rattle.wac_component.specs.Id.{Id}
 use Rattle.wac_alike.specs.Alike.{AreResourcesOf}
-use Rattle.wac_alike.specs.Parts.{key_of}
+use Rattle.wac_component.specs.Naming.{key_of}
 use Rattle.wac_alike.proofs.Answering.{all_stand, owned_in, not_ours, not_theirs, are_alike, are_not_alike}
 use Rattle.wac_alike.proofs.alike.alike_owners.Goals as goal
 

@@ -1,13 +1,9 @@
-use Rattle.std.proofs.lemmas.Result.{MatchResult-weaker}
+use Rattle.std.proofs.Common.{sym}
 use Rattle.wac_component.specs.Content.{world_content}
-use Rattle.wac_component.proofs.CloneLemmas.{named-clones}
-use Rattle.wac_merge.specs.Items.{extern_list}
-use Rattle.wac_merge.proofs.ReadLemmas.{reads_exports}
+use Rattle.wac_merge.proofs.ReadLemmas.{world_at, world_exports_are}
 use Rattle.wac_merge.proofs.entries.world_exports_of.Goals as goal
 
 pub returns : goal.returns
 returns c =
-    MatchResult-weaker c.clone.result c.clone.ensures.cases
-    (λ m cloned. reads_exports c.args.types.now c.args.id (world_content c.index.result.now) (extern_list m) c.index.ensures.entry c.index.ensures.standing c.index.ensures.lower
-    (named-clones (λ k. k) (λ k l e. e) c.index.result.now.exports m cloned))
-    (λ e h. tt)
+    let e = world_content c.index.result.now in
+    sym (world_exports_are c.args.types.now c.args.id e (world_at c.args.types.now c.args.id e c.index.ensures.entry))

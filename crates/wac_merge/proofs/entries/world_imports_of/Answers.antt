@@ -1,13 +1,9 @@
-use Rattle.std.proofs.lemmas.Result.{MatchResult-weaker}
+use Rattle.std.proofs.Common.{sym}
 use Rattle.wac_component.specs.Content.{world_content}
-use Rattle.wac_component.proofs.CloneLemmas.{named-clones}
-use Rattle.wac_merge.specs.Items.{extern_list}
-use Rattle.wac_merge.proofs.ReadLemmas.{reads_imports}
+use Rattle.wac_merge.proofs.ReadLemmas.{world_at, world_imports_are}
 use Rattle.wac_merge.proofs.entries.world_imports_of.Goals as goal
 
 pub returns : goal.returns
 returns c =
-    MatchResult-weaker c.clone.result c.clone.ensures.cases
-    (λ m cloned. reads_imports c.args.types.now c.args.id (world_content c.index.result.now) (extern_list m) c.index.ensures.entry c.index.ensures.standing c.index.ensures.lower
-    (named-clones (λ k. k) (λ k l e. e) c.index.result.now.imports m cloned))
-    (λ e h. tt)
+    let e = world_content c.index.result.now in
+    sym (world_imports_are c.args.types.now c.args.id e (world_at c.args.types.now c.args.id e c.index.ensures.entry))

@@ -4,14 +4,13 @@ use Rattle.indexmap.proofs.CallerLemmas.{insert_entry-new}
 use Rattle.wac_component.specs.Content.{interface_content}
 use Rattle.wac_component.specs.Entries.{entry_identifier, identifier_at}
 use Rattle.wac_component.specs.Key.{Stands, interface_entry, interface_key}
+use Rattle.wac_component.specs.Memo.{AddsPair, memo_of}
 use Rattle.wac_names.specs.Class.{class_eq, class_of}
 use Rattle.wac_narrowing.specs.Entering.{AddsEntry, IsEntered}
 use Rattle.wac_narrowing.specs.Last.{last_key}
 use Rattle.wac_narrowing.specs.Narrows.{AddsShared}
-use Rattle.wac_narrowing.specs.State.{AddsPair}
 use Rattle.wac_narrowing.proofs.Adding.{last_at}
 use Rattle.wac_narrowing.proofs.Entering.{interface_named, shared_interface_enters}
-use Rattle.wac_copies.specs.Memo.{memo_of}
 use Rattle.wac_taking.specs.Takes.{state_of}
 use Rattle.wac_taking.proofs.TakeLemmas.{content_identifier, taken_as, Takes-entered, AreFiledIn-put, not_known}
 use Rattle.wac_component.specs.Open.{stay}

@@ -24,9 +24,9 @@ use Rattle.wac_narrowing.specs.State.{State}
 use Rattle.wac_narrowing.specs.Taking.{no_keys, AreMapped, IsTakenKey, IsTakenItem}
 use Rattle.wac_narrowing.specs.Values.{IsTakenValue, IfAny, neither, both, AreDefined, AreListed}
 use Rattle.wac_narrowing.specs.Values as listed
-use Rattle.wac_copies.proofs.Arms.{named_stands, named_lower, used_there, used_stands, used_lower, types-named, one_lower, last_lower, first_lower, others_lower, cases_flat, params_stand, result_stands, params_lower, result_lower, uses_lower, world_uses_lower}
-use Rattle.wac_copies.proofs.Contents.{content_one, content_two, content_option, content_result, content_record, content_variant}
-use Rattle.wac_copies.proofs.Placed.{ArePlaced, set_start, set_whole, set_count, named_count, length-named, placed_start, placed_whole}
+use Rattle.wac_taking.proofs.PartHeights.{named_stands, named_lower, used_there, used_stands, used_lower, types-named, one_lower, last_lower, first_lower, others_lower, cases_flat, params_stand, result_stands, params_lower, result_lower, uses_lower, world_uses_lower}
+use Rattle.wac_taking.proofs.Contents.{content_one, content_two, content_option, content_result, content_record, content_variant}
+use Rattle.wac_taking.proofs.Placed.{ArePlaced, set_start, set_whole, set_count, named_count, length-named, placed_start, placed_whole}
 use Rattle.wac_taking.specs.Takes.{AreWithin, state_of, near_keys, TakesBy, Takes, LeadsToOwner, IsTakenAlias, IsTakenOwner, IsTakenUse, alias_at}
 use Rattle.wac_taking.proofs.Within.{within_all, within_same, within_left, within_right, within_trans, within_first, within_others, within_option, within_params, within_at, within_named, within_used, within_parts, alias_within, alias_owner, alias_stands as alias_named, owned_within}
 use Rattle.wac_component.specs.Collection.{InterfaceContent, ResourceContent}

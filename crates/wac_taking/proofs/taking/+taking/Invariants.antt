@@ -6,7 +6,7 @@ use Rattle.wac_component.specs.Key.{item_keys, type_keys, value_keys, alias_keys
 use Rattle.wac_names.specs.Class.{class_of}
 use Rattle.wac_narrowing.specs.Taking.{IsTakenItem}
 use Rattle.wac_narrowing.specs.Values.{IsTakenValue, IfAny}
-use Rattle.wac_copies.proofs.Placed.{ArePlaced, AreSet}
+use Rattle.wac_taking.proofs.Placed.{ArePlaced, AreSet}
 use Rattle.wac_call_lists.specs.Shared.{Taken}
 use Rattle.wac_call_lists.specs.WitList.{AreWit}
 use Rattle.wac_taking.specs.Members.{HasTakenIn, HasAllOf, TakesMembers, IsUsedBy}
