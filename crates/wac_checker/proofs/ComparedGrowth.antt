@@ -1,5 +1,5 @@
 -- What is known of pairs, and collections that are only added to.
-use Rattle.std.proofs.Common.{◌≡◌, Option, Some, None, slice_get, Bool, true, false, refl, ap, sym, ◌∙◌}
+use Rattle.std.proofs.Common.{◌≡◌, Option, Some, None, slice_get, Bool, true, false, refl, ap, sym, ◌∙◌, ℕ, ◌⊎◌, inl, inr, ap₂, subst}
 use Rattle.std.specs.Option.{option_map}
 use Rattle.wac_model.specs.ValueTree.{ValueTree}
 use Rattle.wac_model.specs.CoreTree.{ModuleTree}
@@ -15,10 +15,10 @@ use Rattle.wac_component.specs.declared.items.ValueType.TheVariants.{Defined}
 use Rattle.wac_component.proofs.Lists.{slice_get-map}
 use Rattle.wac_mismatch.specs.Place.{item_side, value_side}
 use Rattle.wac_checker.specs.Compared.{KnowsTruly}
-use Rattle.wac_checker.specs.Pairs.{EntriesFit, EntriesStand, left_key, left_of, right_key, right_of, sort_side}
+use Rattle.wac_checker.specs.Pairs.{EntriesFit, EntriesStand, left_key, left_of, right_key, right_of, sort_side, Entries, DefinedTypes, Funcs, Interfaces, Worlds, Modules, IsFitting, IsStanding, entries_by, entries_of, id_in}
+use Rattle.wac_checker.specs.declared.parts.EntryPair.{EntryPair}
+use Rattle.wac_checker.specs.declared.parts.Sort.{Sort as PairSort}
 use Rattle.wac_checker.specs.declared.compared.Compared.{Compared}
-use Rattle.wac_checker.specs.declared.pairs.Entries.{Entries}
-use Rattle.wac_checker.specs.declared.pairs.Entries.TheVariants.{DefinedTypes, Funcs, Interfaces, Worlds, Modules}
 
 -- ---- items that are one have the parts in common
 
@@ -99,10 +99,32 @@ module _ (c d e f : Collection) (x : Extends c e) (y : Extends d f) (q : Entries
   pair_fits_before false = entries_fit_before c d e f x y q
   pair_fits_before true = entries_fit_before d c f e y x q
 
+-- ---- pairs by indices
+
+numbered : (c d e f : Collection) (s : PairSort) (i j : ℕ) → e.number ≡ c.number → f.number ≡ d.number → entries_by s (id_in e i) (id_in f j) ≡ entries_by s (id_in c i) (id_in d j)
+numbered c d e f s i j l r = ap₂ (λ (m n : ℕ). entries_by s (record { number = m; index = i }) (record { number = n; index = j })) l r
+
+module _ (c d e f : Collection) (x : Extends c e) (y : Extends d f) (p : EntryPair) where
+  told_same : entries_of (left_of e f p.swapped) (right_of e f p.swapped) p ≡ entries_of (left_of c d p.swapped) (right_of c d p.swapped) p
+  told_same = by_side p.swapped
+    where
+      by_side : (s : Bool) → entries_of (left_of e f s) (right_of e f s) p ≡ entries_of (left_of c d s) (right_of c d s) p
+      by_side false = numbered c d e f p.sort p.left p.right x.number y.number
+      by_side true = numbered d c f e p.sort p.left p.right y.number x.number
+
+  stays : IsStanding c d p → IsStanding e f p
+  stays h = subst (λ (q : Entries). EntriesStand (left_of e f p.swapped) (right_of e f p.swapped) q) (sym told_same) (pair_stays c d e f x y (entries_of (left_of c d p.swapped) (right_of c d p.swapped) p) p.swapped h)
+
+  fits_later : IsStanding c d p → IsFitting c d p → IsFitting e f p
+  fits_later h fits = subst (λ (q : Entries). EntriesFit (left_of e f p.swapped) (right_of e f p.swapped) q) (sym told_same) (pair_fits_later c d e f x y (entries_of (left_of c d p.swapped) (right_of c d p.swapped) p) p.swapped h fits)
+
+  fits_before : IsStanding c d p → IsFitting e f p → IsFitting c d p
+  fits_before h fits = pair_fits_before c d e f x y (entries_of (left_of c d p.swapped) (right_of c d p.swapped) p) p.swapped h (subst (λ (q : Entries). EntriesFit (left_of e f p.swapped) (right_of e f p.swapped) q) told_same fits)
+
 -- what is known of two collections is true of what they grew to
 pub KnowsTruly-grown : (c d e f : Collection) → Extends c e → Extends d f → (k : Compared) → KnowsTruly c d k → KnowsTruly e f k
 KnowsTruly-grown c d e f x y k h = record {
-  pairs = (h.pairs.0, λ p m. pair_stays c d e f x y p.entries p.swapped (h.pairs.1 p m));
-  fit = λ p m. pair_fits_later c d e f x y p.entries p.swapped (h.pairs.1 p m) (h.fit p m);
-  unfit = λ p m. let was = h.unfit p m in (pair_stays c d e f x y p.entries p.swapped was.0, λ fits. was.1 (pair_fits_before c d e f x y p.entries p.swapped was.0 fits));
+  pairs = (h.pairs.0, λ p m. stays c d e f x y p (h.pairs.1 p m));
+  unfit = λ p m. let was = h.unfit p m in (stays c d e f x y p was.0, λ fits. was.1 (fits_before c d e f x y p was.0 fits));
+  known = λ p m. elim (h.known p m) [ inl fits ↦ inl (fits_later c d e f x y p (h.pairs.1 p m) fits) | inr there ↦ inr there ];
 }

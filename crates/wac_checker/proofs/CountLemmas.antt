@@ -1,5 +1,5 @@
 -- How many pairs of entries there can be.
-use Rattle.std.proofs.Common.{◌≡◌, ◌≤◌, ◌<◌, ◌+◌, ◌-◌, ◌*◌, ◌⊎◌, inl, inr, ℕ, zero, suc, List, [], ◌∷◌, ◌++◌, length, map, Bool, true, false, Contains, refl, ap, sym, subst, ◌∙◌, length-append, arith}
+use Rattle.std.proofs.Common.{◌≡◌, ◌≤◌, ◌<◌, ◌+◌, ◌*◌, ◌⊎◌, inl, inr, ℕ, zero, suc, List, [], ◌∷◌, ◌++◌, length, map, Bool, true, false, Contains, refl, ap, sym, subst, ◌∙◌, length-append, arith}
 use Rattle.std.proofs.lemmas.List.{length-map}
 use Rattle.std.proofs.lemmas.List.Elements.{Contains-append_left, Contains-append_right}
 use Rattle.std.proofs.lemmas.Nat.{mul-le}
@@ -8,11 +8,10 @@ use Rattle.wac_component.specs.Id.{Id}
 use Rattle.wac_component.specs.Collection.{Collection}
 use Rattle.wac_component.specs.Sound.{entry_count}
 use Rattle.wac_component.proofs.Among.{Contains-first, Contains-later, Contains-cases}
-use Rattle.wac_checker.specs.Pairs.{PairStands, EntriesStand, left_of, right_of}
-use Rattle.wac_checker.specs.Steps.{AreDistinct, ArePairsOf}
-use Rattle.wac_checker.specs.declared.pairs.Entries.{Entries}
-use Rattle.wac_checker.specs.declared.pairs.Entries.TheVariants.{DefinedTypes, Funcs, Interfaces, Worlds, Modules}
-use Rattle.wac_checker.specs.declared.pairs.EntryPair.{EntryPair}
+use Rattle.wac_checker.specs.Pairs.{AreDistinct, ArePairsOf, EntriesStand, IsStanding, entries_by, id_in, left_of, right_of}
+use Rattle.wac_checker.specs.declared.parts.EntryPair.{EntryPair}
+use Rattle.wac_checker.specs.declared.parts.Sort.{Sort as PairSort}
+use Rattle.wac_checker.specs.declared.parts.Sort.TheVariants as sort
 
 -- ---- distinct elements of a list are no more than it has
 
@@ -76,32 +75,36 @@ paired_among f (x ∷ as') bs a b m n = elim (Contains-cases a x as' m) [
   | inr later ↦ Contains-append_right (map (f x) bs) (paired f as' bs) (f a b) (paired_among f as' bs a b later n)
 ]
 
-abbrev all_entries : Collection → Collection → List Entries
-all_entries c d = paired DefinedTypes (ids c.number (length c.defined)) (ids d.number (length d.defined)) ++ (paired Funcs (ids c.number (length c.funcs)) (ids d.number (length d.funcs)) ++ (paired Interfaces (ids c.number (length c.interfaces)) (ids d.number (length d.interfaces)) ++ (paired Worlds (ids c.number (length c.worlds)) (ids d.number (length d.worlds)) ++ (paired Modules (ids c.number (length c.modules)) (ids d.number (length d.modules))))))
+-- a pair of a sort, swapped or not, by the ids
+abbrev by_ids : PairSort → Bool → Id → Id → EntryPair
+by_ids s w a b = record { left = a.index; right = b.index; sort = s; swapped = w }
 
-entries_among : (c d : Collection) (e : Entries) → EntriesStand c d e → Contains (all_entries c d) e
-entries_among c d (DefinedTypes a b) h =
-    Contains-append_left (paired DefinedTypes (ids c.number (length c.defined)) (ids d.number (length d.defined))) (paired Funcs (ids c.number (length c.funcs)) (ids d.number (length d.funcs)) ++ (paired Interfaces (ids c.number (length c.interfaces)) (ids d.number (length d.interfaces)) ++ (paired Worlds (ids c.number (length c.worlds)) (ids d.number (length d.worlds)) ++ (paired Modules (ids c.number (length c.modules)) (ids d.number (length d.modules)))))) (DefinedTypes a b) (paired_among DefinedTypes (ids c.number (length c.defined)) (ids d.number (length d.defined)) a b (id_among c.number (length c.defined) a h.0.0 (simp length-map at h.0.1)) (id_among d.number (length d.defined) b h.1.0 (simp length-map at h.1.1)))
-entries_among c d (Funcs a b) h =
-    Contains-append_right (paired DefinedTypes (ids c.number (length c.defined)) (ids d.number (length d.defined))) (paired Funcs (ids c.number (length c.funcs)) (ids d.number (length d.funcs)) ++ (paired Interfaces (ids c.number (length c.interfaces)) (ids d.number (length d.interfaces)) ++ (paired Worlds (ids c.number (length c.worlds)) (ids d.number (length d.worlds)) ++ (paired Modules (ids c.number (length c.modules)) (ids d.number (length d.modules)))))) (Funcs a b) (Contains-append_left (paired Funcs (ids c.number (length c.funcs)) (ids d.number (length d.funcs))) (paired Interfaces (ids c.number (length c.interfaces)) (ids d.number (length d.interfaces)) ++ (paired Worlds (ids c.number (length c.worlds)) (ids d.number (length d.worlds)) ++ (paired Modules (ids c.number (length c.modules)) (ids d.number (length d.modules))))) (Funcs a b) (paired_among Funcs (ids c.number (length c.funcs)) (ids d.number (length d.funcs)) a b (id_among c.number (length c.funcs) a h.0.0 (simp length-map at h.0.1)) (id_among d.number (length d.funcs) b h.1.0 (simp length-map at h.1.1))))
-entries_among c d (Interfaces a b) h =
-    Contains-append_right (paired DefinedTypes (ids c.number (length c.defined)) (ids d.number (length d.defined))) (paired Funcs (ids c.number (length c.funcs)) (ids d.number (length d.funcs)) ++ (paired Interfaces (ids c.number (length c.interfaces)) (ids d.number (length d.interfaces)) ++ (paired Worlds (ids c.number (length c.worlds)) (ids d.number (length d.worlds)) ++ (paired Modules (ids c.number (length c.modules)) (ids d.number (length d.modules)))))) (Interfaces a b) (Contains-append_right (paired Funcs (ids c.number (length c.funcs)) (ids d.number (length d.funcs))) (paired Interfaces (ids c.number (length c.interfaces)) (ids d.number (length d.interfaces)) ++ (paired Worlds (ids c.number (length c.worlds)) (ids d.number (length d.worlds)) ++ (paired Modules (ids c.number (length c.modules)) (ids d.number (length d.modules))))) (Interfaces a b) (Contains-append_left (paired Interfaces (ids c.number (length c.interfaces)) (ids d.number (length d.interfaces))) (paired Worlds (ids c.number (length c.worlds)) (ids d.number (length d.worlds)) ++ (paired Modules (ids c.number (length c.modules)) (ids d.number (length d.modules)))) (Interfaces a b) (paired_among Interfaces (ids c.number (length c.interfaces)) (ids d.number (length d.interfaces)) a b (id_among c.number (length c.interfaces) a h.0.0 (simp length-map at h.0.1)) (id_among d.number (length d.interfaces) b h.1.0 (simp length-map at h.1.1)))))
-entries_among c d (Worlds a b) h =
-    Contains-append_right (paired DefinedTypes (ids c.number (length c.defined)) (ids d.number (length d.defined))) (paired Funcs (ids c.number (length c.funcs)) (ids d.number (length d.funcs)) ++ (paired Interfaces (ids c.number (length c.interfaces)) (ids d.number (length d.interfaces)) ++ (paired Worlds (ids c.number (length c.worlds)) (ids d.number (length d.worlds)) ++ (paired Modules (ids c.number (length c.modules)) (ids d.number (length d.modules)))))) (Worlds a b) (Contains-append_right (paired Funcs (ids c.number (length c.funcs)) (ids d.number (length d.funcs))) (paired Interfaces (ids c.number (length c.interfaces)) (ids d.number (length d.interfaces)) ++ (paired Worlds (ids c.number (length c.worlds)) (ids d.number (length d.worlds)) ++ (paired Modules (ids c.number (length c.modules)) (ids d.number (length d.modules))))) (Worlds a b) (Contains-append_right (paired Interfaces (ids c.number (length c.interfaces)) (ids d.number (length d.interfaces))) (paired Worlds (ids c.number (length c.worlds)) (ids d.number (length d.worlds)) ++ (paired Modules (ids c.number (length c.modules)) (ids d.number (length d.modules)))) (Worlds a b) (Contains-append_left (paired Worlds (ids c.number (length c.worlds)) (ids d.number (length d.worlds))) (paired Modules (ids c.number (length c.modules)) (ids d.number (length d.modules))) (Worlds a b) (paired_among Worlds (ids c.number (length c.worlds)) (ids d.number (length d.worlds)) a b (id_among c.number (length c.worlds) a h.0.0 (simp length-map at h.0.1)) (id_among d.number (length d.worlds) b h.1.0 (simp length-map at h.1.1))))))
-entries_among c d (Modules a b) h =
-    Contains-append_right (paired DefinedTypes (ids c.number (length c.defined)) (ids d.number (length d.defined))) (paired Funcs (ids c.number (length c.funcs)) (ids d.number (length d.funcs)) ++ (paired Interfaces (ids c.number (length c.interfaces)) (ids d.number (length d.interfaces)) ++ (paired Worlds (ids c.number (length c.worlds)) (ids d.number (length d.worlds)) ++ (paired Modules (ids c.number (length c.modules)) (ids d.number (length d.modules)))))) (Modules a b) (Contains-append_right (paired Funcs (ids c.number (length c.funcs)) (ids d.number (length d.funcs))) (paired Interfaces (ids c.number (length c.interfaces)) (ids d.number (length d.interfaces)) ++ (paired Worlds (ids c.number (length c.worlds)) (ids d.number (length d.worlds)) ++ (paired Modules (ids c.number (length c.modules)) (ids d.number (length d.modules))))) (Modules a b) (Contains-append_right (paired Interfaces (ids c.number (length c.interfaces)) (ids d.number (length d.interfaces))) (paired Worlds (ids c.number (length c.worlds)) (ids d.number (length d.worlds)) ++ (paired Modules (ids c.number (length c.modules)) (ids d.number (length d.modules)))) (Modules a b) (Contains-append_right (paired Worlds (ids c.number (length c.worlds)) (ids d.number (length d.worlds))) (paired Modules (ids c.number (length c.modules)) (ids d.number (length d.modules))) (Modules a b) (paired_among Modules (ids c.number (length c.modules)) (ids d.number (length d.modules)) a b (id_among c.number (length c.modules) a h.0.0 (simp length-map at h.0.1)) (id_among d.number (length d.modules) b h.1.0 (simp length-map at h.1.1))))))
+abbrev all_entries : Bool → Collection → Collection → List EntryPair
+all_entries w c d = paired (by_ids sort.Defined w) (ids c.number (length c.defined)) (ids d.number (length d.defined)) ++ (paired (by_ids sort.Func w) (ids c.number (length c.funcs)) (ids d.number (length d.funcs)) ++ (paired (by_ids sort.Interface w) (ids c.number (length c.interfaces)) (ids d.number (length d.interfaces)) ++ (paired (by_ids sort.World w) (ids c.number (length c.worlds)) (ids d.number (length d.worlds)) ++ (paired (by_ids sort.Module w) (ids c.number (length c.modules)) (ids d.number (length d.modules))))))
+
+entries_among : (w : Bool) (c d : Collection) (s : PairSort) (i j : ℕ) → EntriesStand c d (entries_by s (id_in c i) (id_in d j)) → Contains (all_entries w c d) (by_ids s w (id_in c i) (id_in d j))
+entries_among w c d sort.Defined i j h =
+    Contains-append_left (paired (by_ids sort.Defined w) (ids c.number (length c.defined)) (ids d.number (length d.defined))) (paired (by_ids sort.Func w) (ids c.number (length c.funcs)) (ids d.number (length d.funcs)) ++ (paired (by_ids sort.Interface w) (ids c.number (length c.interfaces)) (ids d.number (length d.interfaces)) ++ (paired (by_ids sort.World w) (ids c.number (length c.worlds)) (ids d.number (length d.worlds)) ++ (paired (by_ids sort.Module w) (ids c.number (length c.modules)) (ids d.number (length d.modules)))))) (by_ids sort.Defined w (id_in c i) (id_in d j)) (paired_among (by_ids sort.Defined w) (ids c.number (length c.defined)) (ids d.number (length d.defined)) (id_in c i) (id_in d j) (id_among c.number (length c.defined) (id_in c i) refl (simp length-map at h.0.1)) (id_among d.number (length d.defined) (id_in d j) refl (simp length-map at h.1.1)))
+entries_among w c d sort.Func i j h =
+    Contains-append_right (paired (by_ids sort.Defined w) (ids c.number (length c.defined)) (ids d.number (length d.defined))) (paired (by_ids sort.Func w) (ids c.number (length c.funcs)) (ids d.number (length d.funcs)) ++ (paired (by_ids sort.Interface w) (ids c.number (length c.interfaces)) (ids d.number (length d.interfaces)) ++ (paired (by_ids sort.World w) (ids c.number (length c.worlds)) (ids d.number (length d.worlds)) ++ (paired (by_ids sort.Module w) (ids c.number (length c.modules)) (ids d.number (length d.modules)))))) (by_ids sort.Func w (id_in c i) (id_in d j)) (Contains-append_left (paired (by_ids sort.Func w) (ids c.number (length c.funcs)) (ids d.number (length d.funcs))) (paired (by_ids sort.Interface w) (ids c.number (length c.interfaces)) (ids d.number (length d.interfaces)) ++ (paired (by_ids sort.World w) (ids c.number (length c.worlds)) (ids d.number (length d.worlds)) ++ (paired (by_ids sort.Module w) (ids c.number (length c.modules)) (ids d.number (length d.modules))))) (by_ids sort.Func w (id_in c i) (id_in d j)) (paired_among (by_ids sort.Func w) (ids c.number (length c.funcs)) (ids d.number (length d.funcs)) (id_in c i) (id_in d j) (id_among c.number (length c.funcs) (id_in c i) refl (simp length-map at h.0.1)) (id_among d.number (length d.funcs) (id_in d j) refl (simp length-map at h.1.1))))
+entries_among w c d sort.Interface i j h =
+    Contains-append_right (paired (by_ids sort.Defined w) (ids c.number (length c.defined)) (ids d.number (length d.defined))) (paired (by_ids sort.Func w) (ids c.number (length c.funcs)) (ids d.number (length d.funcs)) ++ (paired (by_ids sort.Interface w) (ids c.number (length c.interfaces)) (ids d.number (length d.interfaces)) ++ (paired (by_ids sort.World w) (ids c.number (length c.worlds)) (ids d.number (length d.worlds)) ++ (paired (by_ids sort.Module w) (ids c.number (length c.modules)) (ids d.number (length d.modules)))))) (by_ids sort.Interface w (id_in c i) (id_in d j)) (Contains-append_right (paired (by_ids sort.Func w) (ids c.number (length c.funcs)) (ids d.number (length d.funcs))) (paired (by_ids sort.Interface w) (ids c.number (length c.interfaces)) (ids d.number (length d.interfaces)) ++ (paired (by_ids sort.World w) (ids c.number (length c.worlds)) (ids d.number (length d.worlds)) ++ (paired (by_ids sort.Module w) (ids c.number (length c.modules)) (ids d.number (length d.modules))))) (by_ids sort.Interface w (id_in c i) (id_in d j)) (Contains-append_left (paired (by_ids sort.Interface w) (ids c.number (length c.interfaces)) (ids d.number (length d.interfaces))) (paired (by_ids sort.World w) (ids c.number (length c.worlds)) (ids d.number (length d.worlds)) ++ (paired (by_ids sort.Module w) (ids c.number (length c.modules)) (ids d.number (length d.modules)))) (by_ids sort.Interface w (id_in c i) (id_in d j)) (paired_among (by_ids sort.Interface w) (ids c.number (length c.interfaces)) (ids d.number (length d.interfaces)) (id_in c i) (id_in d j) (id_among c.number (length c.interfaces) (id_in c i) refl (simp length-map at h.0.1)) (id_among d.number (length d.interfaces) (id_in d j) refl (simp length-map at h.1.1)))))
+entries_among w c d sort.World i j h =
+    Contains-append_right (paired (by_ids sort.Defined w) (ids c.number (length c.defined)) (ids d.number (length d.defined))) (paired (by_ids sort.Func w) (ids c.number (length c.funcs)) (ids d.number (length d.funcs)) ++ (paired (by_ids sort.Interface w) (ids c.number (length c.interfaces)) (ids d.number (length d.interfaces)) ++ (paired (by_ids sort.World w) (ids c.number (length c.worlds)) (ids d.number (length d.worlds)) ++ (paired (by_ids sort.Module w) (ids c.number (length c.modules)) (ids d.number (length d.modules)))))) (by_ids sort.World w (id_in c i) (id_in d j)) (Contains-append_right (paired (by_ids sort.Func w) (ids c.number (length c.funcs)) (ids d.number (length d.funcs))) (paired (by_ids sort.Interface w) (ids c.number (length c.interfaces)) (ids d.number (length d.interfaces)) ++ (paired (by_ids sort.World w) (ids c.number (length c.worlds)) (ids d.number (length d.worlds)) ++ (paired (by_ids sort.Module w) (ids c.number (length c.modules)) (ids d.number (length d.modules))))) (by_ids sort.World w (id_in c i) (id_in d j)) (Contains-append_right (paired (by_ids sort.Interface w) (ids c.number (length c.interfaces)) (ids d.number (length d.interfaces))) (paired (by_ids sort.World w) (ids c.number (length c.worlds)) (ids d.number (length d.worlds)) ++ (paired (by_ids sort.Module w) (ids c.number (length c.modules)) (ids d.number (length d.modules)))) (by_ids sort.World w (id_in c i) (id_in d j)) (Contains-append_left (paired (by_ids sort.World w) (ids c.number (length c.worlds)) (ids d.number (length d.worlds))) (paired (by_ids sort.Module w) (ids c.number (length c.modules)) (ids d.number (length d.modules))) (by_ids sort.World w (id_in c i) (id_in d j)) (paired_among (by_ids sort.World w) (ids c.number (length c.worlds)) (ids d.number (length d.worlds)) (id_in c i) (id_in d j) (id_among c.number (length c.worlds) (id_in c i) refl (simp length-map at h.0.1)) (id_among d.number (length d.worlds) (id_in d j) refl (simp length-map at h.1.1))))))
+entries_among w c d sort.Module i j h =
+    Contains-append_right (paired (by_ids sort.Defined w) (ids c.number (length c.defined)) (ids d.number (length d.defined))) (paired (by_ids sort.Func w) (ids c.number (length c.funcs)) (ids d.number (length d.funcs)) ++ (paired (by_ids sort.Interface w) (ids c.number (length c.interfaces)) (ids d.number (length d.interfaces)) ++ (paired (by_ids sort.World w) (ids c.number (length c.worlds)) (ids d.number (length d.worlds)) ++ (paired (by_ids sort.Module w) (ids c.number (length c.modules)) (ids d.number (length d.modules)))))) (by_ids sort.Module w (id_in c i) (id_in d j)) (Contains-append_right (paired (by_ids sort.Func w) (ids c.number (length c.funcs)) (ids d.number (length d.funcs))) (paired (by_ids sort.Interface w) (ids c.number (length c.interfaces)) (ids d.number (length d.interfaces)) ++ (paired (by_ids sort.World w) (ids c.number (length c.worlds)) (ids d.number (length d.worlds)) ++ (paired (by_ids sort.Module w) (ids c.number (length c.modules)) (ids d.number (length d.modules))))) (by_ids sort.Module w (id_in c i) (id_in d j)) (Contains-append_right (paired (by_ids sort.Interface w) (ids c.number (length c.interfaces)) (ids d.number (length d.interfaces))) (paired (by_ids sort.World w) (ids c.number (length c.worlds)) (ids d.number (length d.worlds)) ++ (paired (by_ids sort.Module w) (ids c.number (length c.modules)) (ids d.number (length d.modules)))) (by_ids sort.Module w (id_in c i) (id_in d j)) (Contains-append_right (paired (by_ids sort.World w) (ids c.number (length c.worlds)) (ids d.number (length d.worlds))) (paired (by_ids sort.Module w) (ids c.number (length c.modules)) (ids d.number (length d.modules))) (by_ids sort.Module w (id_in c i) (id_in d j)) (paired_among (by_ids sort.Module w) (ids c.number (length c.modules)) (ids d.number (length d.modules)) (id_in c i) (id_in d j) (id_among c.number (length c.modules) (id_in c i) refl (simp length-map at h.0.1)) (id_among d.number (length d.modules) (id_in d j) refl (simp length-map at h.1.1))))))
 
 -- products of parts are within the product of the wholes
 pub within : (a x k m n : ℕ) → k ≤ m * n → a * x + k ≤ (a + m) * (x + n)
 within a x k m n h = omega (arith, add-mul a m (x + n), mul-add a x n, mul-add m x n)
 
-length-all_entries : (c d : Collection) → length (all_entries c d) ≤ entry_count c * entry_count d
-length-all_entries c d =
-    let defined_pairs = length-paired DefinedTypes (ids c.number (length c.defined)) (ids d.number (length d.defined)) in
-    let funcs_pairs = length-paired Funcs (ids c.number (length c.funcs)) (ids d.number (length d.funcs)) in
-    let interfaces_pairs = length-paired Interfaces (ids c.number (length c.interfaces)) (ids d.number (length d.interfaces)) in
-    let worlds_pairs = length-paired Worlds (ids c.number (length c.worlds)) (ids d.number (length d.worlds)) in
-    let modules_pairs = length-paired Modules (ids c.number (length c.modules)) (ids d.number (length d.modules)) in
+length-all_entries : (w : Bool) (c d : Collection) → length (all_entries w c d) ≤ entry_count c * entry_count d
+length-all_entries w c d =
+    let defined_pairs = length-paired (by_ids sort.Defined w) (ids c.number (length c.defined)) (ids d.number (length d.defined)) in
+    let funcs_pairs = length-paired (by_ids sort.Func w) (ids c.number (length c.funcs)) (ids d.number (length d.funcs)) in
+    let interfaces_pairs = length-paired (by_ids sort.Interface w) (ids c.number (length c.interfaces)) (ids d.number (length d.interfaces)) in
+    let worlds_pairs = length-paired (by_ids sort.World w) (ids c.number (length c.worlds)) (ids d.number (length d.worlds)) in
+    let modules_pairs = length-paired (by_ids sort.Module w) (ids c.number (length c.modules)) (ids d.number (length d.modules)) in
     let defined_left = length-ids c.number (length c.defined) in
     let defined_right = length-ids d.number (length d.defined) in
     let funcs_left = length-ids c.number (length c.funcs) in
@@ -119,27 +122,20 @@ length-all_entries c d =
     let all = mul-le (length c.defined + (length c.funcs + (length c.interfaces + (length c.worlds + (length c.modules))))) (length d.defined + (length d.funcs + (length d.interfaces + (length d.worlds + (length d.modules))))) (entry_count c) (entry_count d) (omega arith) (omega arith) in
     simp length-append (rw (defined_pairs, defined_left, defined_right, funcs_pairs, funcs_left, funcs_right, interfaces_pairs, interfaces_left, interfaces_right, worlds_pairs, worlds_left, worlds_right, modules_pairs, modules_left, modules_right) (omega (arith, bound_0, all)))
 
-abbrev with_side : Bool → Entries → EntryPair
-with_side s e = record { entries = e; swapped = s }
-
-pair_among : (c d : Collection) (p : EntryPair) → PairStands c d p → Contains (map (with_side false) (all_entries c d) ++ map (with_side true) (all_entries d c)) p
-pair_among c d p h = by_side p.entries p.swapped h
+pair_among : (c d : Collection) (p : EntryPair) → IsStanding c d p → Contains (all_entries false c d ++ all_entries true d c) p
+pair_among c d p h = by_side p.swapped h
   where
-    by_side : (e : Entries) (s : Bool) → EntriesStand (left_of c d s) (right_of c d s) e → Contains (map (with_side false) (all_entries c d) ++ map (with_side true) (all_entries d c)) (with_side s e)
-    by_side e false k = Contains-append_left (map (with_side false) (all_entries c d)) (map (with_side true) (all_entries d c)) (with_side false e) (contains_map (with_side false) (all_entries c d) e (entries_among c d e k))
-    by_side e true k = Contains-append_right (map (with_side false) (all_entries c d)) (map (with_side true) (all_entries d c)) (with_side true e) (contains_map (with_side true) (all_entries d c) e (entries_among d c e k))
+    by_side : (w : Bool) → EntriesStand (left_of c d w) (right_of c d w) (entries_by p.sort (id_in (left_of c d w) p.left) (id_in (right_of c d w) p.right)) → Contains (all_entries false c d ++ all_entries true d c) (record { left = p.left; right = p.right; sort = p.sort; swapped = w })
+    by_side false k = Contains-append_left (all_entries false c d) (all_entries true d c) (by_ids p.sort false (id_in c p.left) (id_in d p.right)) (entries_among false c d p.sort p.left p.right k)
+    by_side true k = Contains-append_right (all_entries false c d) (all_entries true d c) (by_ids p.sort true (id_in d p.left) (id_in c p.right)) (entries_among true d c p.sort p.left p.right k)
 
 -- pairs of two collections are no more than four times the product of the numbers of their entries
 pub pairs_bounded : (c d : Collection) (ps : List EntryPair) → ArePairsOf c d ps → length ps ≤ 4 * entry_count c * entry_count d
 pairs_bounded c d ps h =
-    let few = no_more ps (map (with_side false) (all_entries c d) ++ map (with_side true) (all_entries d c)) h.0 (λ p m. pair_among c d p (h.1 p m)) in
-    let total : length (map (with_side false) (all_entries c d) ++ map (with_side true) (all_entries d c)) ≡ length (all_entries c d) + length (all_entries d c) = simp (length-append, length-map) in
-    let left = length-all_entries c d in
-    let right = length-all_entries d c in
+    let few = no_more ps (all_entries false c d ++ all_entries true d c) h.0 (λ p m. pair_among c d p (h.1 p m)) in
+    let total : length (all_entries false c d ++ all_entries true d c) ≡ length (all_entries false c d) + length (all_entries true d c) = simp length-append in
+    let left = length-all_entries false c d in
+    let right = length-all_entries true d c in
     let turned : entry_count d * entry_count c ≡ entry_count c * entry_count d = mul_comm (entry_count d) (entry_count c) in
     let four : 4 * entry_count c * entry_count d ≡ 4 * (entry_count c * entry_count d) = mul_assoc 4 (entry_count c) (entry_count d) in
     omega (arith, few, total, left, right, turned, four)
-
--- a comparison that closed a pair, or opened one where there was room, is nearer to its end
-pub nearer : (b k k' o p o' : ℕ) → o ≡ p + 1 → k' ≤ b → (k' ≡ k) × (o' ≡ p) ⊎ ((k' ≡ k + 1) × (o' ≡ p + 2)) → 2 * (b - k') + o' < 2 * (b - k) + o
-nearer b k k' o p o' popped few closer = elim closer [ inl e ↦ (let known = e.0 in let open' = e.1 in omega arith) | inr e ↦ (let known = e.0 in let open' = e.1 in omega arith) ]

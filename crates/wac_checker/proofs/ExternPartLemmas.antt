@@ -22,6 +22,8 @@ use Rattle.wac_component.specs.declared.items.ItemKind.{ItemKind}
 use Rattle.wac_component.proofs.Lists.{slice_get-map}
 use Rattle.wac_mismatch.specs.Place.{item_side, place, turned}
 use Rattle.wac_mismatch.specs.Path.{Leads}
+use Rattle.wac_mismatch.specs.Holds.{Holds}
+use Rattle.wac_mismatch.specs.declared.fault.Fault.{Fault}
 use Rattle.wac_mismatch.specs.Steps.{IsExport, IsImportOf}
 use Rattle.wac_mismatch.proofs.PathLemmas.{explains_under, explains_below}
 use Rattle.wac_mismatch.specs.declared.check.SubtypeCheck.{SubtypeCheck}
@@ -29,11 +31,7 @@ use Rattle.wac_mismatch.specs.declared.error.SubtypeError.{SubtypeError}
 use Rattle.wac_mismatch.specs.declared.frame.Frame.{Frame}
 use Rattle.wac_checker.specs.Externs.{ExplainsExports, ExplainsImports}
 use Rattle.wac_checker.specs.Parts.{listed, IsServedAt, IsExportFrame, IsImportFrame}
-use Rattle.wac_checker.specs.Pairs.{AreItemsCompared, AreNamed, AreOfItems, AreSwapped, IsPlace, IsExternPart, IsImportPart, IsEntriesPart, EntriesFit, ExplainsEntries, IsBelow, HasPart, PartFits, PartsFit, import_count}
-use Rattle.wac_checker.specs.declared.pairs.Entries.{Entries}
-use Rattle.wac_checker.specs.declared.pairs.Entries.TheVariants.{Interfaces, Worlds}
-use Rattle.wac_checker.specs.declared.pairs.Part.{Part}
-use Rattle.wac_checker.specs.declared.pairs.Part.TheVariants.{End, Same, Below, Differs}
+use Rattle.wac_checker.specs.Pairs.{AreItemsCompared, AreNamed, AreOfItems, AreSwapped, IsPlace, IsExternPart, IsImportPart, IsEntriesPart, EntriesFit, ExplainsEntries, IsBelow, HasPart, PartFits, PartsFit, import_count, Entries, Interfaces, Worlds, Finding, End, Same, Below, EntriesPath, IsFrameOf}
 use Rattle.wac_checker.proofs.PartLemmas.{pair_of}
 use Rattle.wac_checker.proofs.PairLemmas.{explains_needed}
 use Rattle.wac_checker.proofs.ExternLemmas.{tree_named, leads_to_export, leads_to_import, extern_lower, named_lower}
@@ -80,11 +78,10 @@ all_served es ts h n = by_found (item_at ts n) refl
 
 -- ---- what is found at a place
 
-pub extern_found : (check : SubtypeCheck) (c d : Collection) (es ts : Externs) (i : ℕ) (n : Text) (x y : ItemKind) (p : Part) → IsPlace ts i → AreNamed es ts i n x y → AreItemsCompared check c d x y p → IsExternPart check c d es ts i p
+pub extern_found : (check : SubtypeCheck) (c d : Collection) (es ts : Externs) (i : ℕ) (n : Text) (x y : ItemKind) (p : Finding) → IsPlace ts i → AreNamed es ts i n x y → AreItemsCompared check c d x y p → IsExternPart check c d es ts i p
 extern_found check c d es ts i n x y End place' are h = elim h [ ]
 extern_found check c d es ts i n x y Same place' are h = (place', (n, x, y, are, h))
 extern_found check c d es ts i n x y (Below q) place' are h = (place', h.0, (n, x, y, are, h.1))
-extern_found check c d es ts i n x y (Differs e) place' are h = (place', (n, x, y, are, h))
 
 module _ (c d : Collection) (es ts : Externs) (i : ℕ) (n : Text) (x y : ItemKind) (are : AreNamed es ts i n x y) where
   served_here : Fits (item_tree c x) (item_tree d y) → IsServedAt (items_of (item_tree c) es) (items_of (item_tree d) ts) i
@@ -119,11 +116,11 @@ module _ (c d : Collection) (es ts : Externs) (i : ℕ) (n : Text) (x y : ItemKi
 module _ (check : SubtypeCheck) (c d : Collection) (a b : Id) (es ts : Externs) (i : ℕ)
     (left : (externs c (interface_key a)).exports ≡ items_of (item_tree c) es) (right : (externs d (interface_key b)).exports ≡ items_of (item_tree d) ts)
     (left_lower : keys_height c (named_keys item_keys es) < height c (interface_key a)) (right_lower : keys_height d (named_keys item_keys ts) < height d (interface_key b)) where
-  interface_place : IsPlace ts i → HasPart c d (Interfaces a b) i
+  pub interface_place : IsPlace ts i → HasPart c d (Interfaces a b) i
   interface_place h = (rw right (omega (arith, listed_count (item_tree d) ts, h.0)), omega (arith, h.1))
 
   -- the two fit only if the exports of this name do
-  interface_needed : (n : Text) (x y : ItemKind) → AreNamed es ts i n x y → EntriesFit c d (Interfaces a b) → Fits (item_tree c x) (item_tree d y)
+  pub interface_needed : (n : Text) (x y : ItemKind) → AreNamed es ts i n x y → EntriesFit c d (Interfaces a b) → Fits (item_tree c x) (item_tree d y)
   interface_needed n x y are fit = needed_here c d es ts i n x y are (rw (left, right) at (composite_fits (fit item)).exports)
 
   interface_below : (n : Text) (x y : ItemKind) (e : Entries) → AreNamed es ts i n x y → AreOfItems c d x y e → IsBelow c d (Interfaces a b) i (record { entries = e; swapped = false })
@@ -142,21 +139,18 @@ module _ (check : SubtypeCheck) (c d : Collection) (a b : Id) (es ts : Externs) 
     needed = λ fit. of.needed (interface_needed n x y are fit);
   }
 
-  interface_found : (p : Part) → IsExternPart check c d es ts i p → IsEntriesPart check c d (Interfaces a b) i p
+  pub interface_found : (p : Finding) → IsExternPart check c d es ts i p → IsEntriesPart check c d (Interfaces a b) i p
   interface_found End h = λ fit k. composites (all_served (externs c (interface_key a)).exports (externs d (interface_key b)).exports (λ j below. fit j (let count = rw right at below in omega (arith, listed_count (item_tree d) ts, count, h)))) (λ n. not_asked)
   interface_found Same h = (interface_place h.0, rw (left, right) (served_here c d es ts i h.1.0 h.1.1 h.1.2 h.1.3 h.1.4))
   interface_found (Below q) h = (interface_place h.0, subst (λ (s : Bool). IsBelow c d (Interfaces a b) i (record { entries = q.entries; swapped = s })) (sym h.1) (interface_below h.2.0 h.2.1 h.2.2 q.entries h.2.3 h.2.4))
-  interface_found (Differs e) h = (
-    interface_place h.0,
-    λ f is s under k.
-        let x = h.1 in
-        explains_under (λ g. g ≡ f) e s check (item_side (composite k interface no_items (externs c (interface_key a)).exports)) (item_side (composite k interface no_items (externs d (interface_key b)).exports)) (item_side (item_tree c x.1)) (item_side (item_tree d x.2)) under
-        (λ g same. rw same (leads_to_export check k interface no_items no_items (externs c (interface_key a)).exports (externs d (interface_key b)).exports x.0 (item_tree c x.1) (item_tree d x.2) (rw left (tree_named c es x.0 x.1 x.3.0)) (rw right (tree_named d ts x.0 x.2 x.3.2)) f (exported c d es ts i x.0 x.1 x.2 x.3 f (rw right at is)))) x.4,
-    let x = h.1 in explains_needed (EntriesFit c d (Interfaces a b)) e check (item_side (item_tree c x.1)) (item_side (item_tree d x.2)) x.4 (interface_needed x.0 x.1 x.2 x.3),
-  )
 
-  pub interface_answer : (r : Result Part SubtypeError) → MatchResult r (IsExternPart check c d es ts i) (ExplainsExports check (codes "instance") (items_of (item_tree c) es) (items_of (item_tree d) ts)) → MatchResult r (IsEntriesPart check c d (Interfaces a b) i) (ExplainsEntries check c d (Interfaces a b))
-  interface_answer r h = MatchResult-weaker r h (λ p x. interface_found p x) (λ e x k. rw (left, right) (x k interface no_items no_items refl))
+  -- the frame to exports that differ
+  pub interface_leads : (n : Text) (x y : ItemKind) → AreNamed es ts i n x y → (ch : SubtypeCheck) (f : Frame) (g : Fault) → IsExportFrame (externs d (interface_key b)).exports i f → Holds g (place ch (item_side (item_tree c x)) (item_side (item_tree d y))) → EntriesPath ch c d (Interfaces a b) (f ∷ []) g
+  interface_leads n x y are ch f g is holds k = (
+    place ch (item_side (item_tree c x)) (item_side (item_tree d y)),
+    leads_to_export ch k interface no_items no_items (externs c (interface_key a)).exports (externs d (interface_key b)).exports n (item_tree c x) (item_tree d y) (rw left (tree_named c es n x are.0)) (rw right (tree_named d ts n y are.2)) f (exported c d es ts i n x y are f (rw right at is)),
+    holds,
+  )
 
 -- ---- of worlds
 
@@ -171,7 +165,7 @@ module _ (check : SubtypeCheck) (c d : Collection) (a b : Id) (is js es ts : Ext
 
   -- an import
   module _ (within : i < length is) where
-    import_place : IsPlace is i → HasPart c d (Worlds a b) i
+    pub import_place : IsPlace is i → HasPart c d (Worlds a b) i
     import_place h = let n = counted in (omega arith, omega (arith, h.1))
 
     import_here : (n : Text) (x y : ItemKind) → AreNamed js is i n y x → Fits (item_tree d y) (item_tree c x) → PartFits c d (Worlds a b) i
@@ -183,7 +177,7 @@ module _ (check : SubtypeCheck) (c d : Collection) (a b : Id) (is js es ts : Ext
         leads_to_import ch k (externs c (world_key a)).imports (externs d (world_key b)).imports (externs c (world_key a)).exports (externs d (world_key b)).exports n (item_tree c x) (item_tree d y) (rw left_imports (tree_named c is n x are.2)) (rw right_imports (tree_named d js n y are.0)) f (imported d c js is i n y x are f (rw left_imports at (frame at)))
 
     -- the two fit only if the imports of this name do
-    import_needed : (n : Text) (x y : ItemKind) → AreNamed js is i n y x → EntriesFit c d (Worlds a b) → Fits (item_tree d y) (item_tree c x)
+    pub import_needed : (n : Text) (x y : ItemKind) → AreNamed js is i n y x → EntriesFit c d (Worlds a b) → Fits (item_tree d y) (item_tree c x)
     import_needed n x y are fit = needed_here d c js is i n y x are (rw (left_imports, right_imports) at (composite_fits (fit item)).imports)
 
     import_below : (n : Text) (x y : ItemKind) (e : Entries) → AreNamed js is i n y x → AreOfItems d c y x e → IsBelow c d (Worlds a b) i (record { entries = e; swapped = true })
@@ -198,7 +192,7 @@ module _ (check : SubtypeCheck) (c d : Collection) (a b : Id) (is js es ts : Ext
       needed = λ fit. of.needed (import_needed n x y are fit);
     }
 
-    import_found : (p q : Part) → AreSwapped p q → IsExternPart (turned check) d c js is i p → IsEntriesPart check c d (Worlds a b) i q
+    pub import_found : (p q : Finding) → AreSwapped p q → IsExternPart (turned check) d c js is i p → IsEntriesPart check c d (Worlds a b) i q
     import_found End q s h = absurd (omega (arith, within, h))
     import_found Same q s h = rw s (import_place h.0, import_here h.1.0 h.1.2 h.1.1 h.1.3 h.1.4)
     import_found (Below p) (Below q) s h = (import_place h.0, import_pair q.entries q.swapped (s.1 ∙ ap not h.1) (subst (λ (e : Entries). AreOfItems d c h.2.1 h.2.2 e) (sym s.0) h.2.4))
@@ -206,17 +200,9 @@ module _ (check : SubtypeCheck) (c d : Collection) (a b : Id) (is js es ts : Ext
         import_pair : (e : Entries) (t : Bool) → t ≡ true → AreOfItems d c h.2.1 h.2.2 e → IsBelow c d (Worlds a b) i (record { entries = e; swapped = t })
         import_pair e t turned' of = subst (λ (u : Bool). IsBelow c d (Worlds a b) i (record { entries = e; swapped = u })) (sym turned') (import_below h.2.0 h.2.2 h.2.1 e h.2.3 of)
     import_found (Below p) _ s h = elim s [ ]
-    import_found (Differs e) q s h = rw s (
-      import_place h.0,
-      λ f frame r under k.
-          let x = h.1 in
-          explains_below (λ g. g ≡ f) e r check (turned check) (item_side (composite k world (externs c (world_key a)).imports (externs c (world_key a)).exports)) (item_side (composite k world (externs d (world_key b)).imports (externs d (world_key b)).exports)) (item_side (item_tree d x.1)) (item_side (item_tree c x.2)) under
-          (λ g same. rw same (import_leads x.0 x.2 x.1 x.3 check f frame.0 k)) x.4,
-      let x = h.1 in explains_needed (EntriesFit c d (Worlds a b)) e (turned check) (item_side (item_tree d x.1)) (item_side (item_tree c x.2)) x.4 (import_needed x.0 x.2 x.1 x.3),
-    )
 
-    pub import_answer : (r : Result Part SubtypeError) → MatchResult r (IsImportPart check c d is js i) (ExplainsImports check (items_of (item_tree c) is) (items_of (item_tree d) js)) → MatchResult r (IsEntriesPart check c d (Worlds a b) i) (ExplainsEntries check c d (Worlds a b))
-    import_answer r h = MatchResult-weaker r h (λ p x. import_found x.0 p x.1 x.2) (λ e x k. rw (left_imports, right_imports) (x k (externs c (world_key a)).exports (externs d (world_key b)).exports))
+    pub import_path : (n : Text) (x y : ItemKind) → AreNamed js is i n y x → (ch : SubtypeCheck) (f : Frame) (g : Fault) → IsFrameOf c d (Worlds a b) i f → Holds g (place (turned ch) (item_side (item_tree d y)) (item_side (item_tree c x))) → EntriesPath ch c d (Worlds a b) (f ∷ []) g
+    import_path n x y are ch f g frame holds k = (place (turned ch) (item_side (item_tree d y)) (item_side (item_tree c x)), import_leads n x y are ch f frame.0 k, holds)
 
   -- an export
   module _ (past : length is ≤ i) (few : length is < 2 ^ 63) where
@@ -226,7 +212,7 @@ module _ (check : SubtypeCheck) (c d : Collection) (a b : Id) (is js es ts : Ext
     from_start : i - import_count c a ≡ i - length is
     from_start = ap (λ (n : ℕ). i - n) counted
 
-    export_place : IsPlace ts (i - length is) → HasPart c d (Worlds a b) i
+    pub export_place : IsPlace ts (i - length is) → HasPart c d (Worlds a b) i
     export_place h = let n = counted in let m : length (listed (externs d (world_key b)).exports) ≡ length ts = rw right_exports (listed_count (item_tree d) ts) in (omega (arith, h.0), omega (arith, h.1))
 
     export_here : (n : Text) (x y : ItemKind) → AreNamed es ts (i - length is) n x y → Fits (item_tree c x) (item_tree d y) → PartFits c d (Worlds a b) i
@@ -237,7 +223,7 @@ module _ (check : SubtypeCheck) (c d : Collection) (a b : Id) (is js es ts : Ext
         leads_to_export ch k world (externs c (world_key a)).imports (externs d (world_key b)).imports (externs c (world_key a)).exports (externs d (world_key b)).exports n (item_tree c x) (item_tree d y) (rw left_exports (tree_named c es n x are.0)) (rw right_exports (tree_named d ts n y are.2)) f (exported c d es ts (i - length is) n x y are f (rw (right_exports, from_start) at (frame after)))
 
     -- and only if the exports do
-    export_needed : (n : Text) (x y : ItemKind) → AreNamed es ts (i - length is) n x y → EntriesFit c d (Worlds a b) → Fits (item_tree c x) (item_tree d y)
+    pub export_needed : (n : Text) (x y : ItemKind) → AreNamed es ts (i - length is) n x y → EntriesFit c d (Worlds a b) → Fits (item_tree c x) (item_tree d y)
     export_needed n x y are fit = needed_here c d es ts (i - length is) n x y are (rw (left_exports, right_exports) at (composite_fits (fit item)).exports)
 
     export_below : (n : Text) (x y : ItemKind) (e : Entries) → AreNamed es ts (i - length is) n x y → AreOfItems c d x y e → IsBelow c d (Worlds a b) i (record { entries = e; swapped = false })
@@ -263,21 +249,13 @@ module _ (check : SubtypeCheck) (c d : Collection) (a b : Id) (is js es ts : Ext
         let here : (import_count c a + j) - import_count c a ≡ j = omega arith in
         subst (λ (l : ℕ). IsServedAt (externs c (world_key a)).exports (externs d (world_key b)).exports l) here ((fit (import_count c a + j) (omega arith)).1 (omega arith)))
 
-    export_found : (p : Part) → IsExternPart check c d es ts (i - length is) p → IsEntriesPart check c d (Worlds a b) i p
+    pub export_found : (p : Finding) → IsExternPart check c d es ts (i - length is) p → IsEntriesPart check c d (Worlds a b) i p
     export_found End h = λ fit k. composites (exports_served h fit) (imports_served fit)
     export_found Same h = (export_place h.0, export_here h.1.0 h.1.1 h.1.2 h.1.3 h.1.4)
     export_found (Below q) h = (export_place h.0, subst (λ (s : Bool). IsBelow c d (Worlds a b) i (record { entries = q.entries; swapped = s })) (sym h.1) (export_below h.2.0 h.2.1 h.2.2 q.entries h.2.3 h.2.4))
-    export_found (Differs e) h = (
-      export_place h.0,
-      λ f frame s under k.
-          let x = h.1 in
-          explains_under (λ g. g ≡ f) e s check (item_side (composite k world (externs c (world_key a)).imports (externs c (world_key a)).exports)) (item_side (composite k world (externs d (world_key b)).imports (externs d (world_key b)).exports)) (item_side (item_tree c x.1)) (item_side (item_tree d x.2)) under
-          (λ g same. rw same (export_leads x.0 x.1 x.2 x.3 check f frame.1 k)) x.4,
-      let x = h.1 in explains_needed (EntriesFit c d (Worlds a b)) e check (item_side (item_tree c x.1)) (item_side (item_tree d x.2)) x.4 (export_needed x.0 x.1 x.2 x.3),
-    )
 
-    pub export_answer : (r : Result Part SubtypeError) → MatchResult r (IsExternPart check c d es ts (i - length is)) (ExplainsExports check (codes "component") (items_of (item_tree c) es) (items_of (item_tree d) ts)) → MatchResult r (IsEntriesPart check c d (Worlds a b) i) (ExplainsEntries check c d (Worlds a b))
-    export_answer r h = MatchResult-weaker r h (λ p x. export_found p x) (λ e x k. rw (left_exports, right_exports) (x k world (externs c (world_key a)).imports (externs d (world_key b)).imports refl))
+    pub export_path : (n : Text) (x y : ItemKind) → AreNamed es ts (i - length is) n x y → (ch : SubtypeCheck) (f : Frame) (g : Fault) → IsFrameOf c d (Worlds a b) i f → Holds g (place ch (item_side (item_tree c x)) (item_side (item_tree d y))) → EntriesPath ch c d (Worlds a b) (f ∷ []) g
+    export_path n x y are ch f g frame holds k = (place ch (item_side (item_tree c x)) (item_side (item_tree d y)), export_leads n x y are ch f frame.1 k, holds)
 
 -- ---- frames
 

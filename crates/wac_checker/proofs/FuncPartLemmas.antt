@@ -26,9 +26,8 @@ use Rattle.wac_mismatch.specs.declared.check.SubtypeCheck.{SubtypeCheck}
 use Rattle.wac_mismatch.specs.declared.error.SubtypeError.{SubtypeError}
 use Rattle.wac_mismatch.specs.declared.frame.Frame.{Frame}
 use Rattle.wac_checker.specs.Parts.{func_parts, IsIndex, SamePart, SameBefore, AreAt, IsFrameAt}
-use Rattle.wac_checker.specs.Pairs.{IsValuePart}
+use Rattle.wac_checker.specs.Pairs.{IsValuePart, Finding}
 use Rattle.wac_checker.specs.Verdict.{ExplainsFuncs}
-use Rattle.wac_checker.specs.declared.pairs.Part.{Part}
 use Rattle.wac_checker.proofs.ListLemmas.{same_list}
 use Rattle.wac_checker.proofs.FuncLemmas.{params_of, param_at, name_at, length-params, leads_to_param}
 use Rattle.wac_checker.proofs.PartLemmas.{pair_of, part_below}
@@ -103,11 +102,3 @@ funcs_same x y i k a l b same =
 pub param_frame_at : (c : Collection) (f : FuncType) (t : FuncTree) (i : ℕ) (r : Result Frame AllocError) → t ≡ func_content_tree c (func_content f) → i < length f.params.entries → IfOk r (λ g. (n : Text) × (slice_get (names f.params.entries) i ≡ Some n) × IsParameter n g) → (k : Kind) → IfOk r (IsFrameAt (item_side (leaf k (func t))) i)
 param_frame_at c f t i (Ok g) e b h k = rw e ((λ _. (h.0, name_at c f.params.entries i h.0 h.1, h.2)), (λ past. absurd (omega (arith, length-params c f.params.entries))))
 param_frame_at c f t i (Err e') e b h k = tt
-
-module _ (check : SubtypeCheck) (c d : Collection) (a b : Id) (f g : FuncType) (i : ℕ)
-    (left_tree : func_tree c a ≡ func_content_tree c (func_content f)) (right_tree : func_tree d b ≡ func_content_tree d (func_content g))
-    (left_lower : keys_height c (func_keys (func_content f)) < height c (func_key a)) (right_lower : keys_height d (func_keys (func_content g)) < height d (func_key b)) where
-  -- what is found of what two functions say is found of the two
-  pub found_of_func : (r : Result Part SubtypeError) → MatchResult r (λ p. (k : Kind) → IsValuePart check c d (item_side (leaf k (func (func_content_tree c (func_content f))))) (item_side (leaf k (func (func_content_tree d (func_content g))))) (keys_height c (func_keys (func_content f)) + 1) (keys_height d (func_keys (func_content g)) + 1) i p) (ExplainsFuncs check (func_content_tree c (func_content f)) (func_content_tree d (func_content g)))
-      → MatchResult r (λ p. (k : Kind) → IsValuePart check c d (item_side (leaf k (func (func_tree c a)))) (item_side (leaf k (func (func_tree d b)))) (height c (func_key a)) (height d (func_key b)) i p) (ExplainsFuncs check (func_tree c a) (func_tree d b))
-  found_of_func r h = rw (left_tree, right_tree) (MatchResult-weaker r h (λ p x k. part_below check c d (item_side (leaf k (func (func_content_tree c (func_content f))))) (item_side (leaf k (func (func_content_tree d (func_content g))))) (keys_height c (func_keys (func_content f)) + 1) (keys_height d (func_keys (func_content g)) + 1) (height c (func_key a)) (height d (func_key b)) i (omega arith) (omega arith) p (x k)) (λ e x. x))

@@ -1,7 +1,6 @@
 -- What is left to compare of two items.
 use Rattle.std.proofs.lemmas.Grind.{common_steps}
 use Rattle.std.proofs.Common.{◌≡◌, ◌==◌, ◌&&◌, Bool, true, false, refl, ap, sym, subst, ◌∙◌, arith}
-use Rattle.std.specs.Prelude.{Result, MatchResult, Ok, Err}
 use Rattle.wac_model.specs.CoreTree.{ModuleTree}
 use Rattle.wac_model.specs.ValueTree.{ValueTree}
 use Rattle.wac_model.specs.ItemTree.{Kind, Leaf, Shape, Items, leaf, core_module, composite, value, item, type_item}
@@ -17,19 +16,8 @@ use Rattle.wac_component.specs.declared.items.ValueType.{ValueType}
 use Rattle.wac_component.specs.declared.items.ValueType.TheVariants.{Defined}
 use Rattle.wac_component.specs.declared.items.Type.TheVariants.{Func as TypeFunc, Interface as TypeInterface, World as TypeWorld, Module as TypeModule}
 use Rattle.wac_mismatch.specs.Place.{item_side}
-use Rattle.wac_mismatch.specs.Path.{Explains}
-use Rattle.wac_mismatch.specs.declared.check.SubtypeCheck.{SubtypeCheck}
-use Rattle.wac_mismatch.specs.declared.error.SubtypeError.{SubtypeError}
-use Rattle.std.proofs.lemmas.Result.{MatchResult-weaker}
-use Rattle.wac_mismatch.specs.declared.error.SubtypeError.TheVariants.{Mismatch, Memory}
-use Rattle.wac_checker.specs.Verdict.{IsItemVerdict}
-use Rattle.wac_checker.specs.declared.pairs.EntryPair.{EntryPair}
-use Rattle.wac_checker.specs.Pairs.{PairFits, PairStands, ExplainsPair, ExplainsEntries, AreValuesCompared, AreItemsCompared, AreLeftUnless, AreOf, AreOfItems}
-use Rattle.wac_checker.specs.declared.pairs.Entries.{Entries}
-use Rattle.wac_checker.specs.declared.pairs.Entries.TheVariants.{DefinedTypes, Funcs, Interfaces, Worlds, Modules}
-use Rattle.wac_checker.specs.declared.pairs.Part.{Part}
-use Rattle.wac_checker.specs.declared.pairs.Part.TheVariants.{End, Same, Below, Differs}
-use Rattle.wac_checker.proofs.ItemLemmas.{equal_leaves, explains_values, values_path}
+use Rattle.wac_checker.specs.Pairs.{AreOf, AreOfItems, Entries, DefinedTypes, Funcs, Interfaces, Worlds, Modules}
+use Rattle.wac_checker.proofs.ItemLemmas.{equal_leaves, values_path}
 
 -- ---- items that are those of entries
 
@@ -77,17 +65,6 @@ one_fits c d x y j k one h m same keys =
     let numbers : c.number ≡ d.number = sym h.0 ∙ ap (λ (q : Key). q.id.number) keys ∙ m.0 in
     rw (one numbers, same) (Fits-refl (item_tree d y))
 
-module _ (check : SubtypeCheck) (c d : Collection) (x y : ItemKind) where
-  pub items_left : (b : Bool) (e : Entries) (p : Part) → (b ≡ true → Fits (item_tree c x) (item_tree d y)) → AreOfItems c d x y e → AreLeftUnless b e p → AreItemsCompared check c d x y p
-  items_left true e p same of h = rw h (same refl)
-  items_left false e (Below q) same of h = (h.0, subst (λ (f : Entries). AreOfItems c d x y f) (sym h.1) of)
-  items_left false e _ same of h = elim h [ ]
-
-  -- of leaves
-  pub leaf_found : (r : Result (Unit {0}) SubtypeError) (p : Part) → MatchResult r (λ _. Fits (item_tree c x) (item_tree d y)) (λ e. Explains e check (item_side (item_tree c x)) (item_side (item_tree d y))) → MatchResult r (λ _. p ≡ Same) (λ e. p ≡ Differs e) → AreItemsCompared check c d x y p
-  leaf_found (Ok u) p h is = rw is h
-  leaf_found (Err e) p h is = rw is h
-
 pub ids_same : (a b : Id) (t : Bool) → t ≡ (a.number == b.number && a.index == b.index) → t ≡ true → a ≡ b
 ids_same a b t e h =
     let numbers : a.number ≡ b.number = grind (arith, common_steps) in
@@ -97,9 +74,9 @@ ids_same a b t e h =
 value_one : (s t : ValueTree) → value s ≡ value t → s ≡ t
 value_one s t h = cc
 
-module _ (check : SubtypeCheck) (c d : Collection) (x y : ItemKind) (k : Kind) (v w : ValueType)
+module _ (c d : Collection) (x y : ItemKind) (k : Kind) (v w : ValueType)
     (left : item_tree c x ≡ leaf k (value (value_tree c v))) (right : item_tree d y ≡ leaf k (value (value_tree d w))) (left_keys : item_keys x ≡ value_keys v) (right_keys : item_keys y ≡ value_keys w) where
-  of_values : (e : Entries) → AreOf c d v w e → AreOfItems c d x y e
+  pub of_values : (e : Entries) → AreOf c d v w e → AreOfItems c d x y e
   of_values (DefinedTypes a b) h = record {
     stand = h.2;
     left_lower = rw left_keys h.3;
@@ -112,23 +89,3 @@ module _ (check : SubtypeCheck) (c d : Collection) (x y : ItemKind) (k : Kind) (
   of_values (Interfaces a b) h = elim h [ ]
   of_values (Worlds a b) h = elim h [ ]
   of_values (Modules a b) h = elim h [ ]
-
-  -- of values
-  pub values_found : (p : Part) → AreValuesCompared check c d v w p → AreItemsCompared check c d x y p
-  values_found End h = elim h [ ]
-  values_found Same h = rw (left, right) (equal_leaves k (value (value_tree c v)) (value (value_tree d w)) (ap value h))
-  values_found (Below q) h = (h.0, of_values q.entries h.1)
-  values_found (Differs e) h = rw (left, right) (explains_values e check k (value_tree c v) (value_tree d w) h)
-
--- ---- what is found of the pair of two items is found of these
-
-module _ (check : SubtypeCheck) (c d : Collection) (x y : ItemKind) (q : EntryPair) (straight : q.swapped ≡ false) (of : AreOfItems c d x y q.entries) where
-  pub pair_stands : PairStands c d q
-  pair_stands = rw straight of.stand
-
-  item_explained : (e : SubtypeError) → ExplainsEntries check c d q.entries e → Explains e check (item_side (item_tree c x)) (item_side (item_tree d y))
-  item_explained (Mismatch frames f) h = of.leads check frames.items f h
-  item_explained Memory h = tt
-
-  pub item_answer : (r : Result (Unit {0}) SubtypeError) → MatchResult r (λ _. PairFits c d q) (ExplainsPair check c d q) → IsItemVerdict r check (item_tree c x) (item_tree d y)
-  item_answer r h = let straight_answer = rw straight at h in MatchResult-weaker r straight_answer (λ _ fits. of.enough fits) item_explained

@@ -1,7 +1,7 @@
 -- Pairs: when two are one, and what is found of their parts.
 use Rattle.std.specs.List.{list_any, Contains}
 use Rattle.std.proofs.lemmas.Map.Views.{Contains-from_any}
-use Rattle.std.proofs.Common.{◌≡◌, ◌||◌, ◌++◌, if◌then◌else◌, ℕ, zero, suc, List, [], ◌∷◌, Bool, true, false, Option, Some, slice_get, refl, ap, sym, subst, ◌∙◌, arith, rules}
+use Rattle.std.proofs.Common.{◌≡◌, ◌||◌, ◌++◌, if◌then◌else◌, ℕ, zero, suc, List, [], ◌∷◌, Bool, true, false, Option, Some, slice_get, refl, ap, sym, subst, ◌∙◌, arith, rules, ◌≢◌}
 use Rattle.std.specs.Prelude.{Result, MatchResult, IfOk, Ok, Err}
 use Rattle.std.specs.declared.alloc.AllocError.{AllocError}
 use Rattle.wac_mismatch.specs.declared.frame.Frame.{Frame}
@@ -26,45 +26,20 @@ use Rattle.wac_mismatch.specs.declared.error.SubtypeError.{SubtypeError}
 use Rattle.wac_checker.proofs.ItemLemmas.{equal_leaves}
 use Rattle.wac_checker.proofs.PartLemmas.{pair_of}
 use Rattle.wac_checker.specs.Parts.{side_parts, AreAt}
-use Rattle.wac_checker.specs.Pairs.{HaveAt, IsValuePart, IsBelow, IsBelowPair, IsEntriesPart, EntriesFit, ExplainsEntries, HasPart, left_of, right_of, placed}
-use Rattle.wac_checker.specs.Steps.{IsFound}
-use Rattle.wac_checker.specs.declared.pairs.Found.TheVariants.{Known, New}
-use Rattle.wac_checker.specs.declared.pairs.Entries.{Entries}
-use Rattle.wac_checker.specs.declared.pairs.Entries.TheVariants.{DefinedTypes, Funcs, Interfaces, Worlds, Modules}
-use Rattle.wac_checker.specs.declared.pairs.EntryPair.{EntryPair}
-use Rattle.wac_checker.specs.declared.pairs.Part.{Part}
-use Rattle.wac_checker.specs.declared.pairs.Part.TheVariants.{End, Same, Below, Differs}
-use Rattle.wac_checker.specs.contracts.pairs.EntryPairPartialEq.TheImpl.{ghosts}
-
--- `==` tells pairs apart
-pub pair_exact : (p q : EntryPair) → ghosts.eq p q ≡ true → p ≡ q
-pair_exact p q h = search rules
-
-pub pair_equal : (p : EntryPair) → ghosts.eq p p ≡ true
-pair_equal p = search rules
-
-or_true : (b : Bool) → (b || true) ≡ true
-or_true true = refl
-or_true false = refl
-
--- a pair of a list is found there
-pub pair_found : (q : EntryPair) (ps : List EntryPair) → Contains ps q → list_any (ghosts.eq q) ps ≡ true
-pair_found q [] m = absurd (omega (arith, m.1))
-pair_found q (p ∷ ps) (zero, l, e) = rw (e, pair_equal q) refl
-pair_found q (p ∷ ps) (suc i, l, e) = rw (pair_found q ps (i, omega (arith, l), e)) (or_true (ghosts.eq q p))
+use Rattle.wac_checker.specs.Pairs.{HaveAt, IsValuePart, IsBelow, IsBelowPair, IsEntriesPart, EntriesFit, ExplainsEntries, HasPart, left_of, right_of, placed, Entries, DefinedTypes, Funcs, Interfaces, Worlds, Modules, Finding, End, Same, Below, Two, left_side, right_side}
 
 turned_twice : (check : SubtypeCheck) → turned (turned check) ≡ check
 turned_twice Covariant = refl
 turned_twice Contravariant = refl
 
-leaf_one : (k : Kind) (x y : Leaf) → item_side (leaf k x) ≡ item_side (leaf k y) → x ≡ y
+pub leaf_one : (k : Kind) (x y : Leaf) → item_side (leaf k x) ≡ item_side (leaf k y) → x ≡ y
 leaf_one k x y h = cc
 
 pub trees_one : (x y : ValueTree) → value_side x ≡ value_side y → x ≡ y
 trees_one x y h = cc
 
 -- the parts at a place of one side are one
-parts_one : (s t : Side) (i : ℕ) (x y : ValueTree) → AreAt s t i x y → s ≡ t → x ≡ y
+pub parts_one : (s t : Side) (i : ℕ) (x y : ValueTree) → AreAt s t i x y → s ≡ t → x ≡ y
 parts_one s t i x y at same =
     let both = pair_of (at.0, Some x) (at.0, Some y) (sym at.1 ∙ ap (λ (u : Side). slice_get (side_parts u) i) same ∙ at.2) in
     let trees : Some x ≡ Some y = ap (λ (p : Text × Option ValueTree). p.1) both in cc
@@ -93,15 +68,10 @@ module _ (check : SubtypeCheck) (c d : Collection) (a b : Id) (i : ℕ) where
   below_of (Worlds x y) h = elim h [ ]
   below_of (Modules x y) h = elim h [ ]
 
-  pub entries_of_defined : (p : Part) → IsValuePart check c d (value_side (value_tree c (Defined a))) (value_side (value_tree d (Defined b))) (height c (defined_key a)) (height d (defined_key b)) i p → IsEntriesPart check c d (DefinedTypes a b) i p
+  pub entries_of_defined : (p : Finding) → IsValuePart check c d (value_side (value_tree c (Defined a))) (value_side (value_tree d (Defined b))) (height c (defined_key a)) (height d (defined_key b)) i p → IsEntriesPart check c d (DefinedTypes a b) i p
   entries_of_defined End h = λ fit k. trees_one (value_tree c (Defined a)) (value_tree d (Defined b)) (h fit)
   entries_of_defined Same h = h
   entries_of_defined (Below q) h = (h.0, subst (λ (s : Bool). IsBelow c d (DefinedTypes a b) i (record { entries = q.entries; swapped = s })) (sym h.1) (below_of q.entries h.2))
-  entries_of_defined (Differs e) h = (
-    h.0,
-    λ f is s under k. explains_under (λ g. g ≡ f) e s check (value_side (value_tree c (Defined a))) (value_side (value_tree d (Defined b))) (value_side h.1) (value_side h.2) under (λ g same. rw same (h.3.3 check f is)) h.4,
-    explains_needed (EntriesFit c d (DefinedTypes a b)) e check (value_side h.1) (value_side h.2) h.4 (parts_needed h.1 h.2 h.3),
-  )
 
 -- and so of two functions
 module _ (check : SubtypeCheck) (c d : Collection) (a b : Id) (i : ℕ) where
@@ -121,18 +91,13 @@ module _ (check : SubtypeCheck) (c d : Collection) (a b : Id) (i : ℕ) where
   below_of_func (Worlds x y) h = elim (h item) [ ]
   below_of_func (Modules x y) h = elim (h item) [ ]
 
-  pub entries_of_func : (p : Part) → ((k : Kind) → IsValuePart check c d (item_side (leaf k (func (func_tree c a)))) (item_side (leaf k (func (func_tree d b)))) (height c (func_key a)) (height d (func_key b)) i p) → IsEntriesPart check c d (Funcs a b) i p
+  pub entries_of_func : (p : Finding) → ((k : Kind) → IsValuePart check c d (item_side (leaf k (func (func_tree c a)))) (item_side (leaf k (func (func_tree d b)))) (height c (func_key a)) (height d (func_key b)) i p) → IsEntriesPart check c d (Funcs a b) i p
   entries_of_func End h = λ fit k. equal_leaves k (func (func_tree c a)) (func (func_tree d b)) (leaf_one k (func (func_tree c a)) (func (func_tree d b)) (h k fit))
   entries_of_func Same h = h item
   entries_of_func (Below q) h = ((h item).0, subst (λ (s : Bool). IsBelow c d (Funcs a b) i (record { entries = q.entries; swapped = s })) (sym (h item).1) (below_of_func q.entries (λ k. (h k).2)))
-  entries_of_func (Differs e) h = (
-    (h item).0,
-    λ f is s under k. let x = h k in explains_under (λ g. g ≡ f) e s check (item_side (leaf k (func (func_tree c a)))) (item_side (leaf k (func (func_tree d b)))) (value_side x.1) (value_side x.2) under (λ g same. rw same (x.3.3 check f is)) x.4,
-    let x = h item in explains_needed (EntriesFit c d (Funcs a b)) e check (value_side x.1) (value_side x.2) x.4 (func_parts_needed x.1 x.2 x.3),
-  )
 
 -- a pair below two entries, told from the collections of the pair that has them
-pub below_pair : (c d : Collection) (p : EntryPair) (i : ℕ) (q : EntryPair) → IsBelow (left_of c d p.swapped) (right_of c d p.swapped) p.entries i q → IsBelowPair c d p i (placed p.swapped q)
+pub below_pair : (c d : Collection) (p : Two) (i : ℕ) (q : Two) → IsBelow (left_of c d p.swapped) (right_of c d p.swapped) p.entries i q → IsBelowPair c d p i (placed p.swapped q)
 below_pair c d p i q h = by_cases p.entries q.entries p.swapped q.swapped h
   where
     by_cases : (e f : Entries) (s t : Bool) → IsBelow (left_of c d s) (right_of c d s) e i (record { entries = f; swapped = t }) → IsBelowPair c d (record { entries = e; swapped = s }) i (placed s (record { entries = f; swapped = t }))
@@ -141,24 +106,17 @@ below_pair c d p i q h = by_cases p.entries q.entries p.swapped q.swapped h
     by_cases e f true false h = record { stand = h.stand; lower = h.lower; enough = h.enough; leads = λ check. h.leads (turned check); needed = h.needed }
     by_cases e f true true h = record { stand = h.stand; lower = h.lower; enough = h.enough; leads = λ check f is gs g path. h.leads (turned check) f is gs g (rw (turned_twice check) path); needed = h.needed }
 
--- what is found of the parts of a pair
-module _ (c d : Collection) (ps : List EntryPair) (p : EntryPair) (i : ℕ) (q : EntryPair) (h : HasPart (left_of c d p.swapped) (right_of c d p.swapped) p.entries i × IsBelow (left_of c d p.swapped) (right_of c d p.swapped) p.entries i q) where
-  pub known_below : Contains ps (placed p.swapped q) → IsFound c d ps p i Known
-  known_below m = let below = below_pair c d p i q h.1 in (h.0, λ all. below.enough (all (placed p.swapped q) m below.lower))
-
-  pub new_below : (Contains ps (placed p.swapped q) → ⊥) → IsFound c d ps p i (New (placed p.swapped q))
-  new_below none = (h.0, none, below_pair c d p i q h.1)
-
 -- a refusal to which a frame was put explains the two that have the parts
 pub framed_explains : (check : SubtypeCheck) (c d : Collection) (e : Entries) (P : Frame → Type 0) (frame : Result Frame AllocError) (r s : SubtypeError) → MatchResult frame (λ f. IsUnder (λ g. g ≡ f) r s) (λ _. s ≡ Memory) → IfOk frame P
     → ((f : Frame) → P f → (t : SubtypeError) → IsUnder (λ g. g ≡ f) r t → ExplainsEntries check c d e t) → ExplainsEntries check c d e s
 framed_explains check c d e P (Ok f) r s under is explains = explains f is s under
 framed_explains check c d e P (Err x) r s under is explains = λ k. rw under tt
 
--- a pair that isn't in a list goes last
-pub put_last : (ps : List EntryPair) (p : EntryPair) → (Contains ps p → ⊥) → (if list_any (ghosts.eq p) ps then ps else ps ++ p ∷ []) ≡ ps ++ p ∷ []
-put_last ps p none = by_test (list_any (ghosts.eq p) ps) refl
-  where
-    by_test : (b : Bool) → list_any (ghosts.eq p) ps ≡ b → (if b then ps else ps ++ p ∷ []) ≡ ps ++ p ∷ []
-    by_test true there = absurd (none (Contains-from_any pair_exact p ps there))
-    by_test false there = refl
+-- what a mismatch refutes doesn't hold
+pub refuted : (e : SubtypeError) (P : Type 0) → Refutes e P → e ≢ Memory → ¬ P
+refuted (Mismatch frames f) P h some = h
+refuted Memory P h some = absurd (some refl)
+
+-- an explained no of two entries refutes that they fit
+pub entries_refuted : (check : SubtypeCheck) (c d : Collection) (e : Entries) (r : SubtypeError) → ExplainsEntries check c d e r → Refutes r (EntriesFit c d e)
+entries_refuted check c d e r h = explains_needed (EntriesFit c d e) r check (left_side item c e) (right_side item d e) (h item) (λ fits. fits item)

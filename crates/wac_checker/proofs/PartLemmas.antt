@@ -37,11 +37,7 @@ use Rattle.wac_mismatch.specs.declared.check.SubtypeCheck.{SubtypeCheck}
 use Rattle.wac_mismatch.specs.declared.error.SubtypeError.{SubtypeError}
 use Rattle.wac_checker.specs.Content.{composed_side, variant_side, result_side, case_tree}
 use Rattle.wac_checker.specs.Parts.{IsFrameAt, IsIndex, side_parts, marked_parts, unnamed_parts, SamePart, SameBefore, AreAt}
-use Rattle.wac_checker.specs.Pairs.{AreValuesCompared, AreOptionsCompared, AreOf, HaveAt, IsValuePart}
-use Rattle.wac_checker.specs.declared.pairs.Entries.{Entries}
-use Rattle.wac_checker.specs.declared.pairs.Entries.TheVariants.{DefinedTypes, Funcs, Interfaces, Worlds, Modules}
-use Rattle.wac_checker.specs.declared.pairs.Part.{Part}
-use Rattle.wac_checker.specs.declared.pairs.Part.TheVariants.{End, Same, Below, Differs}
+use Rattle.wac_checker.specs.Pairs.{AreValuesCompared, AreOptionsCompared, AreOf, HaveAt, IsValuePart, Entries, DefinedTypes, Funcs, Interfaces, Worlds, Modules, Finding, End, Same, Below}
 use Rattle.wac_checker.proofs.ValueLemmas.{tree_at, leads_to_field, same_items, same_records}
 use Rattle.wac_checker.proofs.CaseLemmas.{entry_at, leads_to_case, marks_names, same_variants}
 
@@ -59,14 +55,13 @@ module _ (check : SubtypeCheck) (c d : Collection) (s t : Side) (m n i : ℕ) (v
   have_at (Worlds x y) h = elim h [ ]
   have_at (Modules x y) h = elim h [ ]
 
-  index : IsIndex s i
+  pub index : IsIndex s i
   index = (slice_get_within (side_parts s) i (at.0, Some (value_tree c v)) at.1, room)
 
-  pub part_of_values : (p : Part) → AreValuesCompared check c d v w p → IsValuePart check c d s t m n i p
+  pub part_of_values : (p : Finding) → AreValuesCompared check c d v w p → IsValuePart check c d s t m n i p
   part_of_values End h = elim h [ ]
   part_of_values Same h = (index, at.1 ∙ ap (λ (u : ValueTree). Some (at.0, Some u)) h ∙ sym at.2)
   part_of_values (Below q) h = (index, h.0, have_at q.entries h.1)
-  part_of_values (Differs e) h = (index, value_tree c v, value_tree d w, at, h)
 
 -- ---- tuples
 
@@ -102,20 +97,20 @@ tuples_same c d vs ws i l e same =
 
 module _ (check : SubtypeCheck) (c d : Collection) (k v l w : ValueType) where
   -- what was found of the keys of two maps is what was found of the maps at their first place
-  pub part_of_keys : (p : Part) → AreValuesCompared check c d k l p → IsValuePart check c d (composed_side c map_of (k ∷ v ∷ [])) (composed_side d map_of (l ∷ w ∷ [])) (keys_height c (flat_map value_keys (k ∷ v ∷ [])) + 1) (keys_height d (flat_map value_keys (l ∷ w ∷ [])) + 1) 0 p
+  pub part_of_keys : (p : Finding) → AreValuesCompared check c d k l p → IsValuePart check c d (composed_side c map_of (k ∷ v ∷ [])) (composed_side d map_of (l ∷ w ∷ [])) (keys_height c (flat_map value_keys (k ∷ v ∷ [])) + 1) (keys_height d (flat_map value_keys (l ∷ w ∷ [])) + 1) 0 p
   part_of_keys p h =
       let left = keys_height-member c (k ∷ v ∷ []) 0 k refl in
       let right = keys_height-member d (l ∷ w ∷ []) 0 l refl in
       part_of_values check c d (composed_side c map_of (k ∷ v ∷ [])) (composed_side d map_of (l ∷ w ∷ [])) (keys_height c (flat_map value_keys (k ∷ v ∷ [])) + 1) (keys_height d (flat_map value_keys (l ∷ w ∷ [])) + 1) 0 k l (omega arith) ([], refl, refl, λ check f is. rw is (record { alike = tt; same_check = refl; left = refl; right = refl })) (omega (arith, left)) (omega (arith, right)) p h
 
   -- and so of their values
-  pub part_of_map_values : (p : Part) → AreValuesCompared check c d v w p → IsValuePart check c d (composed_side c map_of (k ∷ v ∷ [])) (composed_side d map_of (l ∷ w ∷ [])) (keys_height c (flat_map value_keys (k ∷ v ∷ [])) + 1) (keys_height d (flat_map value_keys (l ∷ w ∷ [])) + 1) 1 p
+  pub part_of_map_values : (p : Finding) → AreValuesCompared check c d v w p → IsValuePart check c d (composed_side c map_of (k ∷ v ∷ [])) (composed_side d map_of (l ∷ w ∷ [])) (keys_height c (flat_map value_keys (k ∷ v ∷ [])) + 1) (keys_height d (flat_map value_keys (l ∷ w ∷ [])) + 1) 1 p
   part_of_map_values p h =
       let left = keys_height-member c (k ∷ v ∷ []) 1 v refl in
       let right = keys_height-member d (l ∷ w ∷ []) 1 w refl in
       part_of_values check c d (composed_side c map_of (k ∷ v ∷ [])) (composed_side d map_of (l ∷ w ∷ [])) (keys_height c (flat_map value_keys (k ∷ v ∷ [])) + 1) (keys_height d (flat_map value_keys (l ∷ w ∷ [])) + 1) 1 v w (omega arith) ([], refl, refl, λ check f is. rw is (record { alike = tt; same_check = refl; left = refl; right = refl })) (omega (arith, left)) (omega (arith, right)) p h
 
-one_tree : (x y : ValueTree) → (let p : Option (Text × Option ValueTree) = Some ([], Some x) in p) ≡ Some ([], Some y) → x ≡ y
+pub one_tree : (x y : ValueTree) → (let p : Option (Text × Option ValueTree) = Some ([], Some x) in p) ≡ Some ([], Some y) → x ≡ y
 one_tree x y h = let same : Some x ≡ Some y = ap (λ (q : Text × Option ValueTree). q.1) (pair_of ([], Some x) ([], Some y) h) in cc
 
 -- two maps whose keys and values are one
@@ -237,51 +232,26 @@ errs_at c d (Some x) (Some y) v w = ([], refl, refl, λ check f is. rw is (recor
 
 module _ (check : SubtypeCheck) (c d : Collection) (m n : ℕ) where
   -- what was found of the `ok` parts is what was found of the results at their first place
-  pub part_of_oks : (o o' e e' : Option ValueType) (p : Part) → keys_height c (flat_map value_keys (option_to_list o)) < m → keys_height d (flat_map value_keys (option_to_list o')) < n → AreOptionsCompared check c d o o' p → IsValuePart check c d (result_side c o e) (result_side d o' e') m n 0 p
+  pub part_of_oks : (o o' e e' : Option ValueType) (p : Finding) → keys_height c (flat_map value_keys (option_to_list o)) < m → keys_height d (flat_map value_keys (option_to_list o')) < n → AreOptionsCompared check c d o o' p → IsValuePart check c d (result_side c o e) (result_side d o' e') m n 0 p
   part_of_oks None None e e' p l r h = rw h ((omega (arith, ap length (result_parts c None e)), omega arith), refl)
   part_of_oks None (Some w) e e' p l r h = elim h [ ]
   part_of_oks (Some v) None e e' p l r h = elim h [ ]
   part_of_oks (Some v) (Some w) e e' p l r h = part_of_values check c d (result_side c (Some v) e) (result_side d (Some w) e') m n 0 v w (omega arith) (oks_at c d v w e e') (rw (append_nil (value_keys v)) at l) (rw (append_nil (value_keys w)) at r) p h
 
   -- and so of the `err` parts
-  pub part_of_errs : (o o' e e' : Option ValueType) (p : Part) → keys_height c (flat_map value_keys (option_to_list e)) < m → keys_height d (flat_map value_keys (option_to_list e')) < n → AreOptionsCompared check c d e e' p → IsValuePart check c d (result_side c o e) (result_side d o' e') m n 1 p
+  pub part_of_errs : (o o' e e' : Option ValueType) (p : Finding) → keys_height c (flat_map value_keys (option_to_list e)) < m → keys_height d (flat_map value_keys (option_to_list e')) < n → AreOptionsCompared check c d e e' p → IsValuePart check c d (result_side c o e) (result_side d o' e') m n 1 p
   part_of_errs o o' None None p l r h = rw h ((omega (arith, ap length (result_parts c o None)), omega arith), ap (λ (ps : List (Text × Option ValueTree)). slice_get ps 1) (result_parts c o None) ∙ sym (ap (λ (ps : List (Text × Option ValueTree)). slice_get ps 1) (result_parts d o' None)))
   part_of_errs o o' None (Some w) p l r h = elim h [ ]
   part_of_errs o o' (Some v) None p l r h = elim h [ ]
   part_of_errs o o' (Some v) (Some w) p l r h = part_of_values check c d (result_side c o (Some v)) (result_side d o' (Some w)) m n 1 v w (omega arith) (errs_at c d o o' v w) (rw (append_nil (value_keys v)) at l) (rw (append_nil (value_keys w)) at r) p h
 
-ok_disagrees : (check : SubtypeCheck) (c d : Collection) (o o' e e' : Option ValueType) → is_some o ≢ is_some o' → by_check check (HoldsOfSides (fault.ResultPart result_of.Ok (expected_of check (is_some o) (is_some o')))) (result_side c o e) (result_side d o' e')
+pub ok_disagrees : (check : SubtypeCheck) (c d : Collection) (o o' e e' : Option ValueType) → is_some o ≢ is_some o' → by_check check (HoldsOfSides (fault.ResultPart result_of.Ok (expected_of check (is_some o) (is_some o')))) (result_side c o e) (result_side d o' e')
 ok_disagrees Covariant c d o o' e e' ne = (λ same. ne (sym same), refl)
 ok_disagrees Contravariant c d o o' e e' ne = (ne, refl)
 
-err_disagrees : (check : SubtypeCheck) (c d : Collection) (o o' e e' : Option ValueType) → is_some e ≢ is_some e' → by_check check (HoldsOfSides (fault.ResultPart result_of.Err (expected_of check (is_some e) (is_some e')))) (result_side c o e) (result_side d o' e')
+pub err_disagrees : (check : SubtypeCheck) (c d : Collection) (o o' e e' : Option ValueType) → is_some e ≢ is_some e' → by_check check (HoldsOfSides (fault.ResultPart result_of.Err (expected_of check (is_some e) (is_some e')))) (result_side c o e) (result_side d o' e')
 err_disagrees Covariant c d o o' e e' ne = (λ same. ne (sym same), refl)
 err_disagrees Contravariant c d o o' e e' ne = (ne, refl)
-
-module _ (check : SubtypeCheck) (c d : Collection) (o o' e e' : Option ValueType) (m n : ℕ) where
-  -- what was found of the `ok` parts is what was found of the results at their first place
-  pub found_of_oks : (r : Result Part SubtypeError) → keys_height c (flat_map value_keys (option_to_list o ++ option_to_list e)) < m → keys_height d (flat_map value_keys (option_to_list o' ++ option_to_list e')) < n
-      → MatchResult r (AreOptionsCompared check c d o o') (λ x. (is_some o ≢ is_some o') × IsHere (λ f. f ≡ fault.ResultPart result_of.Ok (expected_of check (is_some o) (is_some o'))) x)
-      → MatchResult r (IsValuePart check c d (result_side c o e) (result_side d o' e') m n 0) (λ x. Explains x check (result_side c o e) (result_side d o' e'))
-  found_of_oks r left right h =
-      let left_height = largest-append (height c) (flat_map value_keys (option_to_list o)) (flat_map value_keys (option_to_list e)) in
-      let right_height = largest-append (height d) (flat_map value_keys (option_to_list o')) (flat_map value_keys (option_to_list e')) in
-      let left_below = rw (flat_map-append value_keys (option_to_list o) (option_to_list e), left_height) at left in
-      let right_below = rw (flat_map-append value_keys (option_to_list o') (option_to_list e'), right_height) at right in
-      MatchResult-weaker r h (λ p x. part_of_oks check c d m n o o' e e' p (omega (arith, left_below)) (omega (arith, right_below)) x)
-      (λ x y. explains_sides (λ f. f ≡ fault.ResultPart result_of.Ok (expected_of check (is_some o) (is_some o'))) x check (result_side c o e) (result_side d o' e') y.1 (λ f is. rw is (ok_disagrees check c d o o' e e' y.0)))
-
-  -- and so of the `err` parts
-  pub found_of_errs : (r : Result Part SubtypeError) → keys_height c (flat_map value_keys (option_to_list o ++ option_to_list e)) < m → keys_height d (flat_map value_keys (option_to_list o' ++ option_to_list e')) < n
-      → MatchResult r (AreOptionsCompared check c d e e') (λ x. (is_some e ≢ is_some e') × IsHere (λ f. f ≡ fault.ResultPart result_of.Err (expected_of check (is_some e) (is_some e'))) x)
-      → MatchResult r (IsValuePart check c d (result_side c o e) (result_side d o' e') m n 1) (λ x. Explains x check (result_side c o e) (result_side d o' e'))
-  found_of_errs r left right h =
-      let left_height = largest-append (height c) (flat_map value_keys (option_to_list o)) (flat_map value_keys (option_to_list e)) in
-      let right_height = largest-append (height d) (flat_map value_keys (option_to_list o')) (flat_map value_keys (option_to_list e')) in
-      let left_below = rw (flat_map-append value_keys (option_to_list o) (option_to_list e), left_height) at left in
-      let right_below = rw (flat_map-append value_keys (option_to_list o') (option_to_list e'), right_height) at right in
-      MatchResult-weaker r h (λ p x. part_of_errs check c d m n o o' e e' p (omega (arith, left_below)) (omega (arith, right_below)) x)
-      (λ x y. explains_sides (λ f. f ≡ fault.ResultPart result_of.Err (expected_of check (is_some e) (is_some e'))) x check (result_side c o e) (result_side d o' e') y.1 (λ f is. rw is (err_disagrees check c d o o' e e' y.0)))
 
 -- two results whose parts are one up to their end
 pub results_same : (c d : Collection) (o e o' e' : Option ValueType) (i : ℕ) → 2 ≤ i → SameBefore (result_side c o e) (result_side d o' e') i → result_side c o e ≡ result_side d o' e'
@@ -295,29 +265,24 @@ results_same c d o e o' e' i l same =
 -- ---- of what two entries say
 
 module _ (check : SubtypeCheck) (c d : Collection) (s t : Side) (m n k l i : ℕ) (left : m ≤ k) (right : n ≤ l) where
-  have_below : (e : Entries) → HaveAt c d s t m n i e → HaveAt c d s t k l i e
+  pub have_below : (e : Entries) → HaveAt c d s t m n i e → HaveAt c d s t k l i e
   have_below (DefinedTypes x y) h = (h.0, h.1, omega (arith, h.2), omega (arith, h.3))
   have_below (Funcs x y) h = elim h [ ]
   have_below (Interfaces x y) h = elim h [ ]
   have_below (Worlds x y) h = elim h [ ]
   have_below (Modules x y) h = elim h [ ]
 
-  pub part_below : (p : Part) → IsValuePart check c d s t m n i p → IsValuePart check c d s t k l i p
+  pub part_below : (p : Finding) → IsValuePart check c d s t m n i p → IsValuePart check c d s t k l i p
   part_below End h = h
   part_below Same h = h
   part_below (Below q) h = (h.0, h.1, have_below q.entries h.2)
-  part_below (Differs e) h = h
 
 module _ (check : SubtypeCheck) (c d : Collection) (a b : Id) (e f : DefinedContent) (i : ℕ)
     (left_tree : value_tree c (Defined a) ≡ content_tree (value_tree c) e) (right_tree : value_tree d (Defined b) ≡ content_tree (value_tree d) f)
     (left_lower : keys_height c (defined_keys e) < height c (defined_key a)) (right_lower : keys_height d (defined_keys f) < height d (defined_key b)) where
   -- a part of what two defined types say is one of theirs
-  pub part_of_defined : (p : Part) → IsValuePart check c d (value_side (content_tree (value_tree c) e)) (value_side (content_tree (value_tree d) f)) (keys_height c (defined_keys e) + 1) (keys_height d (defined_keys f) + 1) i p → IsValuePart check c d (value_side (value_tree c (Defined a))) (value_side (value_tree d (Defined b))) (height c (defined_key a)) (height d (defined_key b)) i p
+  pub part_of_defined : (p : Finding) → IsValuePart check c d (value_side (content_tree (value_tree c) e)) (value_side (content_tree (value_tree d) f)) (keys_height c (defined_keys e) + 1) (keys_height d (defined_keys f) + 1) i p → IsValuePart check c d (value_side (value_tree c (Defined a))) (value_side (value_tree d (Defined b))) (height c (defined_key a)) (height d (defined_key b)) i p
   part_of_defined p h = rw (left_tree, right_tree) (part_below check c d (value_side (content_tree (value_tree c) e)) (value_side (content_tree (value_tree d) f)) (keys_height c (defined_keys e) + 1) (keys_height d (defined_keys f) + 1) (height c (defined_key a)) (height d (defined_key b)) i (omega arith) (omega arith) p h)
-
-  pub found_of_defined : (r : Result Part SubtypeError) → MatchResult r (IsValuePart check c d (value_side (content_tree (value_tree c) e)) (value_side (content_tree (value_tree d) f)) (keys_height c (defined_keys e) + 1) (keys_height d (defined_keys f) + 1) i) (λ x. Explains x check (value_side (content_tree (value_tree c) e)) (value_side (content_tree (value_tree d) f)))
-      → MatchResult r (IsValuePart check c d (value_side (value_tree c (Defined a))) (value_side (value_tree d (Defined b))) (height c (defined_key a)) (height d (defined_key b)) i) (λ x. Explains x check (value_side (value_tree c (Defined a))) (value_side (value_tree d (Defined b))))
-  found_of_defined r h = MatchResult-weaker r h (λ p x. part_of_defined p x) (λ x y. rw (left_tree, right_tree) y)
 
 -- ---- frames
 

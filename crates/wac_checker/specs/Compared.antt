@@ -1,58 +1,64 @@
 -- What is known of the pairs that were compared.
-use Rattle.std.specs.Prelude.{◌≡◌, ◌+◌, ℕ, List, Contains, Bool, true, false, Option, Some, None}
+use Rattle.std.specs.Prelude.{◌≡◌, ◌⊎◌, List, [], ◌∷◌, Contains, Bool, true, false, Option, Some, None, reverse, take}
 use Rattle.wac_component.specs.Collection.{Collection}
-use Rattle.wac_checker.specs.Pairs.{PairFits, PairStands, PairPartFits, PairPartsFit, PairHasPart, IsBelowPair}
+use Rattle.wac_model.specs.Order.{Fits}
+use Rattle.wac_component.specs.Tree.{item_tree}
+use Rattle.wac_component.specs.declared.items.ItemKind.{ItemKind}
+use Rattle.wac_checker.specs.Listing.{AreItemsNamed, AreTreesApart}
+use Rattle.wac_checker.specs.Pairs.{AreOfItems, ArePairsOf, IsFitting, IsStanding, entries_of}
+use Rattle.wac_checker.specs.declared.parts.Named.TheVariants as named
+use Rattle.wac_checker.specs.declared.parts.Part.{Part}
 use Rattle.wac_checker.specs.Known.{pairs_of}
-use Rattle.wac_checker.specs.Steps.{ArePairsOf, IsUnderStep, LeadTo}
+use Rattle.wac_checker.specs.Walk.{IsAtStep, IsOpen, IsPathTo, LeadFrom}
 use Rattle.wac_checker.specs.declared.compared.Compared.{Compared}
-use Rattle.wac_checker.specs.declared.compared.Seen.{Seen}
-use Rattle.wac_checker.specs.declared.compared.Seen.TheVariants.{NoMore, Fit, Unfit, New}
-use Rattle.wac_checker.specs.declared.compared.Turn.{Turn}
-use Rattle.wac_checker.specs.declared.compared.Turn.TheVariants.{Fits as Closed, Unfit as Apart, Below}
-use Rattle.wac_checker.specs.declared.pairs.EntryPair.{EntryPair}
-use Rattle.wac_checker.specs.declared.pairs.Step.{Step}
+use Rattle.wac_checker.specs.declared.parts.EntryPair.{EntryPair}
+use Rattle.wac_checker.specs.declared.walk.Found.{Found}
+use Rattle.wac_checker.specs.declared.walk.Found.TheVariants as found
+use Rattle.wac_checker.specs.declared.walk.Step.{Step}
+use Rattle.wac_checker.specs.declared.walk.Walk.{Walk}
 
--- what is known is true of two collections: each pair stands, and the ones fit and the others don't
+-- what is known is true of two collections: each pair stands, and all fit but those that are said not to
 pub record KnowsTruly (c d : Collection) (k : Compared) : Type 0 where
-  pub pairs : ArePairsOf c d (pairs_of k.fitting)
-  pub fit : (p : EntryPair) → Contains (pairs_of k.fitting) p → PairFits c d p
-  pub unfit : (p : EntryPair) → Contains (pairs_of k.unfitting) p → PairStands c d p × (¬ (PairFits c d p))
+  pub pairs : ArePairsOf c d (pairs_of k.known)
+  pub unfit : (p : EntryPair) → Contains (pairs_of k.unfit) p → IsStanding c d p × (¬ (IsFitting c d p))
+  pub known : (p : EntryPair) → Contains (pairs_of k.known) p → IsFitting c d p ⊎ Contains (pairs_of k.unfit) p
 
--- what is known of a pair, where the first pairs are known to fit and the second ones not to
-abbrev pub IsKnown : List EntryPair → List EntryPair → EntryPair → Option Bool → Type 0
-IsKnown ps qs p (Some true) = Contains ps p
-IsKnown ps qs p (Some false) = Contains qs p
-IsKnown ps qs p None = Contains ps p → ⊥
+-- the same but for the pairs of steps, which are known and being compared
+pub record KnowsBut (c d : Collection) (k : Compared) (ss : List Step) : Type 0 where
+  pub pairs : ArePairsOf c d (pairs_of k.known)
+  pub unfit : (p : EntryPair) → Contains (pairs_of k.unfit) p → IsStanding c d p × (¬ (IsFitting c d p))
+  pub known : (p : EntryPair) → Contains (pairs_of k.known) p → (IsFitting c d p ⊎ Contains (pairs_of k.unfit) p) ⊎ IsOpen ss p
 
--- the same of parts that fit where a pair does
-abbrev pub IsSeenBelow : List EntryPair → List EntryPair → EntryPair → Seen → Type 0
-IsSeenBelow ps qs p NoMore = ⊥
-IsSeenBelow ps qs p Fit = Contains ps p
-IsSeenBelow ps qs p Unfit = Contains qs p
-IsSeenBelow ps qs p (New q) = (q ≡ p) × (Contains ps p → ⊥)
+-- a comparison is at a step
+pub record IsUnderWay (c d : Collection) (k : Compared) (w : Walk) (s : Step) : Type 0 where
+  pub knows : KnowsBut c d k (s ∷ reverse w.open)
+  pub at : IsAtStep c d w.parts.before s s.next
+  pub lead : LeadFrom c d w.asked (take s.first w.parts.before) (reverse w.open) s.part
+  pub listed : w.parts.items ≡ []
 
--- what was found of the parts of a pair at a place, where these pairs are known to fit
-abbrev pub IsSeen : Collection → Collection → List EntryPair → EntryPair → ℕ → Seen → Type 0
-IsSeen c d ps p i NoMore = PairPartsFit c d p i → PairFits c d p
-IsSeen c d ps p i Fit = PairHasPart c d p i × PairPartFits c d p i
-IsSeen c d ps p i Unfit = ¬ (PairFits c d p)
-IsSeen c d ps p i (New q) = PairHasPart c d p i × (Contains ps q → ⊥) × IsBelowPair c d p i q
+-- it has come to an end: the pair that was asked about fits, or the open steps lead to one that
+-- doesn't
+abbrev pub IsAnswered : Collection → Collection → Compared → Walk → Bool → Type 0
+IsAnswered c d k w true = KnowsTruly c d k × IsFitting c d w.asked
+IsAnswered c d k w false = KnowsBut c d k (reverse w.open) × IsPathTo c d w.asked (reverse w.open)
 
--- the parts of a pair fit that are before the one at which a step is
-abbrev pub FitBefore : Collection → Collection → Step → Type 0
-FitBefore c d s = (i : ℕ) → s.next ≡ i + 1 → PairPartsFit c d s.pair i
+-- it goes on, or has come to an end
+abbrev pub IsGoingOn : Collection → Collection → Compared → Walk → Step → Option Bool → Type 0
+IsGoingOn c d k w s None = IsUnderWay c d k w s
+IsGoingOn c d k w s (Some b) = IsAnswered c d k w b
 
--- what is next of a pair: one that isn't known to fit, below a part
--- before which all fit, or nothing
-abbrev pub IsTurn : Collection → Collection → List EntryPair → EntryPair → Turn → Type 0
-IsTurn c d ps p Closed = PairFits c d p
-IsTurn c d ps p Apart = ¬ (PairFits c d p)
-IsTurn c d ps p (Below i q) = (Contains ps q → ⊥) × IsUnderStep c d (record { pair = p; next = i }) q × FitBefore c d (record { pair = p; next = i })
+-- what is named of two items that are asked about
+abbrev pub AreNamedAlone : Collection → Collection → ItemKind → ItemKind → List Part → Type 0
+AreNamedAlone c d x y ms = AreItemsNamed c d false 0 x y [] ms named.Fits
 
--- where a comparison of a pair is: at this step, to which those above it lead
-pub record IsUnderWay (c d : Collection) (r : EntryPair) (ps : List EntryPair) (ss : List Step) (s : Step) : Type 0 where
-  pub lead : LeadTo c d r ss s.pair
-  pub stands : PairStands c d s.pair
-  pub new : Contains ps s.pair → ⊥
-  pub fit : PairPartsFit c d s.pair s.next
-  pub above : (t : Step) → Contains ss t → PairStands c d t.pair × (Contains ps t.pair → ⊥) × FitBefore c d t
+-- two items fit, or the open steps lead from the pair that is named for them to one that doesn't
+abbrev pub AreAnswered : Collection → Collection → ItemKind → ItemKind → Walk → Bool → Type 0
+AreAnswered c d x y w true = Fits (item_tree c x) (item_tree d y)
+AreAnswered c d x y w false = (w.asked.swapped ≡ false) × AreOfItems c d x y (entries_of c d w.asked) × IsPathTo c d w.asked (reverse w.open)
+
+-- what is found of two items: that they fit, that they differ themselves, or where
+abbrev pub AreFound : Collection → Collection → ItemKind → ItemKind → Walk → Found → Type 0
+AreFound c d x y w found.Fits = AreAnswered c d x y w true
+AreFound c d x y w found.Apart = AreTreesApart (item_tree c x) (item_tree d y) × (¬ (Fits (item_tree c x) (item_tree d y)))
+AreFound c d x y w found.Below = AreAnswered c d x y w false
+AreFound c d x y w found.Memory = Unit {0}

@@ -1,12 +1,14 @@
 pub mod Content
 pub mod Parts
 pub mod Pairs
-pub mod Steps
+pub mod Listing
 pub mod Items
 pub mod Paired
+pub mod PartLists
 pub mod Known
 pub mod Verdict
 pub mod Externs
 pub mod Cache
 pub mod Checker
+pub mod Walk
 pub mod Compared

@@ -9,7 +9,7 @@ use Rattle.wac_component.specs.Tree.{item_tree, value_tree, root_name}
 use Rattle.wac_component.specs.declared.items.ItemKind.{ItemKind}
 use Rattle.wac_component.specs.declared.items.ValueType.{ValueType}
 use Rattle.wac_checker.specs.Items.{AreOtherItems}
-use Rattle.wac_checker.specs.Pairs.{AreOfItems}
+use Rattle.wac_checker.specs.Pairs.{AreOfItems, entries_of}
 use Rattle.wac_checker.specs.declared.paired.Paired.{Paired}
 use Rattle.wac_checker.specs.declared.paired.Paired.TheVariants.{Entries, Values, Resources, Others}
 
@@ -31,7 +31,7 @@ pub record AreResources (c d : Collection) (x y : ItemKind) (r s : Id) : Type 0 
 
 -- two items are what they are read as
 abbrev pub ArePaired : Collection → Collection → ItemKind → ItemKind → Paired → Type 0
-ArePaired c d x y (Entries same e) = AreOfItems c d x y e × (same ≡ true → Fits (item_tree c x) (item_tree d y))
+ArePaired c d x y (Entries same p) = AreOfItems c d x y (entries_of c d p) × (same ≡ true → Fits (item_tree c x) (item_tree d y))
 ArePaired c d x y (Values v w) = AreValues c d x y v w
 ArePaired c d x y (Resources r s) = AreResources c d x y r s
 ArePaired c d x y Others = AreOtherItems (item_tree c x) (item_tree d y)

@@ -3,7 +3,7 @@ use Rattle.std.specs.Str.{bytes_eq}
 use Rattle.wac_model.specs.Text.{Text, lookup}
 use Rattle.wac_model.specs.Order.{Fits}
 use Rattle.wac_component.specs.declared.items.ItemKind.{ItemKind}
-use Rattle.std.specs.Prelude.{◌≡◌, ◌+◌, ◌-◌, ◌^◌, ◌<◌, ◌≤◌, ℕ, List, ◌∷◌, length, Bool, true, false, not, Option, Some, None, slice_get}
+use Rattle.std.specs.Prelude.{◌≡◌, ◌+◌, ◌-◌, ◌^◌, ◌<◌, ◌≤◌, ℕ, List, [], ◌∷◌, Contains, length, Bool, true, false, not, Option, Some, None, slice_get}
 use Rattle.wac_model.specs.ValueTree.{ValueTree}
 use Rattle.wac_model.specs.ItemTree.{Kind, item, leaf, core_module, composite, no_items, resource, func, interface, world}
 use Rattle.wac_component.specs.Id.{Id}
@@ -21,13 +21,31 @@ use Rattle.wac_mismatch.specs.declared.error.SubtypeError.{SubtypeError}
 use Rattle.wac_mismatch.specs.declared.fault.Fault.{Fault}
 use Rattle.wac_mismatch.specs.declared.frame.Frame.{Frame}
 use Rattle.wac_checker.specs.Parts.{IsIndex, SamePart, SameBefore, AreAt, IsFrameAt, side_parts, listed, IsServedAt, IsExportFrame, IsImportFrame}
-use Rattle.wac_checker.specs.declared.pairs.Entries.{Entries}
-use Rattle.wac_checker.specs.declared.pairs.Entries.TheVariants.{DefinedTypes, Funcs, Interfaces, Worlds, Modules}
-use Rattle.wac_checker.specs.declared.pairs.EntryPair.{EntryPair}
-use Rattle.wac_checker.specs.declared.pairs.Part.{Part}
-use Rattle.wac_checker.specs.declared.pairs.Part.TheVariants.{End, Same, Below, Differs}
+use Rattle.wac_checker.specs.declared.parts.EntryPair.{EntryPair}
+use Rattle.wac_checker.specs.declared.parts.Sort.{Sort as PairSort}
+use Rattle.wac_checker.specs.declared.parts.Sort.TheVariants as sort
 
 -- ---- two entries
+
+-- two entries of one sort, by their ids: the left one is asked about, the right one asked for
+pub data Entries : Type 0 where
+  DefinedTypes : (a b : Id) → Entries
+  Funcs : (a b : Id) → Entries
+  Interfaces : (a b : Id) → Entries
+  Worlds : (a b : Id) → Entries
+  Modules : (a b : Id) → Entries
+
+-- two entries, and whether they are swapped: then the left one is of the right collection
+pub record Two : Type 0 where
+  pub entries : Entries
+  pub swapped : Bool
+
+-- what is found of the parts at a place: that there are no more, that they fit, or that they fit if
+-- two entries do, which are told from the two that have the parts
+pub data Finding : Type 0 where
+  End : Finding
+  Same : Finding
+  Below : (two : Two) → Finding
 
 abbrev pub left_key : Entries → Key
 left_key (DefinedTypes a b) = defined_key a
@@ -88,12 +106,11 @@ abbrev pub AreOf : Collection → Collection → ValueType → ValueType → Ent
 AreOf c d v w (DefinedTypes x y) = (value_tree c v ≡ value_tree c (Defined x)) × (value_tree d w ≡ value_tree d (Defined y)) × EntriesStand c d (DefinedTypes x y) × (height c (defined_key x) ≤ keys_height c (value_keys v)) × (height d (defined_key y) ≤ keys_height d (value_keys w))
 AreOf c d v w e = ⊥
 
--- two value types are one, or so far as two others are, or they differ and that is explained
-abbrev pub AreValuesCompared : SubtypeCheck → Collection → Collection → ValueType → ValueType → Part → Type 0
+-- two value types are one, or so far as two others are
+abbrev pub AreValuesCompared : SubtypeCheck → Collection → Collection → ValueType → ValueType → Finding → Type 0
 AreValuesCompared check c d v w End = ⊥
 AreValuesCompared check c d v w Same = value_tree c v ≡ value_tree d w
 AreValuesCompared check c d v w (Below q) = (q.swapped ≡ false) × AreOf c d v w q.entries
-AreValuesCompared check c d v w (Differs e) = Explains e check (value_side (value_tree c v)) (value_side (value_tree d w))
 
 -- the parts at a place are those of two defined types, which are below these heights
 abbrev pub HaveAt : Collection → Collection → Side → Side → ℕ → ℕ → ℕ → Entries → Type 0
@@ -101,15 +118,14 @@ HaveAt c d s t m n i (DefinedTypes x y) = AreAt s t i (value_tree c (Defined x))
 HaveAt c d s t m n i e = ⊥
 
 -- the parts at a place of two sides: there are no more, they are one, or so far as
--- two others are, or they differ
-abbrev pub IsValuePart : SubtypeCheck → Collection → Collection → Side → Side → ℕ → ℕ → ℕ → Part → Type 0
+-- two others are
+abbrev pub IsValuePart : SubtypeCheck → Collection → Collection → Side → Side → ℕ → ℕ → ℕ → Finding → Type 0
 IsValuePart check c d s t m n i End = SameBefore s t i → s ≡ t
 IsValuePart check c d s t m n i Same = IsIndex s i × SamePart s t i
 IsValuePart check c d s t m n i (Below q) = IsIndex s i × (q.swapped ≡ false) × HaveAt c d s t m n i q.entries
-IsValuePart check c d s t m n i (Differs e) = IsIndex s i × (x : ValueTree) × (y : ValueTree) × AreAt s t i x y × Explains e check (value_side x) (value_side y)
 
 -- the same of what may be there
-abbrev pub AreOptionsCompared : SubtypeCheck → Collection → Collection → Option ValueType → Option ValueType → Part → Type 0
+abbrev pub AreOptionsCompared : SubtypeCheck → Collection → Collection → Option ValueType → Option ValueType → Finding → Type 0
 AreOptionsCompared check c d None None p = p ≡ Same
 AreOptionsCompared check c d (Some v) (Some w) p = AreValuesCompared check c d v w p
 AreOptionsCompared check c d v w p = ⊥
@@ -124,12 +140,11 @@ pub record AreOfItems (c d : Collection) (x y : ItemKind) (e : Entries) : Type 0
   pub leads : (check : SubtypeCheck) (gs : List Frame) (g : Fault) → EntriesPath check c d e gs g → Path gs g (place check (item_side (item_tree c x)) (item_side (item_tree d y)))
   pub needed : Fits (item_tree c x) (item_tree d y) → EntriesFit c d e
 
--- two items fit, or so far as two entries do, or they don't and that is explained
-abbrev pub AreItemsCompared : SubtypeCheck → Collection → Collection → ItemKind → ItemKind → Part → Type 0
+-- two items fit, or so far as two entries do
+abbrev pub AreItemsCompared : SubtypeCheck → Collection → Collection → ItemKind → ItemKind → Finding → Type 0
 AreItemsCompared check c d x y End = ⊥
 AreItemsCompared check c d x y Same = Fits (item_tree c x) (item_tree d y)
 AreItemsCompared check c d x y (Below q) = (q.swapped ≡ false) × AreOfItems c d x y q.entries
-AreItemsCompared check c d x y (Differs e) = Explains e check (item_side (item_tree c x)) (item_side (item_tree d y))
 
 -- these items have the name of what is asked for at a place
 abbrev pub AreNamed : List (Text × ItemKind) → List (Text × ItemKind) → ℕ → Text → ItemKind → ItemKind → Type 0
@@ -140,27 +155,20 @@ abbrev pub IsPlace : List (Text × ItemKind) → ℕ → Type 0
 IsPlace ts i = (i < length ts) × (i + 1 < 2 ^ 63)
 
 -- what is found of what is asked for at a place, and what is there of its name
-abbrev pub IsExternPart : SubtypeCheck → Collection → Collection → List (Text × ItemKind) → List (Text × ItemKind) → ℕ → Part → Type 0
+abbrev pub IsExternPart : SubtypeCheck → Collection → Collection → List (Text × ItemKind) → List (Text × ItemKind) → ℕ → Finding → Type 0
 IsExternPart check c d es ts i End = length ts ≤ i
 IsExternPart check c d es ts i Same = IsPlace ts i × ((n : Text) × (x : ItemKind) × (y : ItemKind) × AreNamed es ts i n x y × Fits (item_tree c x) (item_tree d y))
 IsExternPart check c d es ts i (Below q) = IsPlace ts i × (q.swapped ≡ false) × ((n : Text) × (x : ItemKind) × (y : ItemKind) × AreNamed es ts i n x y × AreOfItems c d x y q.entries)
-IsExternPart check c d es ts i (Differs e) = IsPlace ts i × ((n : Text) × (x : ItemKind) × (y : ItemKind) × AreNamed es ts i n x y × Explains e check (item_side (item_tree c x)) (item_side (item_tree d y)))
 
 -- what is found of two sides is found of the two the other way round
-abbrev pub AreSwapped : Part → Part → Type 0
+abbrev pub AreSwapped : Finding → Finding → Type 0
 AreSwapped (Below q) (Below r) = (r.entries ≡ q.entries) × (r.swapped ≡ not q.swapped)
 AreSwapped (Below q) p = ⊥
 AreSwapped p r = r ≡ p
 
 -- the same of what is imported, which the left side asks of the right one
-abbrev pub IsImportPart : SubtypeCheck → Collection → Collection → List (Text × ItemKind) → List (Text × ItemKind) → ℕ → Part → Type 0
-IsImportPart check c d es ts i p = (q : Part) × AreSwapped q p × IsExternPart (turned check) d c ts es i q
-
--- two ids are one, which a test says, or the two are left
-abbrev pub AreLeftUnless : Bool → Entries → Part → Type 0
-AreLeftUnless true e p = p ≡ Same
-AreLeftUnless false e (Below q) = (q.swapped ≡ false) × (q.entries ≡ e)
-AreLeftUnless false e p = ⊥
+abbrev pub IsImportPart : SubtypeCheck → Collection → Collection → List (Text × ItemKind) → List (Text × ItemKind) → ℕ → Finding → Type 0
+IsImportPart check c d es ts i p = (q : Finding) × AreSwapped q p × IsExternPart (turned check) d c ts es i q
 
 -- ---- the parts of two entries
 
@@ -214,38 +222,62 @@ abbrev pub check_of : SubtypeCheck → Bool → SubtypeCheck
 check_of c false = c
 check_of c true = turned c
 
+-- whether a pair is swapped that is so below one that is so or isn't
+abbrev pub flag_of : Bool → Bool → Bool
+flag_of false t = t
+flag_of true t = not t
+
 -- ---- pairs
 
-abbrev pub PairStands : Collection → Collection → EntryPair → Type 0
+-- the id of an index
+abbrev pub id_in : Collection → ℕ → Id
+id_in c i = record { number = c.number; index = i }
+
+abbrev pub entries_by : PairSort → Id → Id → Entries
+entries_by sort.Defined a b = DefinedTypes a b
+entries_by sort.Func a b = Funcs a b
+entries_by sort.Interface a b = Interfaces a b
+entries_by sort.World a b = Worlds a b
+entries_by sort.Module a b = Modules a b
+
+-- the entries of a pair, told from the collection of the left one and that of the right one
+abbrev pub entries_of : Collection → Collection → EntryPair → Entries
+entries_of c d p = entries_by p.sort (id_in c p.left) (id_in d p.right)
+
+-- the two of a pair, told from the two collections
+abbrev pub two_of : Collection → Collection → EntryPair → Two
+two_of c d p = record { entries = entries_of (left_of c d p.swapped) (right_of c d p.swapped) p; swapped = p.swapped }
+
+abbrev pub PairStands : Collection → Collection → Two → Type 0
 PairStands c d p = EntriesStand (left_of c d p.swapped) (right_of c d p.swapped) p.entries
 
-abbrev pub PairFits : Collection → Collection → EntryPair → Type 0
+abbrev pub PairFits : Collection → Collection → Two → Type 0
 PairFits c d p = EntriesFit (left_of c d p.swapped) (right_of c d p.swapped) p.entries
 
-abbrev pub PairPartFits : Collection → Collection → EntryPair → ℕ → Type 0
+abbrev pub PairPartFits : Collection → Collection → Two → ℕ → Type 0
 PairPartFits c d p i = PartFits (left_of c d p.swapped) (right_of c d p.swapped) p.entries i
 
-abbrev pub PairPartsFit : Collection → Collection → EntryPair → ℕ → Type 0
+abbrev pub PairPartsFit : Collection → Collection → Two → ℕ → Type 0
 PairPartsFit c d p i = (j : ℕ) → j < i → PairPartFits c d p j
 
-abbrev pub pair_height : Collection → Collection → EntryPair → ℕ
+abbrev pub pair_height : Collection → Collection → Two → ℕ
 pair_height c d p = entries_height (left_of c d p.swapped) (right_of c d p.swapped) p.entries
 
-abbrev pub PairHasPart : Collection → Collection → EntryPair → ℕ → Type 0
+abbrev pub PairHasPart : Collection → Collection → Two → ℕ → Type 0
 PairHasPart c d p i = HasPart (left_of c d p.swapped) (right_of c d p.swapped) p.entries i
 
-abbrev pub IsPairFrame : Collection → Collection → EntryPair → ℕ → Frame → Type 0
+abbrev pub IsPairFrame : Collection → Collection → Two → ℕ → Frame → Type 0
 IsPairFrame c d p i f = IsFrameOf (left_of c d p.swapped) (right_of c d p.swapped) p.entries i f
 
-abbrev pub ExplainsPair : SubtypeCheck → Collection → Collection → EntryPair → SubtypeError → Type 0
+abbrev pub ExplainsPair : SubtypeCheck → Collection → Collection → Two → SubtypeError → Type 0
 ExplainsPair check c d p r = ExplainsEntries (check_of check p.swapped) (left_of c d p.swapped) (right_of c d p.swapped) p.entries r
 
-abbrev pub PairPath : SubtypeCheck → Collection → Collection → EntryPair → List Frame → Fault → Type 0
+abbrev pub PairPath : SubtypeCheck → Collection → Collection → Two → List Frame → Fault → Type 0
 PairPath check c d p frames f = EntriesPath (check_of check p.swapped) (left_of c d p.swapped) (right_of c d p.swapped) p.entries frames f
 
 -- the pair stands at a place of these two entries: it is lower, the parts there fit where it does,
 -- a frame leads to it, and the two entries fit only where it does
-pub record IsBelow (c d : Collection) (e : Entries) (i : ℕ) (q : EntryPair) : Type 0 where
+pub record IsBelow (c d : Collection) (e : Entries) (i : ℕ) (q : Two) : Type 0 where
   pub stand : PairStands c d q
   pub lower : pair_height c d q < entries_height c d e
   pub enough : PairFits c d q → PartFits c d e i
@@ -253,22 +285,37 @@ pub record IsBelow (c d : Collection) (e : Entries) (i : ℕ) (q : EntryPair) : 
   pub needed : EntriesFit c d e → PairFits c d q
 
 -- the same of a pair
-pub record IsBelowPair (c d : Collection) (p : EntryPair) (i : ℕ) (q : EntryPair) : Type 0 where
+pub record IsBelowPair (c d : Collection) (p : Two) (i : ℕ) (q : Two) : Type 0 where
   pub stand : PairStands c d q
   pub lower : pair_height c d q < pair_height c d p
   pub enough : PairFits c d q → PairPartFits c d p i
   pub leads : (check : SubtypeCheck) (f : Frame) → IsPairFrame c d p i f → (gs : List Frame) (g : Fault) → PairPath check c d q gs g → PairPath check c d p (f ∷ gs) g
   pub needed : PairFits c d p → PairFits c d q
 
--- what a comparison of the parts at a place of two entries says: where the
--- parts differ, the two don't fit
-abbrev pub IsEntriesPart : SubtypeCheck → Collection → Collection → Entries → ℕ → Part → Type 0
+-- what a comparison of the parts at a place of two entries says
+abbrev pub IsEntriesPart : SubtypeCheck → Collection → Collection → Entries → ℕ → Finding → Type 0
 IsEntriesPart check c d e i End = PartsFit c d e i → EntriesFit c d e
 IsEntriesPart check c d e i Same = HasPart c d e i × PartFits c d e i
 IsEntriesPart check c d e i (Below q) = HasPart c d e i × IsBelow c d e i q
-IsEntriesPart check c d e i (Differs r) = HasPart c d e i × ((f : Frame) → IsFrameOf c d e i f → (s : SubtypeError) → IsUnder (λ g. g ≡ f) r s → ExplainsEntries check c d e s) × Refutes r (EntriesFit c d e)
 
 -- the pair that stands below one that is swapped or isn't, told from the two collections
-abbrev pub placed : Bool → EntryPair → EntryPair
+abbrev pub placed : Bool → Two → Two
 placed false q = q
 placed true q = record { entries = q.entries; swapped = not q.swapped }
+
+-- ---- pairs by indices
+
+abbrev pub IsStanding : Collection → Collection → EntryPair → Type 0
+IsStanding c d p = PairStands c d (two_of c d p)
+
+abbrev pub IsFitting : Collection → Collection → EntryPair → Type 0
+IsFitting c d p = PairFits c d (two_of c d p)
+
+-- no pair is twice in the list
+abbrev pub AreDistinct : List EntryPair → Type 0
+AreDistinct [] = Unit {0}
+AreDistinct (p ∷ ps) = (Contains ps p → ⊥) × AreDistinct ps
+
+-- the pairs stand, and none is there twice
+abbrev pub ArePairsOf : Collection → Collection → List EntryPair → Type 0
+ArePairsOf c d ps = AreDistinct ps × ((p : EntryPair) → Contains ps p → IsStanding c d p)

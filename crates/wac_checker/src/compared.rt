@@ -1,65 +1,36 @@
-//! Questions whose answers are remembered: whether a pair of entries fits is found once.
+//! The one walk: of each pair the parts are listed, and then compared in order, each pair once.
 
-ghost use Rattle.std.specs.Prelude.{◌≡◌, ◌≢◌, ◌⊎◌, ◌↔◌, Contains, Option, Some, None, true, false, IsTrue, IfOk, OnOk};
+ghost use Rattle.std.specs.Prelude.{◌≡◌, ◌↔◌, ◌<◌, [], false, length, reverse, IsTrue, IfOk, OnOk};
 ghost use Rattle.wac_model.specs.Order.{Fits};
 ghost use Rattle.wac_component.specs.Collection.{Collection};
 ghost use Rattle.wac_component.specs.Key.{AllStand, item_keys};
 ghost use Rattle.wac_component.specs.Tree.{item_tree};
-ghost use Rattle.wac_mismatch.specs.declared.error.SubtypeError.TheVariants.{Memory};
-ghost use Rattle.wac_checker.specs.Compared.{IsKnown, IsSeen, IsSeenBelow, KnowsTruly, IsTurn};
-ghost use Rattle.wac_checker.specs.declared.pairs.EntryPair.{EntryPair};
+ghost use Rattle.wac_checker.specs.Compared.{IsAnswered, IsGoingOn, IsUnderWay, KnowsTruly, KnowsBut};
 ghost use Rattle.wac_checker.specs.Known.{pairs_of};
-ghost use Rattle.wac_checker.specs.Pairs.{PairFits, PairPartsFit, PairStands};
-ghost use Rattle.wac_checker.specs.Steps.{IsOpen};
+ghost use Rattle.wac_checker.specs.Pairs.{ArePairsOf, IsFitting, IsStanding};
+ghost use Rattle.wac_checker.specs.Walk.{IsPathTo};
+ghost use Rattle.wac_checker.specs.declared.parts.EntryPair.{EntryPair};
 
-use super::items::compare_items;
+use super::composites::name_items;
 use super::known::Known;
-use super::pairs::{EntryPair, Part, Step};
-use super::steps::{entries_part, placed_pair, push_step, sides};
+use super::parts::{Named, Part};
+use super::short::Short;
+use super::sides::Sides;
+use super::walk::{Step, Walk, has_more};
 use std::alloc::{AllocError, Global};
-use std::mem;
 use wac_component::{ItemKind, Types};
-use wac_mismatch::{SubtypeCheck, SubtypeError};
 
-/// The pairs of entries of two collections that were compared: those
-/// that fit, and those that don't.
+/// The pairs of entries of two collections that were compared, and those of them that don't fit.
 pub struct Compared {
-    fitting: Known,
-    unfitting: Known,
+    pub(crate) known: Known,
+    pub(crate) unfit: Known,
 }
 
 // By hand, as of `Known`.
 impl Drop for Compared {
     fn drop(self) {
-        let Compared {
-            fitting: _,
-            unfitting: _,
-        } = self;
+        let Compared { known: _, unfit: _ } = self;
     }
-}
-
-// What is found of the parts of a pair at a place.
-#[derive(Clone, Copy)]
-pub(crate) enum Seen {
-    // There are no more parts.
-    NoMore,
-    // They fit.
-    Fit,
-    // They don't fit.
-    Unfit,
-    // They fit where this pair does, of which nothing is known.
-    New(EntryPair),
-}
-
-// What is next of a pair.
-#[derive(Clone, Copy)]
-pub(crate) enum Turn {
-    // Nothing: it fits.
-    Fits,
-    // Nothing: it doesn't fit.
-    Unfit,
-    // This pair, and then the part of this index.
-    Below(usize, EntryPair),
 }
 
 impl Compared {
@@ -68,8 +39,8 @@ impl Compared {
         ensures { (c d : Collection) → KnowsTruly c d result }
     {
         Compared {
-            fitting: Known::new(alloc),
-            unfitting: Known::new(alloc),
+            known: Known::new(alloc),
+            unfit: Known::new(alloc),
         }
     }
 
@@ -92,178 +63,173 @@ impl Compared {
         ensures answer { IfOk result (λ yes. IsTrue yes ↔ Fits (item_tree at.now a) (item_tree bt.now b)) }
         ensures truly { KnowsTruly at.now bt.now self.new }
     {
-        match compare_items(SubtypeCheck::Covariant, alloc, a, at, b, bt) {
-            Part::End | Part::Same => Ok(true),
-            Part::Below(pair) => self.pair_fits(alloc, pair, at, bt),
-            Part::Differs(e) => {
-                refused(e)?;
+        let sides = Sides {
+            left: at,
+            right: bt,
+            swapped: false,
+        };
+        let mut walk = Walk::new(alloc);
+        match name_items(&sides, &mut walk.parts, 0, &a, &b) {
+            Named::Fits => {}
+            Named::Differs => return Ok(false),
+            Named::Memory => return Err(AllocError),
+        }
+        let Some(part) = walk.parts.pop() else {
+            return Ok(true);
+        };
+        walk.asked = part.pair;
+        self.answer(alloc, &mut walk, &sides)
+    }
+
+    // Whether the pair fits that is asked about. After a no all pairs that are open don't fit.
+    fn answer(
+        &mut self,
+        alloc: Global,
+        walk: &mut Walk,
+        sides: &Sides<'_>,
+    ) -> Result<bool, AllocError>
+        requires straight { sides.now.swapped ≡ false }
+        requires stands { IsStanding sides.now.left.now sides.now.right.now walk.old.asked }
+        requires parts { walk.old.parts.before ≡ [] }
+        requires open { walk.old.open ≡ [] }
+        requires none { walk.old.parts.items ≡ [] }
+        requires truly { KnowsTruly sides.now.left.now sides.now.right.now self.old }
+        ensures answer { IfOk result (λ yes. IsTrue yes ↔ IsFitting sides.now.left.now sides.now.right.now walk.old.asked) }
+        ensures truly { KnowsTruly sides.now.left.now sides.now.right.now self.new }
+    {
+        match self.compare(alloc, walk, sides) {
+            Ok(true) => Ok(true),
+            Ok(false) => {
+                self.note(alloc, &walk.open)?;
                 Ok(false)
             }
-        }
-    }
-
-    // What is known of a pair: whether it fits.
-    fn known(&self, pair: &EntryPair) -> Option<bool>
-        ensures { IsKnown (pairs_of self.now.fitting) (pairs_of self.now.unfitting) pair.now result }
-    {
-        if self.fitting.has(pair) {
-            return Some(true);
-        }
-        if self.unfitting.has(pair) {
-            return Some(false);
-        }
-        None
-    }
-
-    // Whether a pair fits.
-    fn pair_fits(
-        &mut self,
-        alloc: Global,
-        pair: EntryPair,
-        at: &Types,
-        bt: &Types,
-    ) -> Result<bool, AllocError>
-        requires stands { PairStands at.now bt.now pair }
-        requires one { at.now.number ≡ bt.now.number → at.now ≡ bt.now }
-        requires truly { KnowsTruly at.now bt.now self.old }
-        ensures answer { IfOk result (λ yes. IsTrue yes ↔ PairFits at.now bt.now pair) }
-        ensures truly { KnowsTruly at.now bt.now self.new }
-    {
-        match self.known(&pair) {
-            Some(fits) => Ok(fits),
-            None => self.compare(alloc, pair, at, bt),
-        }
-    }
-
-    // Whether a pair fits of which nothing is known, by comparing it and
-    // then each such pair below it.
-    fn compare(
-        &mut self,
-        alloc: Global,
-        asked: EntryPair,
-        at: &Types,
-        bt: &Types,
-    ) -> Result<bool, AllocError>
-        requires stands { PairStands at.now bt.now asked }
-        requires new { Contains (pairs_of self.old.fitting) asked → ⊥ }
-        requires one { at.now.number ≡ bt.now.number → at.now ≡ bt.now }
-        requires truly { KnowsTruly at.now bt.now self.old }
-        ensures answer { IfOk result (λ yes. IsTrue yes ↔ PairFits at.now bt.now asked) }
-        ensures truly { KnowsTruly at.now bt.now self.new }
-    {
-        let mut above = Vec::new(alloc);
-        let mut step = Step {
-            pair: asked,
-            next: 0,
-        };
-        loop {
-            match self.turn(alloc, &step, at, bt)? {
-                Turn::Fits => {
-                    self.fitting.add(step.pair.entries, step.pair.swapped)?;
-                    let Some(next) = above.pop() else {
-                        return Ok(true);
-                    };
-                    step = next;
-                }
-                Turn::Unfit => {
-                    self.unfitting.add(step.pair.entries, step.pair.swapped)?;
-                    add_pairs(&mut self.unfitting, &above)?;
-                    return Ok(false);
-                }
-                Turn::Below(index, pair) => {
-                    push_step(&mut above, step.pair.entries, step.pair.swapped, index)?;
-                    step = Step { pair, next: 0 };
-                }
-            }
-        }
-    }
-
-    // Goes on with the parts of a pair, up to one of which nothing is known.
-    fn turn(&self, alloc: Global, step: &Step, at: &Types, bt: &Types) -> Result<Turn, AllocError>
-        requires stands { PairStands at.now bt.now step.now.pair }
-        requires fit { PairPartsFit at.now bt.now step.now.pair step.now.next }
-        requires one { at.now.number ≡ bt.now.number → at.now ≡ bt.now }
-        requires truly { KnowsTruly at.now bt.now self.now }
-        ensures { IfOk result (IsTurn at.now bt.now (pairs_of self.now.fitting) step.now.pair) }
-    {
-        let mut index = step.next;
-        loop {
-            match self.see(alloc, &step.pair, at, bt, index)? {
-                Seen::NoMore => return Ok(Turn::Fits),
-                Seen::Fit => index += 1,
-                Seen::Unfit => return Ok(Turn::Unfit),
-                Seen::New(below) => return Ok(Turn::Below(index + 1, below)),
-            }
-        }
-    }
-
-    // What is found of the parts of a pair at a place.
-    fn see(
-        &self,
-        alloc: Global,
-        pair: &EntryPair,
-        at: &Types,
-        bt: &Types,
-        index: usize,
-    ) -> Result<Seen, AllocError>
-        requires stands { PairStands at.now bt.now pair.now }
-        requires one { at.now.number ≡ bt.now.number → at.now ≡ bt.now }
-        requires truly { KnowsTruly at.now bt.now self.now }
-        ensures { IfOk result (IsSeen at.now bt.now (pairs_of self.now.fitting) pair.now index) }
-    {
-        let (left, right) = sides(pair.swapped, at, bt);
-        let check = SubtypeCheck::Covariant;
-        let part = match entries_part(check, alloc, pair.entries, left, right, index) {
-            Ok(part) => part,
             Err(e) => {
-                refused(e)?;
-                return Ok(Seen::Unfit);
-            }
-        };
-        match part {
-            Part::End => Ok(Seen::NoMore),
-            Part::Same => Ok(Seen::Fit),
-            Part::Below(below) => Ok(self.seen(placed_pair(pair.swapped, below))),
-            Part::Differs(e) => {
-                refused(e)?;
-                Ok(Seen::Unfit)
+                self.forget(alloc);
+                Err(e)
             }
         }
     }
 
-    // What is found of parts that fit where a pair does.
-    fn seen(&self, pair: EntryPair) -> Seen
-        ensures { IsSeenBelow (pairs_of self.now.fitting) (pairs_of self.now.unfitting) pair result }
+    // Nothing is known: pairs were left open.
+    fn forget(&mut self, alloc: Global)
+        ensures { (c d : Collection) → KnowsTruly c d self.new }
     {
-        match self.known(&pair) {
-            Some(true) => Seen::Fit,
-            Some(false) => Seen::Unfit,
-            None => Seen::New(pair),
+        self.known = Known::new(alloc);
+        self.unfit = Known::new(alloc);
+    }
+
+    // The pairs of steps don't fit.
+    fn note(&mut self, alloc: Global, open: &Short<Step>) -> Result<(), AllocError>
+        ensures { (c d : Collection) (r : EntryPair) → KnowsBut c d self.old (reverse open.now) → IsPathTo c d r (reverse open.now) → KnowsTruly c d self.new }
+    {
+        for i in 0..open.len() {
+            let step = open.at(i);
+            if let Err(e) = self.unfit.add(&step.part.pair) {
+                self.forget(alloc);
+                return Err(e);
+            }
+        }
+        Ok(())
+    }
+
+    /// Whether the pair fits that is asked about, by comparing it and each pair below it that
+    /// wasn't compared before. At a no the open steps lead to a pair that doesn't fit.
+    pub(crate) fn compare(
+        &mut self,
+        alloc: Global,
+        walk: &mut Walk,
+        sides: &Sides<'_>,
+    ) -> Result<bool, AllocError>
+        requires straight { sides.now.swapped ≡ false }
+        requires stands { IsStanding sides.now.left.now sides.now.right.now walk.old.asked }
+        requires parts { walk.old.parts.before ≡ [] }
+        requires open { walk.old.open ≡ [] }
+        requires none { walk.old.parts.items ≡ [] }
+        requires truly { KnowsTruly sides.now.left.now sides.now.right.now self.old }
+        ensures answer { IfOk result (IsAnswered sides.now.left.now sides.now.right.now self.new walk.new) }
+        ensures asked { walk.new.asked ≡ walk.old.asked }
+        ensures pairs { ArePairsOf sides.now.left.now sides.now.right.now (pairs_of self.new.known) }
+    {
+        if self.unfit.has(&walk.asked) {
+            return Ok(false);
+        }
+        if !self.known.add(&walk.asked)? {
+            return Ok(true);
+        }
+        let part = Part {
+            pair: walk.asked,
+            index: 0,
+        };
+        let mut step = walk.begin(alloc, sides, part)?;
+        for _turn in 0..u64::MAX {
+            if let Some(yes) = self.turn(alloc, walk, sides, &mut step)? {
+                return Ok(yes);
+            }
+        }
+        Err(AllocError)
+    }
+
+    // Goes on with the pair at hand: with its next part, or with the pair above it, or to the end.
+    fn turn(
+        &mut self,
+        alloc: Global,
+        walk: &mut Walk,
+        sides: &Sides<'_>,
+        step: &mut Step,
+    ) -> Result<Option<bool>, AllocError>
+        requires straight { sides.now.swapped ≡ false }
+        requires way { IsUnderWay sides.now.left.now sides.now.right.now self.old walk.old step.old }
+        ensures way { IfOk result (IsGoingOn sides.now.left.now sides.now.right.now self.new walk.new step.new) }
+        ensures asked { walk.new.asked ≡ walk.old.asked }
+        ensures pairs { ArePairsOf sides.now.left.now sides.now.right.now (pairs_of self.new.known) }
+    {
+        if step.next < walk.parts.len() {
+            return self.go_below(alloc, walk, sides, step);
+        }
+        if step.differs {
+            walk.open.push(*step)?;
+            return Ok(Some(false));
+        }
+        walk.parts.truncate(step.first);
+        match walk.open.pop() {
+            None => Ok(Some(true)),
+            Some(above) => {
+                *step = above;
+                Ok(None)
+            }
         }
     }
-}
 
-// A refusal is a no, unless it is a failed allocation.
-fn refused(e: SubtypeError) -> Result<(), AllocError>
-    ensures { OnOk result (e ≢ Memory) }
-{
-    match e {
-        SubtypeError::Mismatch { frames, fault } => {
-            mem::drop(frames);
-            mem::drop(fault);
-            Ok(())
+    // Goes on with the next part of the pair at hand.
+    fn go_below(
+        &mut self,
+        alloc: Global,
+        walk: &mut Walk,
+        sides: &Sides<'_>,
+        step: &mut Step,
+    ) -> Result<Option<bool>, AllocError>
+        requires straight { sides.now.swapped ≡ false }
+        requires way { IsUnderWay sides.now.left.now sides.now.right.now self.old walk.old step.old }
+        requires within { step.old.next < length walk.old.parts.before }
+        requires room { step.old.next < usize.MAX }
+        ensures way { IfOk result (IsGoingOn sides.now.left.now sides.now.right.now self.new walk.new step.new) }
+        ensures asked { walk.new.asked ≡ walk.old.asked }
+        ensures pairs { ArePairsOf sides.now.left.now sides.now.right.now (pairs_of self.new.known) }
+    {
+        let part = walk.parts.at(step.next);
+        step.next += 1;
+        if self.unfit.has(&part.pair) {
+            walk.open.push(*step)?;
+            return Ok(Some(false));
         }
-        SubtypeError::Memory => Err(AllocError),
+        if self.known.add(&part.pair)? {
+            let below = walk.begin(alloc, sides, part)?;
+            // those that fit and have no parts are done
+            if has_more(&below, &walk.parts) {
+                walk.open.push(*step)?;
+                *step = below;
+            }
+        }
+        Ok(None)
     }
-}
-
-// Adds the pairs of steps.
-fn add_pairs(pairs: &mut Known, steps: &[Step]) -> Result<(), AllocError>
-    ensures { (p : EntryPair) → Contains (pairs_of pairs.new) p → Contains (pairs_of pairs.old) p ⊎ IsOpen steps.now p }
-{
-    for i in 0..steps.len() {
-        let pair = steps[i].pair;
-        pairs.add(pair.entries, pair.swapped)?;
-    }
-    Ok(())
 }

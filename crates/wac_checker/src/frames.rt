@@ -1,6 +1,6 @@
 //! Frames to the parts of two entries.
 
-ghost use Rattle.std.specs.Prelude.{◌≡◌, ◌<◌, Some, length, slice_get, IfOk};
+ghost use Rattle.std.specs.Prelude.{◌≡◌, ◌<◌, false, Some, length, slice_get, IfOk};
 ghost use Rattle.wac_model.specs.ItemTree.{Kind, leaf, func};
 ghost use Rattle.wac_component.specs.Content.{names};
 ghost use Rattle.wac_component.specs.Key.{Stands, defined_key, func_key, interface_key, world_key};
@@ -8,12 +8,12 @@ ghost use Rattle.wac_component.specs.Tree.{value_tree, func_tree, externs, IsRes
 ghost use Rattle.wac_mismatch.specs.Place.{value_side, item_side};
 ghost use Rattle.wac_mismatch.specs.Steps.{IsCase, IsField, IsParameter};
 ghost use Rattle.wac_checker.specs.Parts.{side_parts, listed, IsFrameAt, IsExportFrame};
-ghost use Rattle.wac_checker.specs.Pairs.{HasPart, IsFrameOf};
+ghost use Rattle.wac_checker.specs.Pairs.{HasPart, IsFrameOf, IsPairFrame, IsStanding, PairHasPart, Worlds, two_of};
 ghost use Rattle.wac_component.specs.declared.items.ValueType.TheVariants.{Defined};
 
-use super::composites::extern_at;
-use super::leaves::{case_at, field_at};
-use super::pairs::Entries;
+use super::leaves::{case_at, extern_at, field_at};
+use super::parts::{EntryPair, Sort};
+use super::sides::{Sides, defined_at, func_at, interface_at, world_at};
 use indexmap::IndexMap;
 use std::alloc::AllocError;
 use wac_component::{
@@ -115,8 +115,8 @@ pub(crate) fn world_frame(
 ) -> Result<Frame, AllocError>
     requires left { Stands at.now (world_key a) }
     requires right { Stands bt.now (world_key b) }
-    requires within { HasPart at.now bt.now (Entries.Worlds a b) index }
-    ensures { IfOk result (IsFrameOf at.now bt.now (Entries.Worlds a b) index) }
+    requires within { HasPart at.now bt.now (Worlds a b) index }
+    ensures { IfOk result (IsFrameOf at.now bt.now (Worlds a b) index) }
 {
     let imports = &at[a].imports;
     if index < imports.len() {
@@ -125,4 +125,29 @@ pub(crate) fn world_frame(
     }
     let (name, _) = extern_at(&bt[b].exports, index - imports.len());
     Ok(Frame::Export(name.clone()?))
+}
+
+/// The frame to the parts of a pair at a place.
+pub(crate) fn pair_frame(
+    both: &Sides<'_>,
+    pair: &EntryPair,
+    index: usize,
+) -> Result<Frame, AllocError>
+    requires stands { IsStanding both.now.left.now both.now.right.now pair.now }
+    requires straight { both.now.swapped ≡ false }
+    requires within { PairHasPart both.now.left.now both.now.right.now (two_of both.now.left.now both.now.right.now pair.now) index }
+    ensures { IfOk result (IsPairFrame both.now.left.now both.now.right.now (two_of both.now.left.now both.now.right.now pair.now) index) }
+{
+    let sides = &both.of(pair.swapped);
+    let (left, right) = (sides.left, sides.right);
+    match pair.sort {
+        Sort::Defined => defined_frame(defined_at(left, pair.left), left, index),
+        Sort::Func => func_frame(func_at(left, pair.left), left, index),
+        Sort::Interface => interface_frame(interface_at(right, pair.right), right, index),
+        Sort::World => {
+            let a = world_at(left, pair.left);
+            world_frame(a, left, world_at(right, pair.right), right, index)
+        }
+        Sort::Module => unreachable!(),
+    }
 }

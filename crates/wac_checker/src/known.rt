@@ -1,23 +1,18 @@
-//! The pairs that a comparison has named, each once.
+//! The pairs that a comparison has opened, each once.
 
-ghost use Rattle.std.specs.Prelude.{◌≡◌, ◌≤◌, ◌<◌, ◌++◌, ◌∷◌, [], ◌⊎◌, Contains, IsTrue, ◌↔◌, false, IfErr, OnOk, length, slice_get, Some};
-ghost use Rattle.wac_component.specs.Collection.{Collection};
-ghost use Rattle.wac_checker.specs.Known.{few_of, pairs_of, IsGrown};
-ghost use Rattle.wac_checker.specs.Steps.{ArePairsOf};
-ghost use Rattle.wac_mismatch.specs.declared.error.SubtypeError.TheVariants.{Memory};
+ghost use Rattle.std.specs.Prelude.{◌≡◌, ◌<◌, ◌++◌, ◌∷◌, [], Contains, IsTrue, ◌↔◌, true, false, Ok, Some, length, slice_get};
+ghost use Rattle.wac_checker.specs.Known.{few_of, pairs_of};
 
-use super::pairs::{Entries, EntryPair};
-use super::steps::is_known;
+use super::parts::{EntryPair, NO_PAIR};
 use indexmap::IndexSet;
 use std::alloc::{AllocError, Global};
 use std::marker::Model;
-use wac_mismatch::SubtypeError;
 
 // So many pairs are looked through one after another, and more are
-// hashed: most comparisons name few.
+// hashed: most comparisons open few.
 const FEW: usize = 4;
 
-/// At most a few pairs, in the order in which they were named. They lie in the value itself.
+/// At most a few pairs, in the order in which they were opened. They lie in the value itself.
 #[derive(Drop)]
 pub(crate) struct Few {
     pairs: [EntryPair; FEW],
@@ -26,7 +21,7 @@ pub(crate) struct Few {
 
 impl Model for Few {
     ghost use Rattle.std.specs.Prelude.{List, take, length, ◌≡◌, ◌≤◌};
-    ghost use Rattle.wac_checker.specs.declared.pairs.EntryPair.{EntryPair};
+    ghost use Rattle.wac_checker.specs.declared.parts.EntryPair.{EntryPair};
 
     ghost Value = { List EntryPair };
 
@@ -36,17 +31,19 @@ impl Model for Few {
 }
 
 impl Few {
-    /// One pair. The places of the others hold it too, since there is no pair that means none.
-    fn one(pair: EntryPair) -> Self
-        ensures { result ≡ pair ∷ [] }
+    /// No pairs. The places hold one, since there is no pair that means none.
+    #[inline(always)]
+    fn none() -> Self
+        ensures { result ≡ [] }
     {
         Few {
-            pairs: [pair; FEW],
-            len: 1,
+            pairs: [NO_PAIR; FEW],
+            len: 0,
         }
     }
 
     /// The pairs.
+    #[inline(always)]
     fn as_slice(&self) -> &[EntryPair]
         ensures { result.now ≡ self.now }
     {
@@ -54,6 +51,7 @@ impl Few {
     }
 
     /// Puts a pair last, if there is room.
+    #[inline(always)]
     fn push(&mut self, pair: EntryPair) -> bool
         ensures pushed { IsTrue result → self.new ≡ self.old ++ pair ∷ [] }
         ensures same { result ≡ false → self.new ≡ self.old }
@@ -67,10 +65,10 @@ impl Few {
     }
 }
 
-/// Pairs of entries, in the order in which they were named.
+/// Pairs of entries, in the order in which they were opened.
 pub(crate) struct Known {
-    // the first of them, so that a comparison that names no more allocates nothing
-    few: Option<Few>,
+    // the first of them, so that a comparison that opens no more allocates nothing
+    few: Few,
     many: IndexSet<EntryPair>,
 }
 
@@ -83,11 +81,12 @@ impl Drop for Known {
 
 impl Known {
     /// No pairs.
+    #[inline(always)]
     pub(crate) fn new(alloc: Global) -> Self
         ensures { pairs_of result ≡ [] }
     {
         Known {
-            few: None,
+            few: Few::none(),
             many: IndexSet::new(alloc),
         }
     }
@@ -95,10 +94,7 @@ impl Known {
     fn few(&self) -> &[EntryPair]
         ensures { result.now ≡ few_of self.now.few }
     {
-        match &self.few {
-            Some(few) => few.as_slice(),
-            None => &[],
-        }
+        self.few.as_slice()
     }
 
     /// How many pairs there are.
@@ -108,18 +104,6 @@ impl Known {
         self.few().len() + self.many.len()
     }
 
-    /// The pair at a place.
-    pub(crate) fn at(&self, index: usize) -> EntryPair
-        requires { index < length (pairs_of self.now) }
-        ensures { slice_get (pairs_of self.now) index ≡ Some result }
-    {
-        let few = self.few();
-        if index < few.len() {
-            return few[index];
-        }
-        *self.many.get_index(index - few.len()).unwrap()
-    }
-
     /// Whether a pair is there.
     pub(crate) fn has(&self, pair: &EntryPair) -> bool
         ensures { IsTrue result ↔ Contains (pairs_of self.now) pair.now }
@@ -127,68 +111,48 @@ impl Known {
         is_among(self.few(), pair) || is_known(&self.many, pair)
     }
 
-    /// Makes room for so many more pairs, where they are more than a few.
-    pub(crate) fn reserve(&mut self, count: usize) -> Result<(), AllocError>
-        ensures { pairs_of self.new ≡ pairs_of self.old }
+    /// Puts a pair last, and answers whether it wasn't there.
+    #[inline(always)]
+    pub(crate) fn add(&mut self, pair: &EntryPair) -> Result<bool, AllocError>
+        ensures there { result ≡ Ok false → Contains (pairs_of self.old) pair.now }
+        ensures new { result ≡ Ok true → Contains (pairs_of self.old) pair.now → ⊥ }
+        ensures added { result ≡ Ok true → pairs_of self.new ≡ pairs_of self.old ++ pair.now ∷ [] }
+        ensures same { (result ≡ Ok true → ⊥) → pairs_of self.new ≡ pairs_of self.old }
     {
-        if count > FEW {
-            self.many.reserve(count)?;
+        if is_among(self.few(), pair) {
+            return Ok(false);
         }
-        Ok(())
-    }
-
-    /// Puts a pair last that isn't there.
-    pub(crate) fn add(&mut self, entries: Entries, swapped: bool) -> Result<(), AllocError>
-        ensures added { (pairs_of self.new ≡ pairs_of self.old) ⊎ ((Contains (pairs_of self.old) (record { entries = entries; swapped = swapped }) → ⊥) × (pairs_of self.new ≡ pairs_of self.old ++ (record { entries = entries; swapped = swapped }) ∷ [])) }
-        ensures known { OnOk result (Contains (pairs_of self.new) (record { entries = entries; swapped = swapped })) }
-    {
-        let pair = EntryPair { entries, swapped };
-        if is_among(self.few(), &pair) {
-            return Ok(());
+        if self.many.is_empty() && self.few.push(*pair) {
+            return Ok(true);
         }
-        if self.many.is_empty() && put_last(&mut self.few, pair) {
-            return Ok(());
-        }
-        self.many.insert(pair)?;
-        Ok(())
-    }
-
-    /// Puts those last that aren't there.
-    pub(crate) fn add_all(&mut self, pairs: &IndexSet<EntryPair>) -> Result<(), SubtypeError>
-        ensures memory { IfErr result (λ e. e ≡ Memory) }
-        ensures grown { (c d : Collection) → ArePairsOf c d pairs.now.keys → IsGrown c d (pairs_of self.old) (pairs_of self.new) }
-    {
-        for i in 0..pairs.len() {
-            let pair = pair_at(pairs, i);
-            self.add(pair.entries, pair.swapped)?;
-        }
-        Ok(())
+        Ok(self.many.insert(*pair)?)
     }
 }
 
-// Puts a pair last, if there is room.
-fn put_last(few: &mut Option<Few>, pair: EntryPair) -> bool
-    ensures put { IsTrue result → few_of few.new ≡ few_of few.old ++ pair ∷ [] }
-    ensures same { result ≡ false → few_of few.new ≡ few_of few.old }
+#[inline(always)]
+fn pair_at(pairs: &[EntryPair], index: usize) -> EntryPair
+    requires { index < length pairs.now }
+    ensures { slice_get pairs.now index ≡ Some result }
 {
-    match few {
-        Some(few) => few.push(pair),
-        None => {
-            *few = Some(Few::one(pair));
-            true
-        }
-    }
+    pairs[index]
 }
 
+// By hand, since a call of `contains` costs more than the few tests.
+#[inline(always)]
 fn is_among(pairs: &[EntryPair], pair: &EntryPair) -> bool
     ensures { IsTrue result ↔ Contains pairs.now pair.now }
 {
-    pairs.contains(pair)
+    for i in 0..pairs.len() {
+        if pair_at(pairs, i) == *pair {
+            return true;
+        }
+    }
+    false
 }
 
-fn pair_at(pairs: &IndexSet<EntryPair>, index: usize) -> &EntryPair
-    requires { index < length pairs.now.keys }
-    ensures { slice_get pairs.now.keys index ≡ Some result.now }
+#[inline(never)]
+fn is_known(pairs: &IndexSet<EntryPair>, pair: &EntryPair) -> bool
+    ensures { IsTrue result ↔ Contains pairs.now.keys pair.now }
 {
-    pairs.get_index(index).unwrap()
+    !pairs.is_empty() && pairs.contains(pair)
 }

@@ -1,22 +1,37 @@
 //! What two items name, told from their cases.
 
+ghost use Rattle.std.specs.Prelude.{◌≡◌, false};
 ghost use Rattle.wac_checker.specs.Paired.{IsPairing};
 ghost use Rattle.wac_component.specs.declared.items.ItemKind.TheVariants.{«Type» as OfType};
 
-use super::pairs::Entries;
+use super::parts::{EntryPair, Sort};
 use wac_component::{ItemKind, ResourceId, Type, ValueType};
 
 // What two items or types are read as. Of two entries it says whether they are one.
 #[derive(Clone, Copy)]
 pub(crate) enum Paired {
-    Entries(bool, Entries),
+    Entries(bool, EntryPair),
     Values(ValueType, ValueType),
     Resources(ResourceId, ResourceId),
     // They are of different cases.
     Others,
 }
 
+// Two entries of a sort, by their indices.
+#[inline(always)]
+fn pair(sort: Sort, left: usize, right: usize) -> EntryPair
+    ensures { result ≡ record { left = left; right = right; sort = sort; swapped = false } }
+{
+    EntryPair {
+        left,
+        right,
+        sort,
+        swapped: false,
+    }
+}
+
 // Reads two items.
+#[inline(always)]
 pub(crate) fn paired_items(a: &ItemKind, b: &ItemKind) -> Paired
     ensures { IsPairing a.now b.now result }
 {
@@ -26,19 +41,25 @@ pub(crate) fn paired_items(a: &ItemKind, b: &ItemKind) -> Paired
             _ => Paired::Others,
         },
         ItemKind::Func(x) => match *b {
-            ItemKind::Func(y) => Paired::Entries(x == y, Entries::Funcs(x, y)),
+            ItemKind::Func(y) => Paired::Entries(x == y, pair(Sort::Func, x.index(), y.index())),
             _ => Paired::Others,
         },
         ItemKind::Instance(x) => match *b {
-            ItemKind::Instance(y) => Paired::Entries(x == y, Entries::Interfaces(x, y)),
+            ItemKind::Instance(y) => {
+                Paired::Entries(x == y, pair(Sort::Interface, x.index(), y.index()))
+            }
             _ => Paired::Others,
         },
         ItemKind::Component(x) => match *b {
-            ItemKind::Component(y) => Paired::Entries(x == y, Entries::Worlds(x, y)),
+            ItemKind::Component(y) => {
+                Paired::Entries(x == y, pair(Sort::World, x.index(), y.index()))
+            }
             _ => Paired::Others,
         },
         ItemKind::Module(x) => match *b {
-            ItemKind::Module(y) => Paired::Entries(x == y, Entries::Modules(x, y)),
+            ItemKind::Module(y) => {
+                Paired::Entries(x == y, pair(Sort::Module, x.index(), y.index()))
+            }
             _ => Paired::Others,
         },
         ItemKind::Value(x) => match *b {
@@ -49,6 +70,7 @@ pub(crate) fn paired_items(a: &ItemKind, b: &ItemKind) -> Paired
 }
 
 // Reads two types.
+#[inline(always)]
 fn paired_types(a: Type, b: Type) -> Paired
     ensures { IsPairing (OfType a) (OfType b) result }
 {
@@ -58,7 +80,7 @@ fn paired_types(a: Type, b: Type) -> Paired
             _ => Paired::Others,
         },
         Type::Func(x) => match b {
-            Type::Func(y) => Paired::Entries(x == y, Entries::Funcs(x, y)),
+            Type::Func(y) => Paired::Entries(x == y, pair(Sort::Func, x.index(), y.index())),
             _ => Paired::Others,
         },
         Type::Value(x) => match b {
@@ -66,15 +88,17 @@ fn paired_types(a: Type, b: Type) -> Paired
             _ => Paired::Others,
         },
         Type::Interface(x) => match b {
-            Type::Interface(y) => Paired::Entries(x == y, Entries::Interfaces(x, y)),
+            Type::Interface(y) => {
+                Paired::Entries(x == y, pair(Sort::Interface, x.index(), y.index()))
+            }
             _ => Paired::Others,
         },
         Type::World(x) => match b {
-            Type::World(y) => Paired::Entries(x == y, Entries::Worlds(x, y)),
+            Type::World(y) => Paired::Entries(x == y, pair(Sort::World, x.index(), y.index())),
             _ => Paired::Others,
         },
         Type::Module(x) => match b {
-            Type::Module(y) => Paired::Entries(x == y, Entries::Modules(x, y)),
+            Type::Module(y) => Paired::Entries(x == y, pair(Sort::Module, x.index(), y.index())),
             _ => Paired::Others,
         },
     }

@@ -1,8 +1,12 @@
-use Rattle.wac_checker.proofs.ComparedLemmas.{fits_as_pair, items_refuted}
+use Rattle.std.proofs.Common.{◌≡◌, [], false, refl, ap}
+use Rattle.std.specs.Prelude.{List}
+use Rattle.wac_checker.specs.Pairs.{AreOfItems, entries_of}
+use Rattle.wac_checker.specs.PartLists.{PartLists}
+use Rattle.wac_checker.proofs.WalkLemmas.{answer_named, named_none, named_pair, named_stands}
 use Rattle.wac_checker.proofs.compared.Compared.fits.Goals as goal
 
-pub returns-in-Below-clause-answer : goal.returns-in-Below-clause-answer
-returns-in-Below-clause-answer c = fits_as_pair c.args.at.now c.args.bt.now c.args.a c.args.b c.in-Below.pair (rw c.in-Below.is at c.compare_items.ensures) c.pair_fits.result c.pair_fits.ensures.answer
-
-pub returns-in_ok-refused-in-Differs-clause-answer : goal.returns-in_ok-refused-in-Differs-clause-answer
-returns-in_ok-refused-in-Differs-clause-answer c = items_refuted c.args.at.now c.args.bt.now c.args.a c.args.b c.in-Differs.e (rw c.in-Differs.is at c.compare_items.ensures) c.in_ok-refused-in-Differs.ensures
+pub returns-clause-answer : goal.returns-clause-answer
+returns-clause-answer c =
+    let none = ap (λ (p : PartLists). p.items) c.new-walk.ensures.parts in
+    let of = (named_pair c.args.at.now c.args.bt.now false 0 c.args.a c.args.b c.new-walk.result.parts.items c.name_items.new.parts.items c.pop.new.self.items c.in-Some.part refl none c.in-Fits.ensures.listed c.in-Some.ensures.items) in
+    answer_named c.args.at.now c.args.bt.now c.args.a c.args.b c.in-Some.part.pair of.1 of.2 c.answer.result c.answer.ensures.answer

@@ -1,16 +1,32 @@
-use Rattle.std.proofs.Common.{◌≡◌, Contains, true, refl}
+use Rattle.std.proofs.Common.{◌≡◌, Contains, Bool, true, false, not, refl, sym, ◌∙◌}
+use Rattle.std.specs.List.{list_any}
+use Rattle.std.proofs.lemmas.List.Elements.{Contains-append_right}
 use Rattle.wac_checker.specs.Known.{few_of}
-use Rattle.wac_checker.proofs.KnownLemmas.{pair_with, set_added, set_has}
+use Rattle.wac_checker.specs.contracts.parts.EntryPairPartialEq.TheImpl.{ghosts}
+use Rattle.wac_checker.proofs.KnownLemmas.{set_has, set_new}
 use Rattle.wac_checker.proofs.known.Known.add.Goals as goal
-use Rattle.wac_checker.proofs.known.Known.add.Goals.{else-is_empty-via-then-is_empty+else-put_last, else-is_empty-via-else-is_empty}
+use Rattle.wac_checker.proofs.known.Known.add.Goals.{else-is_empty-via-then-is_empty+else-push, else-is_empty-via-else-is_empty}
 
-pub returns-clause-added : goal.returns-clause-added
-returns-clause-added c =
+not_false : (b : Bool) → not b ≡ false → b ≡ true
+not_false true h = refl
+not_false false h = absurd (cc)
+
+not_true : (b : Bool) → not b ≡ true → b ≡ false
+not_true true h = absurd (cc)
+not_true false h = refl
+
+pub returns-clause-there : goal.returns-clause-there
+returns-clause-there c e =
+    let many_same : c.else-is_empty.self.many.keys ≡ c.args.self.now.many.keys = elim c.else-is_empty.branch [ else-is_empty-via-then-is_empty+else-push w ↦ rw w.self-is refl | else-is_empty-via-else-is_empty w ↦ rw w.self-is refl ] in
+    let told : c.in_ok-insert.field-0 ≡ false = cc in
+    let hit = not_false (list_any (ghosts.eq c.args.pair.now) c.else-is_empty.self.many.keys) (sym c.in_ok-insert.ensures.added ∙ told) in
+    Contains-append_right (few_of c.args.self.now.few) c.args.self.now.many.keys c.args.pair.now (set_has c.args.self.now.many.keys c.args.pair.now (rw many_same at hit))
+
+pub returns-clause-new : goal.returns-clause-new
+returns-clause-new c e m =
     let few = few_of c.args.self.now.few in
-    let few_same : few_of c.else-is_empty.self.few ≡ few = elim c.else-is_empty.branch [ else-is_empty-via-then-is_empty+else-put_last w ↦ rw w.self-is (w.put_last.ensures.same w.if-put_last.false) | else-is_empty-via-else-is_empty w ↦ rw w.self-is refl ] in
-    let many_same : c.else-is_empty.self.many.keys ≡ c.args.self.now.many.keys = elim c.else-is_empty.branch [ else-is_empty-via-then-is_empty+else-put_last w ↦ rw w.self-is refl | else-is_empty-via-else-is_empty w ↦ rw w.self-is refl ] in
-    let none : Contains few (pair_with c.args.entries c.args.swapped) → ⊥ = (λ m. let there : c.is_among.result ≡ true = c.is_among.ensures.1 (rw c.few.ensures m) in absurd (cc (there, c.if-is_among.false))) in
-    rw few_same (set_added few c.args.self.now.many.keys c.insert.new.self.keys (pair_with c.args.entries c.args.swapped) none (rw many_same at c.in_ok-insert.ensures.keys))
-
-pub returns-clause-known : goal.returns-clause-known
-returns-clause-known c = set_has (few_of c.else-is_empty.self.few) c.else-is_empty.self.many.keys c.insert.new.self.keys (pair_with c.args.entries c.args.swapped) c.in_ok-insert.ensures.keys
+    let many_same : c.else-is_empty.self.many.keys ≡ c.args.self.now.many.keys = elim c.else-is_empty.branch [ else-is_empty-via-then-is_empty+else-push w ↦ rw w.self-is refl | else-is_empty-via-else-is_empty w ↦ rw w.self-is refl ] in
+    let none : Contains few c.args.pair.now → ⊥ = (λ n. let there : c.is_among.result ≡ true = c.is_among.ensures.1 (rw c.few.ensures n) in absurd (cc (there, c.if-is_among.false))) in
+    let told : c.in_ok-insert.field-0 ≡ true = cc in
+    let miss = not_true (list_any (ghosts.eq c.args.pair.now) c.else-is_empty.self.many.keys) (sym c.in_ok-insert.ensures.added ∙ told) in
+    set_new few c.args.self.now.many.keys c.args.pair.now none (rw many_same at miss) m

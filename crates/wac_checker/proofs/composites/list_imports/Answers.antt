@@ -1,0 +1,37 @@
+use Rattle.std.proofs.Common.{ap, ◌≡◌, ◌+◌, ◌∙◌, not, [], string_bytes, refl, sym, arith}
+use Rattle.wac_component.specs.Content.{named}
+use Rattle.wac_checker.proofs.ExternLemmas.{extern_stands, named_stands}
+use Rattle.wac_checker.proofs.ExternListing.{exports_lack, imports_lack, next_extern, no_externs}
+use Rattle.std.specs.Prelude.{option_copied}
+use Rattle.wac_checker.proofs.ExternPartLemmas.{named_length}
+use Rattle.wac_checker.proofs.composites.list_imports.Goals as goal
+
+pub name_items-requires-clause-left : goal.name_items-requires-clause-left
+name_items-requires-clause-left c = rw c.turned.ensures.left (named_stands c.args.sides.now.right.now (named (λ k. k) c.args.b.now.entries) (string_bytes c.extern_at.result.0.now) c.in-Some.given.now (sym c.named_at.ensures ∙ ap option_copied c.in-Some.is) c.requires.right)
+
+pub name_items-requires-clause-right : goal.name_items-requires-clause-right
+name_items-requires-clause-right c = rw c.turned.ensures.right (extern_stands c.args.sides.now.left.now (named (λ k. k) c.args.a.now.entries) c.loop-i.i (string_bytes c.extern_at.result.0.now) c.extern_at.result.1.now c.extern_at.ensures.at c.requires.left)
+
+pub items_apart-requires-clause-left : goal.items_apart-requires-clause-left
+items_apart-requires-clause-left c = rw c.turned.ensures.left (named_stands c.args.sides.now.right.now (named (λ k. k) c.args.b.now.entries) (string_bytes c.extern_at.result.0.now) c.in-Some.given.now (sym c.named_at.ensures ∙ ap option_copied c.in-Some.is) c.requires.right)
+
+pub items_apart-requires-clause-right : goal.items_apart-requires-clause-right
+items_apart-requires-clause-right c = rw c.turned.ensures.right (extern_stands c.args.sides.now.left.now (named (λ k. k) c.args.a.now.entries) c.loop-i.i (string_bytes c.extern_at.result.0.now) c.extern_at.result.1.now c.extern_at.ensures.at c.requires.left)
+
+pub desc-kind-requires : goal.desc-kind-requires
+desc-kind-requires c = extern_stands c.args.sides.now.left.now (named (λ k. k) c.args.a.now.entries) c.loop-i.i (string_bytes c.extern_at.result.0.now) c.extern_at.result.1.now c.extern_at.ensures.at c.requires.left
+
+pub returns-in_default-clause-listed : goal.returns-in_default-clause-listed
+returns-in_default-clause-listed c = (c.loop-i.invariant.0, tt, imports_lack c.args.sides.now.left.now c.args.sides.now.right.now (named (λ k. k) c.args.a.now.entries) (named (λ k. k) c.args.b.now.entries) c.extern_at.result.0 c.desc-kind.result c.extern_at.result.1.now c.extern_at.ensures.by_name (sym c.named_at.ensures ∙ ap option_copied c.in_default.is) c.desc-kind.ensures)
+
+pub returns-in-Differs-clause-listed : goal.returns-in-Differs-clause-listed
+returns-in-Differs-clause-listed c =
+    let told = rw (c.turned.ensures.left, c.turned.ensures.right) at c.in-Differs.ensures.listed in
+    let differ = rw (c.turned.ensures.left, c.turned.ensures.right) at c.items_apart.ensures in
+    rw told.0 (c.loop-i.invariant.0, refl, ((omega (arith, named_length c.args.a.now.entries), omega arith), ((string_bytes c.extern_at.result.0.now), c.in-Some.given.now, c.extern_at.result.1.now, (sym c.named_at.ensures ∙ ap option_copied c.in-Some.is, c.extern_at.ensures.at, c.extern_at.ensures.by_name), differ, told.2)))
+
+pub loop-i-preserved : goal.loop-i-preserved
+loop-i-preserved c = let more = next_extern c.args.sides.now.right.now c.args.sides.now.left.now (not c.args.sides.now.swapped) 0 (named (λ k. k) c.args.b.now.entries) (named (λ k. k) c.args.a.now.entries) c.loop-i.i c.loop-i.i (string_bytes c.extern_at.result.0.now) c.in-Some.given.now c.extern_at.result.1.now [] c.loop-i.parts.items c.name_items.new.parts.items (omega arith) (omega (arith, named_length c.args.a.now.entries), omega arith) (sym c.named_at.ensures ∙ ap option_copied c.in-Some.is, c.extern_at.ensures.at, c.extern_at.ensures.by_name) (rw (c.turned.ensures.left, c.turned.ensures.right, c.turned.ensures.swapped) at c.in-Fits.ensures.listed) (c.loop-i.invariant.0, c.loop-i.invariant.1) in (more.0, more.1, c.name_items.ensures.kept ∙ c.loop-i.invariant.2)
+
+pub returns-clause-listed : goal.returns-clause-listed
+returns-clause-listed c = (c.loop-i.invariant.0, λ all j b. c.loop-i.invariant.1 all j (let count = named_length c.args.a.now.entries in omega (arith, b, count)))

@@ -1,0 +1,28 @@
+use Rattle.std.proofs.Common.{◌≡◌, ◌<◌, inl, inr, length, Some, slice_get, refl, sym, ap, ◌∙◌, subst, arith}
+use Rattle.std.specs.Prelude.{Contains}
+use Rattle.std.proofs.lemmas.Option.{slice_get_within}
+use Rattle.wac_checker.specs.declared.parts.EntryPair.{EntryPair}
+use Rattle.wac_checker.proofs.CountLemmas.{last_or_before}
+use Rattle.wac_checker.proofs.KnownLemmas.{element_at, other_pair, pair_exact, place_of_pair}
+use Rattle.wac_checker.proofs.known.is_among.Goals as goal
+
+pub returns : goal.returns
+returns c = (
+  (λ h. absurd (cc (h))),
+  (λ m. absurd (let at = place_of_pair c.args.pairs.now c.args.pair.now m in let below : at.0 < length c.args.pairs.now = slice_get_within c.args.pairs.now at.0 c.args.pair.now at.1 in c.loop-i.invariant at.0 (omega (arith, below, c.loop-i-test.false)) at.1)),
+)
+
+pub returns-then-eq : goal.returns-then-eq
+returns-then-eq c = (
+  (λ h. let one = pair_exact c.pair_at.result c.args.pair.now (sym c.eq.ensures ∙ c.if-eq.true) in subst (λ (p : EntryPair). Contains c.args.pairs.now p) one (element_at c.args.pairs.now c.loop-i.i c.pair_at.result c.pair_at.ensures)),
+  (λ m. refl),
+)
+
+pub loop-i-preserved : goal.loop-i-preserved
+loop-i-preserved c = λ k b at. elim (last_or_before k c.loop-i.i (omega (arith, b))) [
+  | inl e ↦ (
+      let both : Some c.pair_at.result ≡ Some c.args.pair.now = sym c.pair_at.ensures ∙ ap (slice_get c.args.pairs.now) (sym e) ∙ at in
+      let one : c.pair_at.result ≡ c.args.pair.now = cc in
+      other_pair c.pair_at.result c.args.pair.now c.eq.result c.eq.ensures c.if-eq.false one)
+  | inr before ↦ c.loop-i.invariant k before at
+]

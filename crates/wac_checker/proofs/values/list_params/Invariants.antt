@@ -1,0 +1,14 @@
+use Rattle.std.proofs.Common.{◌≡◌, ◌+◌}
+use Rattle.wac_model.specs.ItemTree.{Kind}
+use Rattle.wac_component.specs.Content.{func_content}
+use Rattle.wac_component.specs.Height.{keys_height}
+use Rattle.wac_component.specs.Key.{func_keys}
+use Rattle.wac_checker.specs.Listing.{IsTurnTo, func_side}
+use Rattle.wac_checker.specs.declared.parts.Turn.TheVariants as turn
+use Rattle.wac_checker.proofs.values.list_params.Given as goal
+
+abbrev pub invariant-loop-i : goal.invariant-loop-i
+invariant-loop-i l = record {
+  turn : (k : Kind) → IsTurnTo l.sides.left.now l.sides.right.now l.sides.swapped (func_side k l.sides.left.now (func_content l.a)) (func_side k l.sides.right.now (func_content l.b)) (keys_height l.sides.left.now (func_keys (func_content l.a)) + 1) (keys_height l.sides.right.now (func_keys (func_content l.b)) + 1) l.i l.parts.items turn.End;
+  kept : l.parts.before ≡ l.initial.parts.before;
+}

@@ -1,0 +1,70 @@
+-- How far a comparison of pairs is.
+use Rattle.std.specs.Prelude.{◌≡◌, ◌≢◌, ◌+◌, ◌<◌, ◌≤◌, ◌⊎◌, ℕ, List, [], ◌∷◌, Bool, true, false, Some, slice_get, length, take, Contains}
+use Rattle.wac_component.specs.Collection.{Collection}
+use Rattle.wac_checker.specs.Pairs.{IsFitting, IsStanding, IsBelowPair, PairHasPart, PairPath, two_of}
+use Rattle.wac_mismatch.specs.declared.check.SubtypeCheck.{SubtypeCheck}
+use Rattle.wac_mismatch.specs.declared.fault.Fault.{Fault}
+use Rattle.wac_mismatch.specs.declared.frame.Frame.{Frame}
+use Rattle.wac_checker.specs.Listing.{AllFit}
+use Rattle.wac_checker.specs.declared.parts.EntryPair.{EntryPair}
+use Rattle.wac_checker.specs.declared.parts.Part.{Part}
+use Rattle.wac_checker.specs.declared.walk.Step.{Step}
+
+-- a part of a pair: it is lower, and fits if the pair does
+abbrev pub IsPartOfPair : Collection → Collection → EntryPair → Part → Type 0
+IsPartOfPair c d p q = PairHasPart c d (two_of c d p) q.index × IsBelowPair c d (two_of c d p) q.index (two_of c d q.pair)
+
+-- these are the parts of a pair, up to the first difference: after them the two differ or don't
+pub record AreListed (c d : Collection) (p : EntryPair) (ms : List Part) (differs : Bool) : Type 0 where
+  pub parts : (q : Part) → Contains ms q → IsPartOfPair c d p q
+  pub same : differs ≡ false → AllFit c d ms → IsFitting c d p
+  pub apart : differs ≡ true → ¬ (IsFitting c d p)
+
+-- the pair of a step stands, its parts stand on the list from a place on, and those before another
+-- place fit
+pub record IsAtStep (c d : Collection) (l : List Part) (s : Step) (done : ℕ) : Type 0 where
+  pub stands : IsStanding c d s.part.pair
+  pub within : (s.first ≤ done) × (done ≤ length l)
+  pub parts : (i : ℕ) (q : Part) → s.first ≤ i → slice_get l i ≡ Some q → IsPartOfPair c d s.part.pair q
+  pub fit : (i : ℕ) (q : Part) → s.first ≤ i → i < done → slice_get l i ≡ Some q → IsFitting c d q.pair
+  pub same : s.differs ≡ false → ((i : ℕ) (q : Part) → s.first ≤ i → slice_get l i ≡ Some q → IsFitting c d q.pair) → IsFitting c d s.part.pair
+  pub apart : s.differs ≡ true → ¬ (IsFitting c d s.part.pair)
+
+-- a step begins with the parts of a pair, which are put on the list
+pub record IsBegun (c d : Collection) (q : Part) (l m : List Part) (s : Step) : Type 0 where
+  pub part : s.part ≡ q
+  pub first : s.first ≡ length l
+  pub next : s.next ≡ length l
+  pub before : take (length l) m ≡ l
+  pub at : IsAtStep c d m s (length l)
+
+-- a step leads to a part of its pair, which is the one before its next
+pub record LeadsTo (c d : Collection) (l : List Part) (s : Step) (q : Part) : Type 0 where
+  pub place : ℕ
+  pub next : s.next ≡ place + 1
+  pub at : IsAtStep c d l s place
+  pub here : slice_get l place ≡ Some q
+
+-- steps, the last one first, lead from a pair to a part: each stands on what is left of the list
+-- without the parts of those after it
+abbrev pub LeadFrom : Collection → Collection → EntryPair → List Part → List Step → Part → Type 0
+LeadFrom c d r l [] q = q.pair ≡ r
+LeadFrom c d r l (s ∷ ss) q = LeadsTo c d l s q × LeadFrom c d r (take s.first l) ss s.part
+
+-- the pair of one of the steps
+abbrev pub IsOpen : List Step → EntryPair → Type 0
+IsOpen ss p = (s : Step) × Contains ss s × (s.part.pair ≡ p)
+
+-- steps, the last one first, are a path from a pair to a part
+abbrev pub PathFrom : Collection → Collection → EntryPair → List Step → Part → Type 0
+PathFrom c d r [] q = q.pair ≡ r
+PathFrom c d r (s ∷ ss) q = IsStanding c d s.part.pair × IsPartOfPair c d s.part.pair q × PathFrom c d r ss s.part
+
+-- steps, the last one first, are a path from a pair to one that doesn't fit
+abbrev pub IsPathTo : Collection → Collection → EntryPair → List Step → Type 0
+IsPathTo c d r [] = ¬ (IsFitting c d r)
+IsPathTo c d r (s ∷ ss) = IsStanding c d s.part.pair × (¬ (IsFitting c d s.part.pair)) × PathFrom c d r ss s.part
+
+-- these frames and this fault are a path from a pair
+abbrev pub IsPath : Collection → Collection → SubtypeCheck → EntryPair → List Frame → Fault → Type 0
+IsPath c d check p frames f = PairPath check c d (two_of c d p) frames f

@@ -1,0 +1,136 @@
+//! Where a comparison is: the parts that are listed, and the steps to the pair at hand.
+
+ghost use Rattle.std.specs.Prelude.{◌≡◌, ◌≤◌, [], false, length, IfOk, OnOk};
+ghost use Rattle.wac_checker.specs.Pairs.{IsStanding};
+ghost use Rattle.wac_checker.specs.Walk.{AreListed, IsBegun};
+
+use super::composites::list_parts;
+use super::parts::{EntryPair, NO_PAIR, Part, Parts, Turn};
+use super::short::Short;
+use super::sides::Sides;
+use std::alloc::{AllocError, Global};
+
+/// A pair whose parts are being compared: those of the list from `first` on. Those before `next`
+/// fit, but for the last of these where another pair is at hand, which is below it.
+#[derive(Clone, Copy)]
+pub(crate) struct Step {
+    // the pair, and which part of the one above it is
+    pub(crate) part: Part,
+    pub(crate) first: usize,
+    pub(crate) next: usize,
+    // whether the two of the pair differ after these parts
+    pub(crate) differs: bool,
+}
+
+/// What is found of two items.
+#[derive(Clone, Copy)]
+pub(crate) enum Found {
+    Fits,
+    /// They differ themselves.
+    Apart,
+    /// The steps of the walk lead to a pair that doesn't fit.
+    Below,
+    /// Memory was wanting.
+    Memory,
+}
+
+/// The parts of all pairs that are open, and the steps that lead to the pair at hand.
+pub(crate) struct Walk {
+    // the pair that is asked about
+    pub(crate) asked: EntryPair,
+    pub(crate) parts: Parts,
+    pub(crate) open: Short<Step>,
+}
+
+// By hand, as of `Known`.
+impl Drop for Walk {
+    fn drop(self) {
+        let Walk {
+            asked: _,
+            parts: _,
+            open: _,
+        } = self;
+    }
+}
+
+impl Walk {
+    /// The begin of a comparison, of which the pair isn't known yet.
+    #[inline(always)]
+    pub(crate) fn new(alloc: Global) -> Walk
+        ensures parts { result.parts ≡ record { before = []; items = [] } }
+        ensures open { result.open ≡ [] }
+    {
+        let none = Part {
+            pair: NO_PAIR,
+            index: 0,
+        };
+        let step = Step {
+            part: none,
+            first: 0,
+            next: 0,
+            differs: false,
+        };
+        Walk {
+            asked: NO_PAIR,
+            parts: Parts::new(alloc),
+            open: Short::new(alloc, step),
+        }
+    }
+
+    /// Lists the parts of a pair.
+    pub(crate) fn begin(
+        &mut self,
+        alloc: Global,
+        sides: &Sides<'_>,
+        part: Part,
+    ) -> Result<Step, AllocError>
+        requires stands { IsStanding sides.now.left.now sides.now.right.now part.pair }
+        requires straight { sides.now.swapped ≡ false }
+        requires none { self.old.parts.items ≡ [] }
+        ensures begun { IfOk result (IsBegun sides.now.left.now sides.now.right.now part self.old.parts.before self.new.parts.before) }
+        ensures listed { OnOk result (self.new.parts.items ≡ []) }
+        ensures open { self.new.open ≡ self.old.open }
+        ensures asked { self.new.asked ≡ self.old.asked }
+    {
+        let first = self.parts.len();
+        let differs = list_pair(alloc, sides, &part.pair, &mut self.parts)?;
+        self.parts.close();
+        Ok(Step {
+            part,
+            first,
+            next: first,
+            differs,
+        })
+    }
+}
+
+// Lists the parts of a pair, and answers whether its two differ after them.
+#[inline(never)]
+fn list_pair(
+    alloc: Global,
+    sides: &Sides<'_>,
+    pair: &EntryPair,
+    parts: &mut Parts,
+) -> Result<bool, AllocError>
+    requires stands { IsStanding sides.now.left.now sides.now.right.now pair.now }
+    requires straight { sides.now.swapped ≡ false }
+    requires none { parts.old.items ≡ [] }
+    ensures listed { IfOk result (AreListed sides.now.left.now sides.now.right.now pair.now parts.new.items) }
+    ensures kept { parts.new.before ≡ parts.old.before }
+{
+    match list_parts(sides, alloc, pair, parts) {
+        Turn::End => Ok(false),
+        Turn::Apart(_) => Ok(true),
+        Turn::PartApart(_, _, _) => Ok(true),
+        Turn::Memory => Err(AllocError),
+    }
+}
+
+/// Whether the pair of a step that begins has parts on the list, or its two differ.
+pub(crate) fn has_more(step: &Step, parts: &Parts) -> bool
+    requires { parts.now.items ≡ [] }
+    ensures even { result ≡ false → step.now.differs ≡ false }
+    ensures none { result ≡ false → length parts.now.before ≤ step.now.first }
+{
+    step.differs || step.first < parts.len()
+}
