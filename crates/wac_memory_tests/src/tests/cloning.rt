@@ -6,7 +6,7 @@ use super::trial::Trial;
 use indexmap::map::Values;
 use std::fmt::Debug;
 use std::slice;
-use wac_types::{CoreExtern, DefinedType, Interface, ModuleType, NameClass, Types};
+use wac_types::{CoreExtern, DefinedType, EntryId, Interface, ModuleType, NameClass, Types};
 
 // Clones a value.
 pub(crate) fn clone<T: Clone + Debug>(value: &T, trial: &mut Trial) {
@@ -82,8 +82,20 @@ fn clone_class(trial: &mut Trial) {
     }
 }
 
-// Clones each content of a collection, and a class of names.
+// Lists what the second defined type names, which is the first.
+fn list_named(types: &Types, trial: &mut Trial) {
+    let Some(id) = types.defined_type_at(1) else {
+        return trial.demand(false);
+    };
+    match types.ids_in(trial.alloc, EntryId::Defined(id)) {
+        Ok(ids) => trial.demand(ids.len() == 1),
+        Err(_) => trial.refuse(),
+    }
+}
+
+// Clones each content of a collection, the ids in one, and a class of names.
 pub(crate) fn clone_all(types: &Types, trial: &mut Trial) {
+    list_named(types, trial);
     clone_with_parts(types, trial);
     clone_each(types.resources(), trial);
     clone_each(types.func_types(), trial);
