@@ -1,16 +1,72 @@
 //! The texts of items and of their types.
 
-ghost use Rattle.std.specs.Prelude.{◌≡◌, ◌<◌, Some, length, slice_get};
+ghost use Rattle.std.specs.Prelude.{◌≡◌, ◌<◌, OnOk, Some, length, slice_get};
 ghost use Rattle.wac_component.specs.Content.{named, types_of};
 ghost use Rattle.wac_component.specs.Key.{AllStand, type_keys, item_keys, named_keys};
+ghost use Rattle.wac_item_text.specs.Rest.{AreStanding};
 
 use super::modules::push_module;
-use super::texts::{key_text, push_in_order};
-use super::values::{push_func, push_resource, push_value};
+use super::rest::{Chunk, Rest};
+use super::values::{begin_func, begin_value, push_resource};
 use indexmap::IndexMap;
 use std::alloc::{AllocError, Global};
-use std::collections::BTreeMap;
 use wac_component::{ItemKind, Type, Types};
+use wac_script_syntax::push_name;
+
+/// Puts the canonical text of an item's tree last. `Err` is a failed allocation, and what was put
+/// then is of no use.
+pub fn push_item_text(
+    alloc: Global,
+    text: &mut String,
+    types: &Types,
+    item: ItemKind,
+) -> Result<(), AllocError>
+    requires { AllStand types.now (item_keys item) }
+{
+    let mut rest = Rest::new(alloc);
+    push_item(&mut rest, types, item)?;
+    // no memory lasts for so many turns
+    for _ in 0..u64::MAX {
+        match rest.chunks.pop() {
+            Some(chunk) => put_chunk(alloc, text, &mut rest, types, chunk)?,
+            None => return Ok(()),
+        }
+    }
+    Ok(())
+}
+
+// Puts a chunk, or what it begins with, and lets the rest of it come next.
+fn put_chunk<'a>(
+    alloc: Global,
+    text: &mut String,
+    rest: &mut Rest<'a>,
+    types: &'a Types,
+    chunk: Chunk,
+) -> Result<(), AllocError>
+    requires { AreStanding types.now rest.old.pending.items }
+    ensures { OnOk result (AreStanding types.now rest.new.pending.items) }
+{
+    match chunk {
+        Chunk::Text => text.push_str(rest.texts.pop().unwrap_or("")),
+        Chunk::Name => push_name(text, rest.texts.pop().unwrap_or("")),
+        Chunk::Number(number) => write!(text, "{number}"),
+        Chunk::Type => match rest.pending.pop() {
+            Some(pending) => begin_type(alloc, text, rest, types, pending.ty),
+            None => Ok(()),
+        },
+    }
+}
+
+// Lets the text of an item come next.
+fn push_item(rest: &mut Rest<'_>, types: &Types, item: ItemKind) -> Result<(), AllocError>
+    requires before { AreStanding types.now rest.old.pending.items }
+    requires item { AllStand types.now (item_keys item) }
+    ensures { OnOk result (AreStanding types.now rest.new.pending.items) }
+{
+    rest.push_text(")")?;
+    rest.push_type(types, item.ty())?;
+    rest.push_text(sort_word(item))
+}
 
 // The word of an item's sort, and a parenthesis.
 fn sort_word(item: ItemKind) -> &'static str {
@@ -24,73 +80,94 @@ fn sort_word(item: ItemKind) -> &'static str {
     }
 }
 
-/// Puts the canonical text of an item's tree last. `Err` is a failed allocation, and what was put
-/// then is of no use.
-#[cycle(items)]
-pub fn push_item_text(
+// Begins the text of a type.
+fn begin_type<'a>(
     alloc: Global,
     text: &mut String,
-    types: &Types,
-    item: ItemKind,
+    rest: &mut Rest<'a>,
+    types: &'a Types,
+    ty: Type,
 ) -> Result<(), AllocError>
-    requires { AllStand types.now (item_keys item) }
-{
-    text.push_str(sort_word(item))?;
-    push_type(alloc, text, types, item.ty())?;
-    text.push_str(")")
-}
-
-// Puts the text of a type last.
-#[cycle(items)]
-fn push_type(alloc: Global, text: &mut String, types: &Types, ty: Type) -> Result<(), AllocError>
-    requires { AllStand types.now (type_keys ty) }
+    requires before { AreStanding types.now rest.old.pending.items }
+    requires ty { AllStand types.now (type_keys ty) }
+    ensures { OnOk result (AreStanding types.now rest.new.pending.items) }
 {
     match ty {
         Type::Resource(id) => push_resource(text, types, "resource ", id),
-        Type::Func(id) => push_func(text, types, id),
-        Type::Value(ty) => push_value(text, types, ty),
+        Type::Func(id) => begin_func(text, rest, types, &types[id]),
+        Type::Value(ty) => begin_value(text, rest, types, ty),
         Type::Interface(id) => {
             text.push_str("{")?;
-            push_items(alloc, text, types, &types[id].exports)?;
-            text.push_str("}")
+            push_items(alloc, rest, types, &types[id].exports)
         }
         Type::World(id) => {
             let world = &types[id];
             text.push_str("imports{")?;
-            push_items(alloc, text, types, &world.imports)?;
-            text.push_str("}exports{")?;
-            push_items(alloc, text, types, &world.exports)?;
-            text.push_str("}")
+            push_items(alloc, rest, types, &world.exports)?;
+            rest.push_text("exports{")?;
+            push_items(alloc, rest, types, &world.imports)
         }
         Type::Module(id) => push_module(alloc, text, &types[id]),
     }
 }
 
-// Puts named items last in the order of their names, with semicolons between them.
-#[cycle(items)]
-fn push_items(
+// Lets named items come next in the order of their names, with semicolons between them and a brace
+// behind.
+fn push_items<'a>(
     alloc: Global,
-    text: &mut String,
+    rest: &mut Rest<'a>,
     types: &Types,
-    items: &IndexMap<String, ItemKind>,
+    items: &'a IndexMap<String, ItemKind>,
 ) -> Result<(), AllocError>
-    requires { AllStand types.now (named_keys item_keys (named (λ k. k) items.now.entries)) }
+    requires before { AreStanding types.now rest.old.pending.items }
+    requires items { AllStand types.now (named_keys item_keys (named (λ k. k) items.now.entries)) }
+    ensures { OnOk result (AreStanding types.now rest.new.pending.items) }
 {
-    let mut texts = BTreeMap::new(alloc);
-    for i in 0..items.len() {
-        let (name, item) = item_at(items, i);
-        let mut text = key_text(alloc, name)?;
-        push_item_text(alloc, &mut text, types, item)?;
-        texts.insert(name.as_str(), text)?;
+    rest.push_text("}")?;
+    let names = sorted_names(alloc, items)?;
+    let count = names.len();
+    for i in 0..count {
+        push_named(rest, types, items, names[count - 1 - i])?;
+        rest.push_text(if count - 1 - i == 0 { "" } else { ";" })?;
     }
-    push_in_order(text, &texts)
+    Ok(())
 }
 
-// The name and the item at an index.
-fn item_at(items: &IndexMap<String, ItemKind>, index: usize) -> (&String, ItemKind)
-    requires { index < length items.now.entries }
-    ensures { slice_get (types_of items.now.entries) index ≡ Some result.1 }
+// The names of items in order.
+fn sorted_names<'a>(
+    alloc: Global,
+    items: &'a IndexMap<String, ItemKind>,
+) -> Result<Vec<&'a str>, AllocError> {
+    let mut names = Vec::new(alloc);
+    for name in items.keys() {
+        names.push(name.as_str())?;
+    }
+    names.sort()?;
+    Ok(names)
+}
+
+// Lets the item of a name come next, and its name before it.
+fn push_named<'a>(
+    rest: &mut Rest<'a>,
+    types: &Types,
+    items: &IndexMap<String, ItemKind>,
+    name: &'a str,
+) -> Result<(), AllocError>
+    requires before { AreStanding types.now rest.old.pending.items }
+    requires items { AllStand types.now (named_keys item_keys (named (λ k. k) items.now.entries)) }
+    ensures { OnOk result (AreStanding types.now rest.new.pending.items) }
 {
-    let (name, item) = items.get_index(index).unwrap();
-    (name, *item)
+    if let Some(at) = items.get_index_of(name) {
+        push_item(rest, types, item_at(items, at))?;
+        rest.push_key(name)?;
+    }
+    Ok(())
+}
+
+// The item at an index.
+fn item_at(items: &IndexMap<String, ItemKind>, index: usize) -> ItemKind
+    requires { index < length items.now.entries }
+    ensures { slice_get (types_of items.now.entries) index ≡ Some result }
+{
+    *items.get_index(index).unwrap().1
 }

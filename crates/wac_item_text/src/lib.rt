@@ -19,6 +19,7 @@
 mod core_words;
 mod items;
 mod modules;
+mod rest;
 mod texts;
 mod values;
 

@@ -1,15 +1,17 @@
-//! The texts of value types, of resources and of functions.
+//! The texts of value types, of resources and of functions: what comes first is put at once, and the
+//! rest in chunks.
 
-ghost use Rattle.std.specs.Prelude.{◌≡◌, ◌<◌, Some, length, slice_get};
+ghost use Rattle.std.specs.Prelude.{◌≡◌, ◌<◌, OnOk, Some, length, slice_get};
 ghost use Rattle.std.specs.List.{flat_map};
 ghost use Rattle.std.specs.Option.{option_to_list};
 ghost use Rattle.wac_component.specs.Content.{defined_content, func_content, types_of, case_types};
-ghost use Rattle.wac_component.specs.Key.{Stands, AllStand, resource_key, func_key, value_keys, defined_keys, func_keys};
+ghost use Rattle.wac_component.specs.Key.{Stands, AllStand, resource_key, value_keys, defined_keys, func_keys};
+ghost use Rattle.wac_item_text.specs.Rest.{AreStanding};
 
-use super::texts::push_key;
+use super::rest::Rest;
 use indexmap::{IndexMap, IndexSet};
 use std::alloc::AllocError;
-use wac_component::{DefinedType, FuncType, FuncTypeId, ResourceId, Types, ValueType};
+use wac_component::{DefinedType, FuncType, ResourceId, Types, ValueType};
 use wac_script_syntax::push_name;
 
 // Puts a text last, and then the word of the name at the root of a resource's aliases.
@@ -25,10 +27,16 @@ pub(crate) fn push_resource(
     push_name(text, &types[types.resolve_resource(id)].name)
 }
 
-// Puts the text of a value type last.
-#[cycle(values)]
-pub(crate) fn push_value(text: &mut String, types: &Types, ty: ValueType) -> Result<(), AllocError>
-    requires { AllStand types.now (value_keys ty) }
+// Begins the text of a value type.
+pub(crate) fn begin_value<'a>(
+    text: &mut String,
+    rest: &mut Rest<'a>,
+    types: &'a Types,
+    ty: ValueType,
+) -> Result<(), AllocError>
+    requires before { AreStanding types.now rest.old.pending.items }
+    requires ty { AllStand types.now (value_keys ty) }
+    ensures { OnOk result (AreStanding types.now rest.new.pending.items) }
 {
     match ty {
         ValueType::Primitive(of) => text.push_str(of.desc()),
@@ -40,62 +48,88 @@ pub(crate) fn push_value(text: &mut String, types: &Types, ty: ValueType) -> Res
             push_resource(text, types, "own<", id)?;
             text.push_str(">")
         }
-        ValueType::Defined(id) => push_defined(text, types, &types[id]),
+        ValueType::Defined(id) => begin_defined(text, rest, types, &types[id]),
     }
 }
 
-// Puts the text of a defined type last.
-#[cycle(values)]
-fn push_defined(text: &mut String, types: &Types, ty: &DefinedType) -> Result<(), AllocError>
-    requires { AllStand types.now (defined_keys (defined_content ty.now)) }
-{
-    match ty {
-        DefinedType::Tuple(items) => push_tuple(text, types, items),
-        DefinedType::List(item) => push_payload(text, types, "list<", Some(*item), ">"),
-        DefinedType::FixedSizeList(item, size) => {
-            push_payload(text, types, "list<", Some(*item), ";")?;
-            write!(text, "{size}>")
-        }
-        DefinedType::Map(key, value) => {
-            push_payload(text, types, "map<", Some(*key), ",")?;
-            push_payload(text, types, "", Some(*value), ">")
-        }
-        DefinedType::Option(item) => push_payload(text, types, "option<", Some(*item), ">"),
-        DefinedType::Result { ok, err } => {
-            push_payload(text, types, "result<", *ok, ",")?;
-            push_payload(text, types, "", *err, ">")
-        }
-        DefinedType::Variant(variant) => push_cases(text, types, &variant.cases),
-        DefinedType::Record(record) => {
-            text.push_str("record{")?;
-            push_fields(text, types, &record.fields)?;
-            text.push_str("}")
-        }
-        DefinedType::Flags(names) => push_names(text, "flags{", &names.0),
-        DefinedType::Enum(names) => push_names(text, "enum{", &names.0),
-        DefinedType::Alias(of) => push_value(text, types, *of),
-        DefinedType::Stream(of) => push_payload(text, types, "stream<", *of, ">"),
-        DefinedType::Future(of) => push_payload(text, types, "future<", *of, ">"),
-    }
-}
-
-// Puts a type last, or `_` where there is none, between two texts.
-#[cycle(values)]
-fn push_payload(
+// Begins the text of a defined type.
+fn begin_defined<'a>(
     text: &mut String,
+    rest: &mut Rest<'a>,
     types: &Types,
-    before: &str,
-    ty: Option<ValueType>,
-    after: &str,
+    ty: &'a DefinedType,
 ) -> Result<(), AllocError>
-    requires { AllStand types.now (flat_map value_keys (option_to_list ty)) }
+    requires before { AreStanding types.now rest.old.pending.items }
+    requires ty { AllStand types.now (defined_keys (defined_content ty.now)) }
+    ensures { OnOk result (AreStanding types.now rest.new.pending.items) }
 {
-    text.push_str(before)?;
+    text.push_str(first_word(ty))?;
     match ty {
-        Some(ty) => push_value(text, types, ty)?,
-        None => text.push_str("_")?,
+        DefinedType::Tuple(items) => push_items(rest, types, items),
+        DefinedType::List(item) | DefinedType::Option(item) => {
+            rest.push_text(">")?;
+            rest.push_value(types, *item)
+        }
+        DefinedType::FixedSizeList(item, size) => {
+            rest.push_text(">")?;
+            rest.push_number(*size)?;
+            rest.push_text(";")?;
+            rest.push_value(types, *item)
+        }
+        DefinedType::Map(key, value) => push_two(rest, types, Some(*key), Some(*value)),
+        DefinedType::Result { ok, err } => push_two(rest, types, *ok, *err),
+        DefinedType::Variant(variant) => {
+            rest.push_text("}")?;
+            push_cases(rest, types, &variant.cases)
+        }
+        DefinedType::Record(record) => {
+            rest.push_text("}")?;
+            push_fields(rest, types, &record.fields)
+        }
+        DefinedType::Flags(names) => push_names(text, &names.0),
+        DefinedType::Enum(names) => push_names(text, &names.0),
+        DefinedType::Alias(of) => rest.push_value(types, *of),
+        DefinedType::Stream(of) | DefinedType::Future(of) => {
+            rest.push_text(">")?;
+            rest.push_optional(types, *of)
+        }
     }
-    text.push_str(after)
+}
+
+// What the text of a defined type begins with.
+fn first_word(ty: &DefinedType) -> &'static str {
+    match ty {
+        DefinedType::Tuple(_) => "tuple<",
+        DefinedType::List(_) | DefinedType::FixedSizeList(_, _) => "list<",
+        DefinedType::Map(_, _) => "map<",
+        DefinedType::Option(_) => "option<",
+        DefinedType::Result { .. } => "result<",
+        DefinedType::Variant(_) => "variant{",
+        DefinedType::Record(_) => "record{",
+        DefinedType::Flags(_) => "flags{",
+        DefinedType::Enum(_) => "enum{",
+        DefinedType::Alias(_) => "",
+        DefinedType::Stream(_) => "stream<",
+        DefinedType::Future(_) => "future<",
+    }
+}
+
+// Lets two types come next, with a comma between them and an angle bracket behind.
+fn push_two(
+    rest: &mut Rest<'_>,
+    types: &Types,
+    first: Option<ValueType>,
+    second: Option<ValueType>,
+) -> Result<(), AllocError>
+    requires before { AreStanding types.now rest.old.pending.items }
+    requires first { AllStand types.now (flat_map value_keys (option_to_list first)) }
+    requires second { AllStand types.now (flat_map value_keys (option_to_list second)) }
+    ensures { OnOk result (AreStanding types.now rest.new.pending.items) }
+{
+    rest.push_text(">")?;
+    rest.push_optional(types, second)?;
+    rest.push_text(",")?;
+    rest.push_optional(types, first)
 }
 
 // What stands before the part of this index.
@@ -103,17 +137,19 @@ fn comma_before(index: usize) -> &'static str {
     if index == 0 { "" } else { "," }
 }
 
-// Puts the text of a tuple last.
-#[cycle(values)]
-fn push_tuple(text: &mut String, types: &Types, items: &[ValueType]) -> Result<(), AllocError>
-    requires { AllStand types.now (flat_map value_keys items.now) }
+// Lets the types of a tuple come next, with commas between them and an angle bracket behind.
+fn push_items(rest: &mut Rest<'_>, types: &Types, items: &[ValueType]) -> Result<(), AllocError>
+    requires before { AreStanding types.now rest.old.pending.items }
+    requires items { AllStand types.now (flat_map value_keys items.now) }
+    ensures { OnOk result (AreStanding types.now rest.new.pending.items) }
 {
-    text.push_str("tuple<")?;
+    rest.push_text(">")?;
     for i in 0..items.len() {
-        text.push_str(comma_before(i))?;
-        push_value(text, types, item_at(items, i))?;
+        let at = items.len() - 1 - i;
+        rest.push_value(types, item_at(items, at))?;
+        rest.push_text(comma_before(at))?;
     }
-    text.push_str(">")
+    Ok(())
 }
 
 fn item_at(items: &[ValueType], index: usize) -> ValueType
@@ -123,82 +159,85 @@ fn item_at(items: &[ValueType], index: usize) -> ValueType
     items[index]
 }
 
-// Puts fields or parameters last, with commas between them.
-#[cycle(values)]
-fn push_fields(
-    text: &mut String,
+// Lets fields or parameters come next, with commas between them.
+fn push_fields<'a>(
+    rest: &mut Rest<'a>,
     types: &Types,
-    fields: &IndexMap<String, ValueType>,
+    fields: &'a IndexMap<String, ValueType>,
 ) -> Result<(), AllocError>
-    requires { AllStand types.now (flat_map value_keys (types_of fields.now.entries)) }
+    requires before { AreStanding types.now rest.old.pending.items }
+    requires fields { AllStand types.now (flat_map value_keys (types_of fields.now.entries)) }
+    ensures { OnOk result (AreStanding types.now rest.new.pending.items) }
 {
     for i in 0..fields.len() {
-        let (name, ty) = field_at(fields, i);
-        push_key(text, comma_before(i), name)?;
-        push_value(text, types, ty)?;
+        let at = fields.len() - 1 - i;
+        let (name, ty) = field_at(fields, at);
+        rest.push_value(types, ty)?;
+        rest.push_key(name)?;
+        rest.push_text(comma_before(at))?;
     }
     Ok(())
 }
 
 // The name and the type at an index.
-fn field_at(fields: &IndexMap<String, ValueType>, index: usize) -> (&String, ValueType)
+fn field_at(fields: &IndexMap<String, ValueType>, index: usize) -> (&str, ValueType)
     requires { index < length fields.now.entries }
     ensures { slice_get (types_of fields.now.entries) index ≡ Some result.1 }
 {
     let (name, ty) = fields.get_index(index).unwrap();
-    (name, *ty)
+    (name.as_str(), *ty)
 }
 
-// Puts the text of a variant last.
-#[cycle(values)]
-fn push_cases(
-    text: &mut String,
+// Lets the cases of a variant come next, with commas between them.
+fn push_cases<'a>(
+    rest: &mut Rest<'a>,
     types: &Types,
-    cases: &IndexMap<String, Option<ValueType>>,
+    cases: &'a IndexMap<String, Option<ValueType>>,
 ) -> Result<(), AllocError>
-    requires { AllStand types.now (flat_map value_keys (case_types cases.now.entries)) }
+    requires before { AreStanding types.now rest.old.pending.items }
+    requires cases { AllStand types.now (flat_map value_keys (case_types cases.now.entries)) }
+    ensures { OnOk result (AreStanding types.now rest.new.pending.items) }
 {
-    text.push_str("variant{")?;
     for i in 0..cases.len() {
-        let (name, ty) = case_at(cases, i);
-        text.push_str(comma_before(i))?;
-        push_case(text, types, name, ty)?;
+        let at = cases.len() - 1 - i;
+        let (name, ty) = case_at(cases, at);
+        push_case(rest, types, name, ty)?;
+        rest.push_text(comma_before(at))?;
     }
-    text.push_str("}")
+    Ok(())
 }
 
 // The name and the type at an index.
-fn case_at(
-    cases: &IndexMap<String, Option<ValueType>>,
-    index: usize,
-) -> (&String, Option<ValueType>)
+fn case_at(cases: &IndexMap<String, Option<ValueType>>, index: usize) -> (&str, Option<ValueType>)
     requires { index < length cases.now.entries }
     ensures { slice_get (types_of cases.now.entries) index ≡ Some result.1 }
 {
     let (name, ty) = cases.get_index(index).unwrap();
-    (name, *ty)
+    (name.as_str(), *ty)
 }
 
-// Puts the text of a case last.
-#[cycle(values)]
-fn push_case(
-    text: &mut String,
+// Lets a case come next.
+fn push_case<'a>(
+    rest: &mut Rest<'a>,
     types: &Types,
-    name: &str,
+    name: &'a str,
     ty: Option<ValueType>,
 ) -> Result<(), AllocError>
-    requires { AllStand types.now (flat_map value_keys (option_to_list ty)) }
+    requires before { AreStanding types.now rest.old.pending.items }
+    requires ty { AllStand types.now (flat_map value_keys (option_to_list ty)) }
+    ensures { OnOk result (AreStanding types.now rest.new.pending.items) }
 {
-    push_name(text, name)?;
     match ty {
-        Some(_) => push_payload(text, types, "=", ty, ""),
-        None => Ok(()),
+        Some(ty) => {
+            rest.push_value(types, ty)?;
+            rest.push_key(name)
+        }
+        None => rest.push_name(name),
     }
 }
 
-// Puts a text, names with commas between them, and a closing brace last.
-fn push_names(text: &mut String, before: &str, names: &IndexSet<String>) -> Result<(), AllocError> {
-    text.push_str(before)?;
+// Puts names with commas between them, and a closing brace, last.
+fn push_names(text: &mut String, names: &IndexSet<String>) -> Result<(), AllocError> {
     let mut is_first = true;
     for name in names {
         if !is_first {
@@ -210,29 +249,34 @@ fn push_names(text: &mut String, before: &str, names: &IndexSet<String>) -> Resu
     text.push_str("}")
 }
 
-// Puts the text of a function type last.
-pub(crate) fn push_func(text: &mut String, types: &Types, id: FuncTypeId) -> Result<(), AllocError>
-    requires { Stands types.now (func_key id) }
-{
-    push_signature(text, types, &types[id])
-}
-
-// Puts the text of what a function type says last.
-fn push_signature(text: &mut String, types: &Types, func: &FuncType) -> Result<(), AllocError>
-    requires { AllStand types.now (func_keys (func_content func.now)) }
+// Begins the text of a function.
+pub(crate) fn begin_func<'a>(
+    text: &mut String,
+    rest: &mut Rest<'a>,
+    types: &Types,
+    func: &'a FuncType,
+) -> Result<(), AllocError>
+    requires before { AreStanding types.now rest.old.pending.items }
+    requires func { AllStand types.now (func_keys (func_content func.now)) }
+    ensures { OnOk result (AreStanding types.now rest.new.pending.items) }
 {
     text.push_str(if func.is_async { "async(" } else { "func(" })?;
-    push_fields(text, types, &func.params)?;
-    text.push_str(")")?;
-    push_result(text, types, func.result)
+    push_result(rest, types, func.result)?;
+    rest.push_text(")")?;
+    push_fields(rest, types, &func.params)
 }
 
-// Puts the result of a function last, if it has one.
-fn push_result(text: &mut String, types: &Types, ty: Option<ValueType>) -> Result<(), AllocError>
-    requires { AllStand types.now (flat_map value_keys (option_to_list ty)) }
+// Lets the result of a function come next, if it has one.
+fn push_result(rest: &mut Rest<'_>, types: &Types, ty: Option<ValueType>) -> Result<(), AllocError>
+    requires before { AreStanding types.now rest.old.pending.items }
+    requires ty { AllStand types.now (flat_map value_keys (option_to_list ty)) }
+    ensures { OnOk result (AreStanding types.now rest.new.pending.items) }
 {
     match ty {
-        Some(_) => push_payload(text, types, "->", ty, ""),
+        Some(ty) => {
+            rest.push_value(types, ty)?;
+            rest.push_text("->")
+        }
         None => Ok(()),
     }
 }
