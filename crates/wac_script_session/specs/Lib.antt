@@ -2,3 +2,4 @@ pub mod Calls
 pub mod Collections
 pub mod Places
 pub mod PlaceLaws
+pub mod Provided

@@ -1,10 +1,11 @@
 //! The imports of an aggregator.
 
-ghost use Rattle.std.specs.Prelude.{◌≡◌, ◌<◌, Some, length, slice_get};
+ghost use Rattle.std.specs.Prelude.{◌≡◌, ◌<◌, IfOk, OnOk, Some, length, slice_get};
 ghost use Rattle.wac_component.specs.Content.{named, types_of, use_content};
 ghost use Rattle.wac_component.specs.Key.{AllStand, Stands, interface_key, item_keys, named_keys, use_keys};
 ghost use Rattle.wac_aggregator.specs.HandedIn.{called, handed_in};
 ghost use Rattle.wac_script_session.specs.Calls.{AreAsked, IsAsked};
+ghost use Rattle.wac_script_session.specs.Provided.{AreProvided};
 
 use indexmap::{IndexMap, IndexSet};
 use std::alloc::{AllocError, Global};
@@ -31,10 +32,65 @@ pub(crate) fn push_imports(
         push_import(alloc, text, aggregator.types(), name, &kind)?;
     }
     push_names(alloc, text, aggregator, calls)?;
+    push_served(alloc, text, aggregator, calls)
+}
+
+// Puts of each call last whether it is served by the import to which its name leads.
+fn push_served(
+    alloc: Global,
+    text: &mut String,
+    aggregator: &TypeAggregator,
+    calls: &[Call<'_>],
+) -> Result<(), AllocError>
+    requires { AreAsked aggregator.now.types.number (handed_in calls.now) }
+{
+    let names = import_names(alloc, aggregator)?;
+    let provided = provided_by(alloc, aggregator)?;
     for at in 0..calls.len() {
-        let answer = serves(alloc, aggregator, &calls[at])?;
+        let name = aggregator.canonical_import_name(calls[at].name);
+        let place = names.get_index_of(name).unwrap_or(provided.len());
+        let answer = match provided.get(place) {
+            Some(import) => fits(alloc, aggregator.types(), import.kind, &calls[at])?,
+            None => "missing",
+        };
         write!(text, "\n  serves {at} {answer}")?;
     }
+    Ok(())
+}
+
+// The names of the imports in order.
+fn import_names(alloc: Global, aggregator: &TypeAggregator) -> Result<IndexSet<&str>, AllocError> {
+    let mut names = IndexSet::new(alloc);
+    for (name, _) in aggregator.imports() {
+        names.insert(name)?;
+    }
+    Ok(names)
+}
+
+// The item of an import, which serves calls. (The prover asks for a type of this crate around an
+// enum of another one that is pushed.)
+#[derive(Drop)]
+struct Provided {
+    kind: ItemKind,
+}
+
+// The items of the imports in order.
+fn provided_by(alloc: Global, aggregator: &TypeAggregator) -> Result<Vec<Provided>, AllocError>
+    ensures { IfOk result (λ provided. AreProvided aggregator.now.types provided.items) }
+{
+    let mut provided = Vec::new(alloc);
+    for (_, kind) in aggregator.imports() {
+        push_kind(aggregator.types(), &mut provided, kind)?;
+    }
+    Ok(provided)
+}
+
+fn push_kind(types: &Types, provided: &mut Vec<Provided>, kind: ItemKind) -> Result<(), AllocError>
+    requires before { AreProvided types.now provided.old.items }
+    requires kind { AllStand types.now (item_keys kind) }
+    ensures { OnOk result (AreProvided types.now provided.new.items) }
+{
+    provided.push(Provided { kind })?;
     Ok(())
 }
 
@@ -160,23 +216,7 @@ fn push_canonical(
     push_name(text, aggregator.canonical_import_name(name))
 }
 
-// Whether the import to which the name of a call leads fits where the item is asked for.
-fn serves(
-    alloc: Global,
-    aggregator: &TypeAggregator,
-    call: &Call<'_>,
-) -> Result<&'static str, AllocError>
-    requires { IsAsked aggregator.now.types.number (called call.now) }
-{
-    let name = aggregator.canonical_import_name(call.name);
-    for (import, kind) in aggregator.imports() {
-        if import == name {
-            return fits(alloc, aggregator.types(), kind, call);
-        }
-    }
-    Ok("missing")
-}
-
+// Whether an import fits where the item of a call is asked for.
 fn fits(
     alloc: Global,
     types: &Types,

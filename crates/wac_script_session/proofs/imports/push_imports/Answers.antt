@@ -1,6 +1,4 @@
 use Rattle.std.proofs.Common.{Contains, subst}
-use Rattle.wac_aggregator.specs.HandedIn.{called, handed_in}
-use Rattle.wac_aggregator.proofs.Listing.{Contains-at, called_at}
 use Rattle.wac_imports.specs.Left.{imports_left}
 use Rattle.wac_imports.specs.declared.imports.Imports.{Imports}
 use Rattle.wac_script_session.proofs.Handed.{yielded_among}
@@ -12,8 +10,3 @@ push_import-requires c =
     (c.imports-name-items.ensures.standing c.in-Some.name.now c.in-Some.kind
     (subst (λ (it : Imports). Contains (imports_left it) (c.in-Some.name.now, c.in-Some.kind)) c.into_iter-name-iterator.ensures.into_iter_gives
     (yielded_among (λ p. (p.0.now, p.1)) imports_left _ _ c.next.new.self c.loop-name.yielded _ (c.in-Some.name, c.in-Some.kind) c.loop-name.yielded_by c.in-Some.is c.next.ensures.steps)))
-
-pub serves-requires : goal.serves-requires
-serves-requires c =
-    c.requires.each (called c.index-calls-at.result)
-    (Contains-at (handed_in c.args.calls.now) c.loop-at.at-counter (called c.index-calls-at.result) (called_at c.args.calls.now c.loop-at.at-counter c.index-calls-at.result c.loop-at-test.true c.index-calls-at.is))
