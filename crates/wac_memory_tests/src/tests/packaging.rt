@@ -21,14 +21,6 @@ const SHOWN: &str =
 // The interface that is added for a package.
 const ADDED: &str = "iface - e:out=I:i0 e:d=T:w0";
 
-// Demands that a clone of a value is like another one.
-fn clone_to<T: Clone + PartialEq + Drop>(value: &T, wanted: &T, trial: &mut Trial) {
-    match value.clone() {
-        Ok(copy) => trial.demand(copy == *wanted),
-        Err(_) => trial.refuse(),
-    }
-}
-
 // Makes a key of a package, owns a borrowed one, and clones it: the keys are alike, and like the
 // package's own.
 fn make_key(package: &Package, trial: &mut Trial) {
@@ -38,7 +30,7 @@ fn make_key(package: &Package, trial: &mut Trial) {
         (Ok(made), Ok(owned)) => {
             trial.demand(made == owned);
             trial.demand(made.borrowed_key() == BorrowedPackageKey::new(package));
-            clone_to(made, owned, trial);
+            clone(made, trial);
         }
         _ => trial.refuse(),
     }
