@@ -16,7 +16,7 @@ use wac_types::{Call, SubtypeChecker, Types, aggregate_all};
 // one, and what becomes of it: the names of the imports, or what a refusal says.
 pub(crate) struct Merging {
     // The lines of the second collection.
-    second: &'static str,
+    second: &'static [&'static str],
     handed: &'static [Handed],
     wanted: &'static str,
 }
@@ -91,7 +91,7 @@ impl Merging {
         trial: &mut Trial,
     ) {
         let mut second = Types::new(trial.alloc, 2);
-        match fill(trial.alloc, &mut second, &[self.second], &UNCHANGED) {
+        match fill(trial.alloc, &mut second, self.second, &UNCHANGED) {
             Ok(()) => self.merge_with(types, &second, cache, way == 1, trial),
             Err(error) => trial.fail_line(&error),
         }
@@ -99,13 +99,17 @@ impl Merging {
 }
 
 // Two versions of one interface.
-const VERSIONS: &str = "func sync -
-iface a:b/c@0.2.0 e:foo=F:fn0
-iface a:b/c@0.2.1 e:foo=F:fn0";
+const VERSIONS: &[&str] = &[
+    "func sync -",
+    "iface a:b/c@0.2.0 e:foo=F:fn0",
+    "iface a:b/c@0.2.1 e:foo=F:fn0",
+];
 
 // An interface that uses a type of another one, and such interfaces of both collections.
-const USER: &str = "iface dep:pkg/types@0.2.0 e:my-used=T:u8
-iface my:pkg/iface@1.0.0 u:my-used=i0";
+const USER: &[&str] = &[
+    "iface dep:pkg/types@0.2.0 e:my-used=T:u8",
+    "iface my:pkg/iface@1.0.0 u:my-used=i0",
+];
 
 const USERS: &[Handed] = &[
     ("my:pkg/iface@1.0.0", 1, "I:i1"),
@@ -113,21 +117,25 @@ const USERS: &[Handed] = &[
 ];
 
 // An interface whose resource has an owner, and one whose resource has none.
-const OWNED: &str = "iface p:k/k@1.0.0 e:t=T:u8
-res r
-iface p:o/o@1.0.0 u:t=i0 e:r=T:r0 e:t=T:u8
-res r r0 i1
-iface p:u/u@1.0.0 u:r=i1 e:r=T:r1";
+const OWNED: &[&str] = &[
+    "iface p:k/k@1.0.0 e:t=T:u8",
+    "res r",
+    "iface p:o/o@1.0.0 u:t=i0 e:r=T:r0 e:t=T:u8",
+    "res r r0 i1",
+    "iface p:u/u@1.0.0 u:r=i1 e:r=T:r1",
+];
 
-const UNOWNED: &str = "res r
-iface p:u/u@1.0.0 e:r=T:r0
-func sync - x=own:r0
-iface p:k/k@1.0.0 e:f=F:fn0";
+const UNOWNED: &[&str] = &[
+    "res r",
+    "iface p:u/u@1.0.0 e:r=T:r0",
+    "func sync - x=own:r0",
+    "iface p:k/k@1.0.0 e:f=F:fn0",
+];
 
 static CASES: [Case; 6] = [
     Case {
         shown: "two versions of an interface",
-        texts: &[VERSIONS],
+        lines: VERSIONS,
         ways: 2,
         tried: Tried::Merging(Merging {
             second: VERSIONS,
@@ -141,44 +149,47 @@ static CASES: [Case; 6] = [
     },
     Case {
         shown: "a component's import, and an interface of its name",
-        texts: &[
-            "func sync -
-iface d:p/t@1.0.0 e:f=F:fn0
-world - m:x=I:i0",
+        lines: &[
+            "func sync -",
+            "iface d:p/t@1.0.0 e:f=F:fn0",
+            "world - m:x=I:i0",
         ],
         ways: 2,
         tried: Tried::Merging(Merging {
-            second: "func sync -
-iface d:p/t@1.0.0 e:f=F:fn0 e:g=F:fn0",
+            second: &["func sync -", "iface d:p/t@1.0.0 e:f=F:fn0 e:g=F:fn0"],
             handed: &[("c", 1, "C:w0"), ("d:p/t@1.0.0", 2, "I:i0")],
             wanted: "c d:p/t@1.0.0 ",
         }),
     },
     Case {
         shown: "interfaces that use a type of one track",
-        texts: &[USER],
+        lines: USER,
         ways: 2,
         tried: Tried::Merging(Merging {
-            second: "iface dep:pkg/types@0.2.1 e:my-used=T:u8
-iface my:pkg/iface@1.0.0 u:my-used=i0",
+            second: &[
+                "iface dep:pkg/types@0.2.1 e:my-used=T:u8",
+                "iface my:pkg/iface@1.0.0 u:my-used=i0",
+            ],
             handed: USERS,
             wanted: "my:pkg/iface@1.0.0 ",
         }),
     },
     Case {
         shown: "interfaces that use a type of two tracks",
-        texts: &[USER],
+        lines: USER,
         ways: 2,
         tried: Tried::Merging(Merging {
-            second: "iface dep:pkg/types@0.3.0 e:my-used=T:u8
-iface my:pkg/iface@1.0.0 u:my-used=i0",
+            second: &[
+                "iface dep:pkg/types@0.3.0 e:my-used=T:u8",
+                "iface my:pkg/iface@1.0.0 u:my-used=i0",
+            ],
             handed: USERS,
             wanted: "cannot merge used type `my-used` as it is expected to be from interface `dep:pkg/types@0.2.0` but it is from interface `dep:pkg/types@0.3.0`",
         }),
     },
     Case {
         shown: "a resource that has an owner, and one that has none",
-        texts: &[OWNED],
+        lines: OWNED,
         ways: 2,
         tried: Tried::Merging(Merging {
             second: UNOWNED,
@@ -192,7 +203,7 @@ iface my:pkg/iface@1.0.0 u:my-used=i0",
     },
     Case {
         shown: "a resource that has no owner, and one that has one",
-        texts: &[OWNED],
+        lines: OWNED,
         ways: 2,
         tried: Tried::Merging(Merging {
             second: UNOWNED,

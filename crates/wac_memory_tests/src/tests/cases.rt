@@ -55,8 +55,8 @@ impl Tried {
 pub(crate) struct Case {
     // What a failure says of the case.
     pub(crate) shown: &'static str,
-    // The texts whose lines are the collection, whose number is 1.
-    pub(crate) texts: &'static [&'static str],
+    // The lines of the collection, whose number is 1.
+    pub(crate) lines: &'static [&'static str],
     // In how many ways it is tried.
     pub(crate) ways: usize,
     pub(crate) tried: Tried,
@@ -66,7 +66,7 @@ pub(crate) struct Case {
 fn try_once(case: &Case, way: usize, trial: &mut Trial) {
     let mut types = Types::new(trial.alloc, 1);
     let mut cache = HashSet::new(trial.alloc);
-    match fill(trial.alloc, &mut types, case.texts, &UNCHANGED) {
+    match fill(trial.alloc, &mut types, case.lines, &UNCHANGED) {
         Ok(()) => case.tried.attempt(&mut types, &mut cache, way, trial),
         Err(error) => trial.fail_line(&error),
     }

@@ -234,14 +234,14 @@ impl Putting {
         let is_put = put(types, &self.sort, &place, trial);
         demand_answers(types, trial);
         let change = Change::where_made(is_put, place.line, self.second);
-        demand_lines(types, &ENTRIES, &change, trial);
+        demand_lines(types, &ENTRIES, &change, &[], trial);
     }
 }
 
 static CASES: [Case; 6] = [
     Case {
         shown: "a defined type",
-        texts: &ENTRIES,
+        lines: &ENTRIES,
         ways: 3,
         tried: Tried::Putting(Putting {
             sort: Sort::DefinedType,
@@ -252,7 +252,7 @@ static CASES: [Case; 6] = [
     },
     Case {
         shown: "a resource",
-        texts: &ENTRIES,
+        lines: &ENTRIES,
         ways: 3,
         tried: Tried::Putting(Putting {
             sort: Sort::Resource,
@@ -263,7 +263,7 @@ static CASES: [Case; 6] = [
     },
     Case {
         shown: "a function",
-        texts: &ENTRIES,
+        lines: &ENTRIES,
         ways: 3,
         tried: Tried::Putting(Putting {
             sort: Sort::Func,
@@ -274,7 +274,7 @@ static CASES: [Case; 6] = [
     },
     Case {
         shown: "an interface",
-        texts: &ENTRIES,
+        lines: &ENTRIES,
         ways: 3,
         tried: Tried::Putting(Putting {
             sort: Sort::Interface,
@@ -285,7 +285,7 @@ static CASES: [Case; 6] = [
     },
     Case {
         shown: "a world",
-        texts: &ENTRIES,
+        lines: &ENTRIES,
         ways: 3,
         tried: Tried::Putting(Putting {
             sort: Sort::World,
@@ -296,7 +296,7 @@ static CASES: [Case; 6] = [
     },
     Case {
         shown: "a core module",
-        texts: &ENTRIES,
+        lines: &ENTRIES,
         ways: 3,
         tried: Tried::Putting(Putting {
             sort: Sort::Module,

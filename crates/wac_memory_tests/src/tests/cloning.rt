@@ -104,30 +104,32 @@ pub(crate) fn clone_all(types: &Types, trial: &mut Trial) {
 }
 
 // Defined types of each kind.
-const DEFINED: &str = "def list u8
-def tuple d0 u8
-def fixed u8 4
-def map u8 d0
-def option d0
-def result u8 -
-def alias d0
-def stream u8
-def future -
-def variant a=- b=u8
-def record a=u8
-def flags a b
-def enum a b";
+const DEFINED: &[&str] = &[
+    "def list u8",
+    "def tuple d0 u8",
+    "def fixed u8 4",
+    "def map u8 d0",
+    "def option d0",
+    "def result u8 -",
+    "def alias d0",
+    "def stream u8",
+    "def future -",
+    "def variant a=- b=u8",
+    "def record a=u8",
+    "def flags a b",
+    "def enum a b",
+];
 
 static CASES: [Case; 2] = [
     Case {
         shown: "defined types",
-        texts: &[DEFINED],
+        lines: DEFINED,
         ways: 1,
         tried: Tried::Clones,
     },
     Case {
         shown: "entries",
-        texts: &ENTRIES,
+        lines: &ENTRIES,
         ways: 1,
         tried: Tried::Clones,
     },

@@ -90,7 +90,7 @@ impl Comparison {
 static CASES: [Case; 5] = [
     Case {
         shown: "a memory with wider limits",
-        texts: &["module e:m=mem:1:-:0:0:-\nmodule e:m=mem:2:5:0:0:-"],
+        lines: &["module e:m=mem:1:-:0:0:-", "module e:m=mem:2:5:0:0:-"],
         ways: 2,
         tried: Tried::Comparison(Comparison {
             a: "M:m0",
@@ -101,7 +101,7 @@ static CASES: [Case; 5] = [
     },
     Case {
         shown: "an import that is not given",
-        texts: &["func sync -\nworld - m:x=F:fn0\nworld -"],
+        lines: &["func sync -", "world - m:x=F:fn0", "world -"],
         ways: 2,
         tried: Tried::Comparison(Comparison {
             a: "C:w0",
@@ -112,13 +112,13 @@ static CASES: [Case; 5] = [
     },
     Case {
         shown: "instances of which one lacks an export below others that fit",
-        texts: &[
-            "func sync -
-iface - e:f=F:fn0
-iface - e:f=F:fn0
-iface - e:f=F:fn0 e:g=F:fn0
-iface - e:a=I:i0 e:b=I:i0
-iface - e:a=I:i1 e:b=I:i2",
+        lines: &[
+            "func sync -",
+            "iface - e:f=F:fn0",
+            "iface - e:f=F:fn0",
+            "iface - e:f=F:fn0 e:g=F:fn0",
+            "iface - e:a=I:i0 e:b=I:i0",
+            "iface - e:a=I:i1 e:b=I:i2",
         ],
         ways: 2,
         tried: Tried::Comparison(Comparison {
@@ -131,51 +131,91 @@ iface - e:a=I:i1 e:b=I:i2",
     // lists in lists, deep enough that the pairs that are named take memory
     Case {
         shown: "lists of other elements",
-        texts: &[
-            "def list u8
-def list s8
-def list d0
-def list d1
-def list d2
-def list d3
-def list d4
-def list d5
-def list d6
-def list d7
-def list d8
-def list d9
-def list d10
-def list d11
-def list d12
-def list d13",
+        lines: &[
+            "def list u8",
+            "def list s8",
+            "def list d0",
+            "def list d1",
+            "def list d2",
+            "def list d3",
+            "def list d4",
+            "def list d5",
+            "def list d6",
+            "def list d7",
+            "def list d8",
+            "def list d9",
         ],
         ways: 2,
         tried: Tried::Comparison(Comparison {
-            a: "V:d14",
-            b: "V:d15",
-            covariant: "mismatched type for list element / mismatched type for list element / mismatched type for list element / mismatched type for list element / mismatched type for list element / mismatched type for list element / mismatched type for list element / mismatched type for list element / expected s8, found u8",
-            contravariant: "mismatched type for list element / mismatched type for list element / mismatched type for list element / mismatched type for list element / mismatched type for list element / mismatched type for list element / mismatched type for list element / mismatched type for list element / expected u8, found s8",
+            a: "V:d10",
+            b: "V:d11",
+            covariant: "mismatched type for list element / mismatched type for list element / mismatched type for list element / mismatched type for list element / mismatched type for list element / mismatched type for list element / expected s8, found u8",
+            contravariant: "mismatched type for list element / mismatched type for list element / mismatched type for list element / mismatched type for list element / mismatched type for list element / mismatched type for list element / expected u8, found s8",
         }),
     },
     Case {
         shown: "tuples that share",
-        texts: &[
-            "def tuple u8 u8\ndef tuple u8 u8",
-            "def tuple d0 d0\ndef tuple d1 d1\ndef tuple d2 d2\ndef tuple d3 d3",
-            "def tuple d4 d4\ndef tuple d5 d5\ndef tuple d6 d6\ndef tuple d7 d7",
-            "def tuple d8 d8\ndef tuple d9 d9\ndef tuple d10 d10\ndef tuple d11 d11",
-            "def tuple d12 d12\ndef tuple d13 d13\ndef tuple d14 d14\ndef tuple d15 d15",
-            "def tuple d16 d16\ndef tuple d17 d17\ndef tuple d18 d18\ndef tuple d19 d19",
-            "def tuple d20 d20\ndef tuple d21 d21\ndef tuple d22 d22\ndef tuple d23 d23",
-            "def tuple d24 d24\ndef tuple d25 d25\ndef tuple d26 d26\ndef tuple d27 d27",
-            "def tuple d28 d28\ndef tuple d29 d29\ndef tuple d30 d30\ndef tuple d31 d31",
-            "def tuple d32 d32\ndef tuple d33 d33\ndef tuple d34 d34\ndef tuple d35 d35",
-            "def tuple d36 d36\ndef tuple d37 d37\ndef tuple d38 d38\ndef tuple d39 d39",
-            "def tuple d40 d40\ndef tuple d41 d41\ndef tuple d42 d42\ndef tuple d43 d43",
-            "def tuple d44 d44\ndef tuple d45 d45\ndef tuple d46 d46\ndef tuple d47 d47",
-            "def tuple d48 d48\ndef tuple d49 d49\ndef tuple d50 d50\ndef tuple d51 d51",
-            "def tuple d52 d52\ndef tuple d53 d53\ndef tuple d54 d54\ndef tuple d55 d55",
-            "def tuple d56 d56\ndef tuple d57 d57",
+        lines: &[
+            "def tuple u8 u8",
+            "def tuple u8 u8",
+            "def tuple d0 d0",
+            "def tuple d1 d1",
+            "def tuple d2 d2",
+            "def tuple d3 d3",
+            "def tuple d4 d4",
+            "def tuple d5 d5",
+            "def tuple d6 d6",
+            "def tuple d7 d7",
+            "def tuple d8 d8",
+            "def tuple d9 d9",
+            "def tuple d10 d10",
+            "def tuple d11 d11",
+            "def tuple d12 d12",
+            "def tuple d13 d13",
+            "def tuple d14 d14",
+            "def tuple d15 d15",
+            "def tuple d16 d16",
+            "def tuple d17 d17",
+            "def tuple d18 d18",
+            "def tuple d19 d19",
+            "def tuple d20 d20",
+            "def tuple d21 d21",
+            "def tuple d22 d22",
+            "def tuple d23 d23",
+            "def tuple d24 d24",
+            "def tuple d25 d25",
+            "def tuple d26 d26",
+            "def tuple d27 d27",
+            "def tuple d28 d28",
+            "def tuple d29 d29",
+            "def tuple d30 d30",
+            "def tuple d31 d31",
+            "def tuple d32 d32",
+            "def tuple d33 d33",
+            "def tuple d34 d34",
+            "def tuple d35 d35",
+            "def tuple d36 d36",
+            "def tuple d37 d37",
+            "def tuple d38 d38",
+            "def tuple d39 d39",
+            "def tuple d40 d40",
+            "def tuple d41 d41",
+            "def tuple d42 d42",
+            "def tuple d43 d43",
+            "def tuple d44 d44",
+            "def tuple d45 d45",
+            "def tuple d46 d46",
+            "def tuple d47 d47",
+            "def tuple d48 d48",
+            "def tuple d49 d49",
+            "def tuple d50 d50",
+            "def tuple d51 d51",
+            "def tuple d52 d52",
+            "def tuple d53 d53",
+            "def tuple d54 d54",
+            "def tuple d55 d55",
+            "def tuple d56 d56",
+            "def tuple d57 d57",
         ],
         ways: 2,
         tried: Tried::Comparison(Comparison {

@@ -64,7 +64,7 @@ pub(crate) fn display_all(types: &Types, cache: &mut Cache, trial: &mut Trial) {
 
 static CASES: [Case; 1] = [Case {
     shown: "a refusal, an id and parts",
-    texts: &["def list u8\ndef list s8"],
+    lines: &["def list u8", "def list s8"],
     ways: 1,
     tried: Tried::Display,
 }];

@@ -8,49 +8,43 @@ use wac_script_entries::add_line;
 use wac_script_syntax::ScriptError;
 use wac_types::Types;
 
-// A text of lines that takes the place of the one of this number, from 0 on.
+// A line that takes the place of the one of this number, from 0 on.
 #[derive(Drop)]
 pub(crate) struct Change {
     at: usize,
-    text: &'static str,
+    line: &'static str,
 }
 
-// No text has this number.
+// No line has this number.
 const NOWHERE: usize = usize::MAX;
 
 pub(crate) static UNCHANGED: Change = Change {
     at: NOWHERE,
-    text: "",
+    line: "",
 };
 
 impl Change {
-    // The change of the text of this number, where it is made.
-    pub(crate) fn where_made(is_made: bool, at: usize, text: &'static str) -> Change {
+    // The change of the line of this number, where it is made.
+    pub(crate) fn where_made(is_made: bool, at: usize, line: &'static str) -> Change {
         Change {
             at: if is_made { at } else { NOWHERE },
-            text,
+            line,
         }
     }
 }
 
-// Adds the entries of the lines of a text.
-fn add_text<'a>(alloc: Global, types: &mut Types, text: &'a str) -> Result<(), ScriptError<'a>> {
-    for line in text.lines() {
-        add_line(alloc, types, line)?;
-    }
-    Ok(())
-}
-
-// Adds the entries of the lines of texts, of which one is changed.
+// Adds the entries of lines, of which one is changed; an empty line has none.
 pub(crate) fn fill<'a>(
     alloc: Global,
     types: &mut Types,
-    texts: &[&'a str],
+    lines: &[&'a str],
     change: &Change,
 ) -> Result<(), ScriptError<'a>> {
-    for (at, text) in texts.iter().enumerate() {
-        let text = if at == change.at { change.text } else { text };
-        add_text(alloc, types, text)?;
+    for (at, line) in lines.iter().enumerate() {
+        let line = if at == change.at { change.line } else { line };
+        if !line.is_empty() {
+            add_line(alloc, types, line)?;
+        }
     }
     Ok(())
 }
@@ -79,19 +73,37 @@ fn demand_fronts(types: &Types, wanted: &Types, trial: &mut Trial) {
     demand_front(types.modules(), wanted.modules(), trial);
 }
 
-// Demands that a collection is the one of the lines of these texts, of which one is changed.
-pub(crate) fn demand_lines(types: &Types, texts: &[&str], change: &Change, trial: &mut Trial) {
+// Adds the entries of lines, of which one is changed, and then those of further ones.
+fn fill_both<'a>(
+    alloc: Global,
+    types: &mut Types,
+    lines: &[&'a str],
+    change: &Change,
+    added: &[&'a str],
+) -> Result<(), ScriptError<'a>> {
+    fill(alloc, types, lines, change)?;
+    fill(alloc, types, added, &UNCHANGED)
+}
+
+// Demands that a collection is the one of these lines, of which one is changed, and of further ones.
+pub(crate) fn demand_lines(
+    types: &Types,
+    lines: &[&str],
+    change: &Change,
+    added: &[&str],
+    trial: &mut Trial,
+) {
     let mut wanted = Types::new(trial.alloc, 1);
-    match fill(trial.alloc, &mut wanted, texts, change) {
+    match fill_both(trial.alloc, &mut wanted, lines, change, added) {
         Ok(()) => trial.demand_alike(types, &wanted),
         Err(error) => trial.fail_line(&error),
     }
 }
 
-// Demands that the entries of the lines of these texts stand in a collection, which may have more.
-pub(crate) fn demand_kept(types: &Types, texts: &[&str], trial: &mut Trial) {
+// Demands that the entries of these lines stand in a collection, which may have more.
+pub(crate) fn demand_kept(types: &Types, lines: &[&str], trial: &mut Trial) {
     let mut kept = Types::new(trial.alloc, 1);
-    match fill(trial.alloc, &mut kept, texts, &UNCHANGED) {
+    match fill(trial.alloc, &mut kept, lines, &UNCHANGED) {
         Ok(()) => demand_fronts(types, &kept, trial),
         Err(error) => trial.fail_line(&error),
     }

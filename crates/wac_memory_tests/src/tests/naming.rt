@@ -114,31 +114,31 @@ impl Use {
 static CASES: [Case; 5] = [
     Case {
         shown: "a name that has no track is inserted",
-        texts: &[],
+        lines: &[],
         ways: 1,
         tried: Tried::Names(Use::Insert("b")),
     },
     Case {
         shown: "a name on a track that is known is inserted",
-        texts: &[],
+        lines: &[],
         ways: 1,
         tried: Tried::Names(Use::Insert("a:b/c@1.2.0")),
     },
     Case {
         shown: "a name on a new track is inserted",
-        texts: &[],
+        lines: &[],
         ways: 1,
         tried: Tried::Names(Use::Insert("a:b/d@0.2.0")),
     },
     Case {
         shown: "a name is inserted again",
-        texts: &[],
+        lines: &[],
         ways: 1,
         tried: Tried::Names(Use::InsertAgain),
     },
     Case {
         shown: "a name is found",
-        texts: &[],
+        lines: &[],
         ways: 1,
         tried: Tried::Names(Use::Get),
     },

@@ -2,7 +2,7 @@
 
 use super::cases::{Case, Tried, try_each};
 use super::cloning::clone;
-use super::filling::{Change, demand_lines};
+use super::filling::{UNCHANGED, demand_lines};
 use super::trial::Trial;
 use semver::Version;
 use wac_test_tools::{debugs, shows, world};
@@ -10,16 +10,18 @@ use wac_types::{BorrowedKey, BorrowedPackageKey, Package, PackageKey, Types};
 
 // A world that exports an instance, and the type of a world that exports it under the name of an
 // interface.
-const PLUG: &str = "func sync -
-iface - e:f=F:fn0
-world - e:wasi:http/types=I:i0
-world - m:in=I:i0 e:out=I:i0 e:d=T:w0";
+const PLUG: &[&str] = &[
+    "func sync -",
+    "iface - e:f=F:fn0",
+    "world - e:wasi:http/types=I:i0",
+    "world - m:in=I:i0 e:out=I:i0 e:d=T:w0",
+];
 
 const SHOWN: &str =
     "Package { name: \"a:b\", version: Some(Version { major: 0, minor: 2, patch: 0 }), bytes: \"...\", ty: WorldId { number: 1, index: 1 }, instance_type: InterfaceId { number: 1, index: 1 }, definitions: {\"d\": Type(Interface(InterfaceId { number: 1, index: 0 }))} }";
 
 // The interface that is added for a package.
-const ADDED: &str = "iface - e:out=I:i0 e:d=T:w0";
+const ADDED: &[&str] = &["iface - e:out=I:i0 e:d=T:w0"];
 
 // Makes a key of a package, owns a borrowed one, and clones it: the keys are alike, and like the
 // package's own.
@@ -72,16 +74,20 @@ fn make(types: &mut Types, way: usize, trial: &mut Trial) -> bool {
     }
 }
 
+// What is added, if a package is made.
+fn lines_added(is_made: bool) -> &'static [&'static str] {
+    if is_made { ADDED } else { &[] }
+}
+
 // Makes a package, for which an interface is added, or nothing where it is refused.
 pub(crate) fn make_package(types: &mut Types, way: usize, trial: &mut Trial) {
     let is_made = make(types, way, trial);
-    let change = Change::where_made(is_made, 1, ADDED);
-    demand_lines(types, &[PLUG, ""], &change, trial);
+    demand_lines(types, PLUG, &UNCHANGED, lines_added(is_made), trial);
 }
 
 static CASES: [Case; 1] = [Case {
     shown: "a package",
-    texts: &[PLUG],
+    lines: PLUG,
     ways: 3,
     tried: Tried::Package,
 }];

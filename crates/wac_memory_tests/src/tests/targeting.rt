@@ -27,24 +27,24 @@ impl Validation {
 static CASES: [Case; 4] = [
     Case {
         shown: "less of a lower version is imported",
-        texts: &[
-            "func sync -
-iface - e:f=F:fn0
-iface - e:f=F:fn0 e:g=F:fn0
-world - m:wasi:http/types@0.2.3=I:i1
-world - m:wasi:http/types@0.2.0=I:i0",
+        lines: &[
+            "func sync -",
+            "iface - e:f=F:fn0",
+            "iface - e:f=F:fn0 e:g=F:fn0",
+            "world - m:wasi:http/types@0.2.3=I:i1",
+            "world - m:wasi:http/types@0.2.0=I:i0",
         ],
         ways: 1,
         tried: Tried::Validation(Validation { report: "" }),
     },
     Case {
         shown: "more of a higher version is imported",
-        texts: &[
-            "func sync -
-iface - e:f=F:fn0
-iface - e:f=F:fn0 e:g=F:fn0
-world - m:wasi:http/types@0.2.0=I:i0
-world - m:wasi:http/types@0.2.3=I:i1",
+        lines: &[
+            "func sync -",
+            "iface - e:f=F:fn0",
+            "iface - e:f=F:fn0 e:g=F:fn0",
+            "world - m:wasi:http/types@0.2.0=I:i0",
+            "world - m:wasi:http/types@0.2.3=I:i1",
         ],
         ways: 1,
         tried: Tried::Validation(Validation {
@@ -54,11 +54,7 @@ world - m:wasi:http/types@0.2.3=I:i1",
     },
     Case {
         shown: "an import and an export that the other lacks",
-        texts: &[
-            "func sync -
-world - e:run=F:fn0
-world - m:z=F:fn0",
-        ],
+        lines: &["func sync -", "world - e:run=F:fn0", "world - m:z=F:fn0"],
         ways: 1,
         tried: Tried::Validation(Validation {
             report: "Imports present in the component but not in the target world:
@@ -69,12 +65,12 @@ Exports required by target world but not present in the component:
     },
     Case {
         shown: "a target that imports an interface, since it uses it",
-        texts: &[
-            "func sync -
-iface p:u/u@1.0.0 e:f=F:fn0 e:t=T:u8
-iface p:i/i@1.0.0 u:t=i0 e:t=T:u8
-world - m:p:i/i@1.0.0=I:i1
-world - m:p:u/u@1.0.0=I:i0",
+        lines: &[
+            "func sync -",
+            "iface p:u/u@1.0.0 e:f=F:fn0 e:t=T:u8",
+            "iface p:i/i@1.0.0 u:t=i0 e:t=T:u8",
+            "world - m:p:i/i@1.0.0=I:i1",
+            "world - m:p:u/u@1.0.0=I:i0",
         ],
         ways: 1,
         tried: Tried::Validation(Validation { report: "" }),

@@ -113,7 +113,7 @@ pub(crate) fn demand_all_answers(types: &Types, cache: &mut Cache, trial: &mut T
 
 static CASES: [Case; 1] = [Case {
     shown: "a collection, a checker, an aggregator, a report and a key",
-    texts: &ENTRIES,
+    lines: &ENTRIES,
     ways: 1,
     tried: Tried::Answers,
 }];
