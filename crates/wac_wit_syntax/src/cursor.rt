@@ -1,5 +1,7 @@
 //! Steps over tokens.
 
+ghost use Rattle.std.specs.Prelude.{IsOk};
+
 use super::error::{Fault, SyntaxError};
 use super::keywords::is_keyword;
 use super::positions::{Position, Span, position_of};
@@ -314,7 +316,9 @@ impl Cursor {
     }
 
     /// What was read of the text, if nothing is refused.
-    pub(crate) fn finish<T: Drop>(self, read: Result<T, Fault>) -> Result<T, SyntaxError> {
+    pub(crate) fn finish<T: Drop>(self, read: Result<T, Fault>) -> Result<T, SyntaxError>
+        ensures { IsOk result → IsOk read }
+    {
         match read {
             Ok(read) if self.refusals.is_empty() => Ok(read),
             Err(Fault::Memory) => Err(SyntaxError::Memory),

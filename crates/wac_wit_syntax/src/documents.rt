@@ -1,5 +1,8 @@
 //! Reads files.
 
+ghost use Rattle.std.specs.Prelude.{◌≡◌, IsOk, true};
+ghost use Rattle.wac_wit_syntax.specs.Parts.{IsLexical};
+
 use super::cursor::Cursor;
 use super::error::{Fault, SyntaxError};
 use super::gates::{read_gates, refuse_gates};
@@ -18,16 +21,29 @@ use std::alloc::Global;
 ///
 /// After an item that is refused the rest of the text is read too, so that all its refusals are
 /// told at once. The time is linear in the length of the text, whatever is refused.
-pub fn parse(alloc: Global, text: &str) -> Result<Document, SyntaxError> {
+pub fn parse(alloc: Global, text: &str) -> Result<Document, SyntaxError>
+    ensures { IsOk result → IsLexical text.now }
+{
     let mut refusals = Refusals::new(alloc);
     let tokens = cut(alloc, text, &mut refusals)?;
     if refusals.is_full() {
         return Err(refusals.into_error());
     }
+    let is_cut = refusals.is_empty();
     let text = String::from_str(alloc, text)?;
     let mut cursor = Cursor::new(alloc, text, tokens, refusals);
     let document = read_document(&mut cursor);
-    cursor.finish(document)
+    cursor.finish(if_cut(document, is_cut))
+}
+
+// What was read, if nothing of the text was refused before.
+fn if_cut(read: Result<Document, Fault>, is_cut: bool) -> Result<Document, Fault>
+    ensures { IsOk result → is_cut ≡ true }
+{
+    match read {
+        Ok(_) if !is_cut => Err(Fault::Refused),
+        read => read,
+    }
 }
 
 fn read_document(cursor: &mut Cursor) -> Result<Document, Fault> {

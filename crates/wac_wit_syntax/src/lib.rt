@@ -13,6 +13,7 @@ mod functions;
 mod gates;
 mod interfaces;
 mod keywords;
+pub mod laws;
 mod lexer;
 mod lists;
 mod names;

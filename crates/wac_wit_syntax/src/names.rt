@@ -1,6 +1,39 @@
 //! What a name is.
 
+ghost use Rattle.std.specs.Prelude.{◌≡◌};
+ghost use Rattle.wac_wit_syntax.specs.Bytes.{is_lower_or_digit, is_upper_or_digit};
+ghost use Rattle.wac_wit_syntax.specs.Names.{is_fragment, is_label};
+
 use super::scanning::byte_at;
+
+/// Whether bytes are a name: words with `-` between them, each in one case, and the first begins with
+/// a letter.
+pub(crate) fn is_label(words: &[u8]) -> bool
+    ensures { result ≡ is_label words.now }
+{
+    byte_at(words, 0).is_ascii_alphabetic() && words.split(|byte| *byte == b'-').all(is_fragment)
+}
+
+// Whether bytes are a word of a name: letters of one case and digits, at least one.
+fn is_fragment(word: &[u8]) -> bool
+    ensures { result ≡ is_fragment word.now }
+{
+    !word.is_empty()
+        && (word.iter().all(|byte| is_lower_or_digit(*byte))
+            || word.iter().all(|byte| is_upper_or_digit(*byte)))
+}
+
+fn is_lower_or_digit(byte: u8) -> bool
+    ensures { result ≡ is_lower_or_digit byte }
+{
+    byte.is_ascii_lowercase() || byte.is_ascii_digit()
+}
+
+fn is_upper_or_digit(byte: u8) -> bool
+    ensures { result ≡ is_upper_or_digit byte }
+{
+    byte.is_ascii_uppercase() || byte.is_ascii_digit()
+}
 
 /// Why a text between bytes that can't stand in names is no name: words with `-` between them, each
 /// in one case, and the first begins with a letter.

@@ -1,5 +1,8 @@
 //! Places in a text.
 
+ghost use Rattle.std.specs.Prelude.{◌≡◌};
+ghost use Rattle.wac_wit_syntax.specs.Positions.{IsPosition};
+
 /// Bytes of a text, from the first up to but without the last.
 #[derive(Clone, Copy, PartialEq, Eq, Debug)]
 pub struct Span {
@@ -11,7 +14,9 @@ pub struct Span {
 
 impl Span {
     /// From the start of this to the end of another.
-    pub fn to(self, last: Span) -> Span {
+    pub fn to(self, last: Span) -> Span
+        ensures { result ≡ record { start = self.start; end = last.end } }
+    {
         Span {
             start: self.start,
             end: last.end,
@@ -29,15 +34,18 @@ pub struct Position {
 }
 
 /// The line and the column of a byte.
-pub fn position_of(text: &str, offset: usize) -> Position {
-    let mut line = 1usize;
-    let mut column = 1usize;
-    for byte in text.as_bytes().iter().take(offset) {
+pub fn position_of(text: &str, offset: usize) -> Position
+    ensures { IsPosition text.now offset result }
+{
+    let before = &text.as_bytes()[..offset.min(text.len())];
+    let mut line = 1;
+    let mut column = 1;
+    for byte in before {
         if *byte == b'\n' {
-            line = line.saturating_add(1);
+            line += 1;
             column = 1;
         } else {
-            column = column.saturating_add(1);
+            column += 1;
         }
     }
     Position { line, column }

@@ -1,5 +1,7 @@
 //! What is refused of a text so far.
 
+ghost use Rattle.std.specs.Prelude.{◌≡◌, ◌<◌, ◌==◌, IsNone, OnOk, nat_le, vec_len};
+
 use super::error::{MAX_REFUSALS, Refusal, SyntaxError};
 use super::positions::Span;
 use std::alloc::{AllocError, Global};
@@ -16,20 +18,28 @@ impl Drop for Refusals {
 }
 
 impl Refusals {
+    ghost use Rattle.wac_wit_syntax.specs.Steps.{AddsOnly};
+
     /// No refusals.
-    pub(crate) fn new(alloc: Global) -> Refusals {
+    pub(crate) fn new(alloc: Global) -> Refusals
+        ensures { vec_len result.found ≡ 0 }
+    {
         Refusals {
             found: Vec::new(alloc),
         }
     }
 
     /// Whether none is noted.
-    pub(crate) fn is_empty(&self) -> bool {
+    pub(crate) fn is_empty(&self) -> bool
+        ensures { result ≡ (vec_len self.now.found == 0) }
+    {
         self.found.is_empty()
     }
 
     /// Whether as many are noted as are told.
-    pub(crate) fn is_full(&self) -> bool {
+    pub(crate) fn is_full(&self) -> bool
+        ensures { result ≡ nat_le MAX_REFUSALS (vec_len self.now.found) }
+    {
         self.found.len() >= MAX_REFUSALS
     }
 
@@ -40,7 +50,9 @@ impl Refusals {
     }
 
     // Which refusal one at a place would be, if it would be noted.
-    fn index_for(&self, start: usize) -> Option<usize> {
+    fn index_for(&self, start: usize) -> Option<usize>
+        ensures { IsNone result → 0 < vec_len self.now.found }
+    {
         if self.is_full() {
             return None;
         }
@@ -60,7 +72,11 @@ impl Refusals {
         &mut self,
         span: Span,
         message: Result<String, AllocError>,
-    ) -> Result<(), AllocError> {
+    ) -> Result<(), AllocError>
+        ensures noted { OnOk result (0 < vec_len self.new.found) }
+        ensures only { AddsOnly span self.old.found.items self.new.found.items }
+        ensures kept { vec_len self.new.found ≡ 0 → vec_len self.old.found ≡ 0 }
+    {
         let message = message?;
         let Some(index) = self.index_for(span.start) else {
             return Ok(());

@@ -1,5 +1,8 @@
 //! The tokens of WIT.
 
+ghost use Rattle.std.specs.Prelude.{◌≡◌};
+ghost use Rattle.wac_wit_syntax.specs.Reading.{kind_of};
+
 use super::positions::Span;
 
 /// What a token is.
@@ -79,10 +82,11 @@ impl TokenKind {
         }
     }
 
-    /// The kind that a byte is by itself.
-    pub(crate) fn of_byte(byte: u8) -> Option<TokenKind> {
+    /// The kind that a byte is, whatever follows it.
+    pub(crate) fn of_byte(byte: u8) -> Option<TokenKind>
+        ensures { result ≡ kind_of byte }
+    {
         Some(match byte {
-            b'_' => TokenKind::Underscore,
             b'=' => TokenKind::Equals,
             b',' => TokenKind::Comma,
             b':' => TokenKind::Colon,
@@ -94,7 +98,6 @@ impl TokenKind {
             b'<' => TokenKind::OpenAngle,
             b'>' => TokenKind::CloseAngle,
             b'*' => TokenKind::Star,
-            b'/' => TokenKind::Slash,
             b'.' => TokenKind::Dot,
             b'@' => TokenKind::At,
             _ => return None,

@@ -1,0 +1,12 @@
+pub mod Runs
+pub mod Closing
+pub mod Labels
+pub mod FirstPart
+pub mod Balanced
+pub mod Places
+pub mod OnePart
+pub mod Pieces
+pub mod FaultFacts
+pub mod Cutting
+pub mod Shown
+pub mod WholeTexts

@@ -1,0 +1,27 @@
+-- Where a text is refused while it is cut into tokens.
+use Rattle.std.specs.Prelude.{◌≡◌, ◌⊎◌, ℕ, ◌≤◌, true, List, ◌∷◌, ◌++◌, All, drop, length}
+use Rattle.std.specs.Str.{chars, encode_utf8_all}
+use Rattle.wac_model.specs.Text.{Text}
+use Rattle.wac_wit_syntax.specs.Characters.{is_refused_before}
+use Rattle.wac_wit_syntax.specs.Parts.{HasNoPart}
+use Rattle.wac_wit_syntax.specs.declared.error.Refusal.{Refusal}
+use Rattle.wac_wit_syntax.specs.declared.positions.Span.{Span}
+
+-- a character that is refused begins at the place
+pub record HasRefusedAt (text : Text) (at : ℕ) : Type 0 where
+  pub front : List ℕ
+  pub refused : ℕ
+  pub behind : List ℕ
+  pub text_is : chars text ≡ front ++ refused ∷ behind
+  pub place : at ≡ length (encode_utf8_all front)
+  pub why : is_refused_before refused behind ≡ true
+
+-- the place lies in the text, and a character that is refused begins there, or no part does
+pub record IsFault (text : Text) (span : Span) : Type 0 where
+  pub ordered : span.start ≤ span.end
+  pub within : span.end ≤ length text
+  pub why : HasRefusedAt text span.start ⊎ HasNoPart (drop span.start text)
+
+-- so are all the places of these refusals
+abbrev pub AreFaults : Text → List Refusal → Type 0
+AreFaults text refusals = All (λ (r : Refusal). IsFault text r.span) refusals

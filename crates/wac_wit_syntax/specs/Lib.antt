@@ -1,0 +1,11 @@
+pub mod Characters
+pub mod Bytes
+pub mod Comments
+pub mod Names
+pub mod Tokens
+pub mod Parts
+pub mod Positions
+pub mod Reading
+pub mod Faults
+pub mod Steps
+pub mod Laws
