@@ -10,3 +10,4 @@ pub mod FaultFacts
 pub mod Cutting
 pub mod Shown
 pub mod WholeTexts
+pub mod Keys

@@ -1,6 +1,8 @@
 -- What follows from the grammar.
-use Rattle.std.specs.Prelude.{◌≡◌, ◌≤◌, List, ◌++◌, length}
+use Rattle.std.specs.Prelude.{◌≡◌, ◌≤◌, true, List, ◌++◌, length}
+use Rattle.std.specs.List.{list_all}
 use Rattle.wac_model.specs.Text.{Text}
+use Rattle.wac_wit_syntax.specs.Names.{is_label, keywords}
 use Rattle.wac_wit_syntax.specs.Parts.{IsOfSort, IsRead, Sort, token}
 use Rattle.wac_wit_syntax.specs.Tokens.{IsToken}
 use Rattle.wac_wit_syntax.specs.declared.token.Token.{Token}
@@ -17,3 +19,7 @@ HasLongestTokens = (kind other : TokenKind) (v w a b : Text) → IsOfSort (token
 -- a text is read as one list of tokens at most
 abbrev pub HasOneReading : Type 0
 HasOneReading = (text : Text) (ts us : List Token) → IsRead text ts → IsRead text us → ts ≡ us
+
+-- each keyword is a name by its form
+abbrev pub KeywordsAreNames : Type 0
+KeywordsAreNames = list_all is_label keywords ≡ true

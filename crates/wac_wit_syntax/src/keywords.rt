@@ -1,5 +1,10 @@
 //! The words that can't be names.
 
+ghost use Rattle.std.specs.Prelude.{◌≡◌};
+ghost use Rattle.std.specs.List.{list_any};
+ghost use Rattle.std.specs.Str.{bytes_eq};
+ghost use Rattle.wac_wit_syntax.specs.Names.{keywords};
+
 static KEYWORDS: [&str; 42] = [
     "as",
     "async",
@@ -47,11 +52,8 @@ static KEYWORDS: [&str; 42] = [
 
 /// Whether a word has a meaning of its own, so that it is a name only after `%`. `map` is none,
 /// since packages may have names of an older time: `map<` alone begins a type.
-pub fn is_keyword(word: &str) -> bool {
-    for keyword in &KEYWORDS {
-        if *keyword == word {
-            return true;
-        }
-    }
-    false
+pub fn is_keyword(word: &str) -> bool
+    ensures { result ≡ list_any (λ keyword. bytes_eq keyword word.now) keywords }
+{
+    KEYWORDS.iter().any(|keyword| *keyword == word)
 }
