@@ -4,9 +4,9 @@ use std::alloc::Global;
 use std::collections::HashSet;
 use std::test::Fail;
 use wac_script_entries::built;
-use wac_test_tools::defined;
+use wac_test_tools::{defined, function, interface};
 use wac_types::{
-    DefinedType, ItemKind, PrimitiveType, SubtypeChecker, SubtypeError, Types, ValueType,
+    DefinedType, ItemKind, PrimitiveType, SubtypeChecker, SubtypeError, Type, Types, ValueType,
 };
 
 // The first tuple is a pair of bytes, and each of the 29 next ones a pair of the one before.
@@ -35,6 +35,26 @@ fn opened(alloc: Global, at: &Types, bt: &Types, index: usize) -> Result<(usize,
     let b = ItemKind::Value(ValueType::Defined(wanted));
     checker.is_subtype(alloc, a, at, b, bt)?;
     Ok((first, checker.opened()))
+}
+
+// How many pairs a checker compares to tell whether an item of one collection fits where one of
+// another is asked for.
+fn compared(
+    alloc: Global,
+    checker: &mut SubtypeChecker<'_>,
+    a: &ItemKind,
+    at: &Types,
+    b: &ItemKind,
+    bt: &Types,
+) -> Result<usize, Fail> {
+    if at.number() == bt.number() || !at.contains_item(*a) || !bt.contains_item(*b) {
+        return Err(Fail::new("a checker can't be asked about the two"));
+    }
+    match checker.is_subtype(alloc, *a, at, *b, bt) {
+        Ok(()) => Ok(checker.opened()),
+        Err(SubtypeError::Memory) => Err(SubtypeError::Memory.into()),
+        Err(_) => Ok(checker.opened()),
+    }
 }
 
 #[test]
@@ -151,5 +171,88 @@ fn opened_by_aliases(alloc: Global, types: &Types) -> Result<usize, Fail> {
 fn aliases_are_no_pairs(rt: HostRuntime) -> Result<(), Fail> {
     let types = aliases(rt.alloc(), 1)?;
     assert!(&rt; opened_by_aliases(rt.alloc(), &types)? == 0);
+    Ok(())
+}
+
+#[test]
+fn an_entry_fits_itself_unopened(rt: HostRuntime) -> Result<(), Fail> {
+    let types = tuples(rt.alloc(), 1)?;
+    let last = ItemKind::Value(ValueType::Defined(defined(&types, 29)?));
+    let mut cache = HashSet::new(rt.alloc());
+    let mut checker = SubtypeChecker::new(&mut cache);
+    checker.is_subtype(rt.alloc(), last, &types, last, &types)?;
+    assert!(&rt; checker.opened() == 0);
+    Ok(())
+}
+
+#[test]
+fn other_names_of_an_entry_are_no_pairs(rt: HostRuntime) -> Result<(), Fail> {
+    let given = built(rt.alloc(), 1, "def tuple u8 u8\ndef alias d0\ndef alias d1")?;
+    let wanted = tuples(rt.alloc(), 2)?;
+    let a = ItemKind::Value(ValueType::Defined(defined(&given, 2)?));
+    let b = ItemKind::Value(ValueType::Defined(defined(&wanted, 0)?));
+    let mut cache = HashSet::new(rt.alloc());
+    let mut checker = SubtypeChecker::new(&mut cache);
+    assert!(&rt; compared(rt.alloc(), &mut checker, &a, &given, &b, &wanted)? == 1);
+    Ok(())
+}
+
+// An instance that exports a function under two names.
+const TWICE: &str = "func sync -\niface - e:f=F:fn0 e:g=F:fn0";
+
+#[test]
+fn exports_that_share_are_compared_once(rt: HostRuntime) -> Result<(), Fail> {
+    let (given, wanted) = (built(rt.alloc(), 1, TWICE)?, built(rt.alloc(), 2, TWICE)?);
+    let a = ItemKind::Instance(interface(&given, 0)?);
+    let b = ItemKind::Instance(interface(&wanted, 0)?);
+    let mut cache = HashSet::new(rt.alloc());
+    let mut checker = SubtypeChecker::new(&mut cache);
+    assert!(&rt; compared(rt.alloc(), &mut checker, &a, &given, &b, &wanted)? == 2);
+    Ok(())
+}
+
+#[test]
+fn what_follows_a_difference_is_not_compared(rt: HostRuntime) -> Result<(), Fail> {
+    let lines = "func sync -\nfunc sync -\niface - e:f=F:fn0 e:g=F:fn1";
+    let others = "func sync - x=u8\nfunc sync -\niface - e:f=F:fn0 e:g=F:fn1";
+    let (given, wanted) = (built(rt.alloc(), 1, lines)?, built(rt.alloc(), 2, others)?);
+    let a = ItemKind::Instance(interface(&given, 0)?);
+    let b = ItemKind::Instance(interface(&wanted, 0)?);
+    let mut cache = HashSet::new(rt.alloc());
+    let mut checker = SubtypeChecker::new(&mut cache);
+    assert!(&rt; compared(rt.alloc(), &mut checker, &a, &given, &b, &wanted)? == 2);
+    Ok(())
+}
+
+#[test]
+fn a_function_in_the_cache_is_not_compared_again(rt: HostRuntime) -> Result<(), Fail> {
+    let lines = "func sync -\niface - e:f=F:fn0";
+    let (given, wanted) = (built(rt.alloc(), 1, lines)?, built(rt.alloc(), 2, lines)?);
+    let (a, b) = (function(&given, 0)?, function(&wanted, 0)?);
+    let mut cache = HashSet::new(rt.alloc());
+    let mut checker = SubtypeChecker::new(&mut cache);
+    let (f, g) = (ItemKind::Func(a), ItemKind::Func(b));
+    assert!(&rt; compared(rt.alloc(), &mut checker, &f, &given, &g, &wanted)? == 1);
+    let x = ItemKind::Instance(interface(&given, 0)?);
+    let y = ItemKind::Instance(interface(&wanted, 0)?);
+    assert!(&rt; compared(rt.alloc(), &mut checker, &x, &given, &y, &wanted)? == 1);
+    let (f, g) = (ItemKind::Type(Type::Func(a)), ItemKind::Type(Type::Func(b)));
+    assert!(&rt; compared(rt.alloc(), &mut checker, &f, &given, &g, &wanted)? == 0);
+    Ok(())
+}
+
+#[test]
+fn a_tuple_in_the_cache_is_not_compared_again(rt: HostRuntime) -> Result<(), Fail> {
+    let (given, wanted) = (tuples(rt.alloc(), 1)?, tuples(rt.alloc(), 2)?);
+    let mut cache = HashSet::new(rt.alloc());
+    let mut checker = SubtypeChecker::new(&mut cache);
+    let a = ItemKind::Value(ValueType::Defined(defined(&given, 19)?));
+    let b = ItemKind::Value(ValueType::Defined(defined(&wanted, 19)?));
+    assert!(&rt; compared(rt.alloc(), &mut checker, &a, &given, &b, &wanted)? == 20);
+    // a new checker, which knows nothing of the cache
+    let mut checker = SubtypeChecker::new(&mut cache);
+    let a = ItemKind::Value(ValueType::Defined(defined(&given, 29)?));
+    let b = ItemKind::Value(ValueType::Defined(defined(&wanted, 29)?));
+    assert!(&rt; compared(rt.alloc(), &mut checker, &a, &given, &b, &wanted)? == 10);
     Ok(())
 }

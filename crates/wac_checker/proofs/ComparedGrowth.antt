@@ -1,5 +1,5 @@
 -- What is known of pairs, and collections that are only added to.
-use Rattle.std.proofs.Common.{◌≡◌, Option, Some, None, slice_get, Bool, true, false, refl, ap, sym, ◌∙◌, ℕ, ◌⊎◌, inl, inr, ap₂, subst}
+use Rattle.std.proofs.Common.{◌≡◌, Option, Some, None, slice_get, Bool, true, false, refl, ap, sym, ◌∙◌, ℕ, inl, inr, ap₂, subst}
 use Rattle.std.specs.Option.{option_map}
 use Rattle.wac_model.specs.ValueTree.{ValueTree}
 use Rattle.wac_model.specs.CoreTree.{ModuleTree}

@@ -1,11 +1,11 @@
 -- What is listed of flags, enums, maps, results and functions.
-use Rattle.std.proofs.Common.{◌≡◌, ◌≢◌, ◌≤◌, ◌<◌, ◌+◌, ◌^◌, inl, ℕ, List, [], ◌∷◌, ◌++◌, length, map, Bool, true, false, Option, Some, None, is_some, slice_get, string_bytes, String, Global, refl, ap, sym, subst, ◌∙◌, arith}
+use Rattle.std.proofs.Common.{◌≡◌, ◌≤◌, ◌<◌, ◌+◌, ◌^◌, inl, ℕ, List, [], ◌∷◌, ◌++◌, length, Bool, Option, Some, None, is_some, String, Global, refl, ap, subst, arith}
 use Rattle.std.specs.List.{flat_map}
 use Rattle.std.specs.Option.{option_to_list}
 use Rattle.std.proofs.lemmas.List.{length-map}
 use Rattle.wac_model.specs.Text.{Text}
-use Rattle.wac_model.specs.ValueTree.{ValueTree, node, no_parts, map_of, flags, enum}
-use Rattle.wac_model.specs.ItemTree.{Kind, item, leaf, func}
+use Rattle.wac_model.specs.ValueTree.{node, no_parts, map_of, flags, enum}
+use Rattle.wac_model.specs.ItemTree.{Kind, item}
 use Rattle.wac_component.specs.Collection.{Collection}
 use Rattle.wac_component.specs.Content.{named, func_content}
 use Rattle.wac_component.specs.Height.{keys_height}
@@ -15,7 +15,7 @@ use Rattle.wac_component.specs.declared.functions.FuncType.{FuncType}
 use Rattle.wac_component.specs.declared.items.ValueType.{ValueType}
 use Rattle.wac_component.proofs.Lists.{append_nil}
 use Rattle.wac_component.proofs.Members.{keys_height-member}
-use Rattle.wac_mismatch.specs.Place.{Side, value_side, item_side}
+use Rattle.wac_mismatch.specs.Place.{Side, value_side}
 use Rattle.wac_mismatch.specs.declared.check.SubtypeCheck.TheVariants.{Covariant}
 use Rattle.wac_mismatch.specs.declared.fault.CountOf.TheVariants as count_of
 use Rattle.wac_mismatch.specs.declared.fault.NameOf.TheVariants as name_of
@@ -26,13 +26,13 @@ use Rattle.std.specs.Prelude.{Contains}
 use Rattle.wac_component.specs.Id.{Id}
 use Rattle.wac_component.specs.declared.items.ValueType.TheVariants.{Defined}
 use Rattle.wac_checker.specs.Pairs.{DefinedTypes, Same}
-use Rattle.wac_checker.specs.Listing.{AllFitBy, AreComposed, IsApart, IsTurn, IsFuncTurn, IsLastTurn, IsNamesTurn, IsOptionalTurn, IsParamsTurn, IsSideTurn, IsTurnTo, func_side, members_height}
+use Rattle.wac_checker.specs.Listing.{AreComposed, IsApart, IsTurn, IsFuncTurn, IsLastTurn, IsNamesTurn, IsOptionalTurn, IsParamsTurn, IsSideTurn, IsTurnTo, func_side, members_height}
 use Rattle.wac_checker.specs.declared.parts.Difference.TheVariants as difference
 use Rattle.wac_checker.specs.declared.parts.Part.{Part}
 use Rattle.wac_checker.specs.declared.parts.Turn.{Turn}
 use Rattle.wac_checker.specs.declared.parts.Turn.TheVariants as turn
 use Rattle.wac_checker.proofs.DifferenceLemmas.{differ_refutes, flags_by, enums_by, oks_differ, errs_differ, func_results_differ}
-use Rattle.wac_checker.proofs.FuncLemmas.{params_of, length-params, func_result_lower}
+use Rattle.wac_checker.proofs.FuncLemmas.{length-params, func_result_lower}
 use Rattle.wac_checker.proofs.FuncPartLemmas.{funcs_same, no_results, results_at}
 use Rattle.wac_checker.proofs.ListingLemmas.{none_listed, turn_done, turn_from, turn_last, turn_same}
 use Rattle.wac_checker.proofs.PartLemmas.{errs_at, maps_same, oks_at, part_of_errs, part_of_oks, results_same}

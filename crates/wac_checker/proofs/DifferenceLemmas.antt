@@ -1,5 +1,5 @@
 -- Differences: their faults hold of the two that differ in them.
-use Rattle.std.proofs.Common.{◌≡◌, ◌≢◌, ◌⊎◌, inl, inr, IsTrue, ℕ, List, [], ◌∷◌, map, length, Bool, true, false, not, Option, Some, None, is_some, slice_get, string_bytes, String, Global, Bor, refl, ap, ap₂, sym, subst, subst₂, ◌∙◌, arith}
+use Rattle.std.proofs.Common.{◌≡◌, ◌≢◌, inl, inr, IsTrue, ℕ, List, map, length, Bool, true, false, not, Option, Some, is_some, slice_get, string_bytes, String, Global, Bor, refl, ap, ap₂, sym, subst, subst₂, ◌∙◌, arith}
 use Rattle.std.specs.String.{string_eq}
 use Rattle.wac_model.specs.Text.{Text}
 use Rattle.wac_model.specs.Desc.{value_desc}
@@ -11,8 +11,8 @@ use Rattle.wac_component.specs.Content.{names, types_of}
 use Rattle.wac_component.specs.Tree.{value_tree, IsCompound, IsResolved}
 use Rattle.wac_component.specs.declared.items.ValueType.{ValueType}
 use Rattle.wac_component.specs.declared.items.ValueType.TheVariants.{Primitive, Borrow, Own, Defined}
-use Rattle.wac_mismatch.specs.Holds.{Holds, HoldsOfSides, HoldsOfValues, IsCount, IsFixedSize, IsKind, IsOfFunc, IsOfNames, IsResource}
-use Rattle.wac_mismatch.specs.Place.{Side, SideFits, value_side, item_side, place, by_check, expected_of, found_of}
+use Rattle.wac_mismatch.specs.Holds.{HoldsOfSides, HoldsOfValues, IsCount, IsKind, IsOfFunc, IsOfNames, IsResource}
+use Rattle.wac_mismatch.specs.Place.{Side, SideFits, value_side, item_side, by_check, expected_of, found_of}
 use Rattle.wac_mismatch.specs.declared.check.SubtypeCheck.{SubtypeCheck}
 use Rattle.wac_mismatch.specs.declared.check.SubtypeCheck.TheVariants.{Covariant, Contravariant}
 use Rattle.wac_mismatch.specs.declared.fault.CountOf.{CountOf}

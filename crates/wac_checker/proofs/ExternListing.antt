@@ -1,30 +1,29 @@
 -- What is listed of interfaces and worlds, one extern after another.
-use Rattle.std.proofs.Common.{◌≡◌, ◌≢◌, ◌≤◌, ◌<◌, ◌+◌, ◌-◌, ◌^◌, ◌⊎◌, inl, inr, ℕ, zero, suc, List, [], ◌∷◌, length, Bool, true, false, not, Some, None, slice_get, string_bytes, String, Global, Bor, codes, refl, ap, sym, subst, subst₂, ◌∙◌, arith}
-use Rattle.std.specs.Prelude.{Contains}
+use Rattle.std.proofs.Common.{◌≡◌, ◌≢◌, ◌≤◌, ◌<◌, ◌+◌, ◌-◌, ◌^◌, ◌⊎◌, inl, inr, ℕ, zero, suc, List, [], length, Bool, true, false, not, Some, None, string_bytes, String, Global, Bor, codes, refl, ap, sym, subst, subst₂, ◌∙◌, arith}
 use Rattle.std.specs.Str.{bytes_eq}
 use Rattle.wac_model.specs.Text.{Text, lookup}
 use Rattle.wac_model.specs.Desc.{item_desc}
 use Rattle.wac_model.specs.ValueTree.{ValueTree}
-use Rattle.wac_model.specs.ItemTree.{ItemTree, Items, Kind, Shape, Leaf, item, type_item, leaf, core_module, composite, interface, world, no_items, func, resource, value}
-use Rattle.wac_model.specs.Order.{Fits, leaves, modules, composites}
+use Rattle.wac_model.specs.ItemTree.{ItemTree, Kind, item, type_item, leaf, core_module, composite, interface, world, no_items, func, resource, value}
+use Rattle.wac_model.specs.Order.{Fits, leaves}
 use Rattle.wac_model.proofs.ItemOrder.{leaf_fits}
 use Rattle.wac_component.specs.Id.{Id}
 use Rattle.wac_component.specs.Collection.{Collection}
 use Rattle.wac_component.specs.Height.{height, keys_height}
-use Rattle.wac_component.specs.Key.{Stands, interface_key, world_key, item_keys, named_keys}
+use Rattle.wac_component.specs.Key.{interface_key, world_key, item_keys, named_keys}
 use Rattle.wac_component.specs.Tree.{externs, item_tree, items_of, root_name, value_tree}
 use Rattle.wac_component.specs.declared.items.ItemKind.{ItemKind}
 use Rattle.wac_component.specs.declared.items.ValueType.{ValueType}
-use Rattle.wac_mismatch.specs.Holds.{Holds, HoldsOfItems, HoldsOfSides, IsKind}
-use Rattle.wac_mismatch.specs.Place.{Side, item_side, value_side, place, by_check, expected_of, found_of, turned}
+use Rattle.wac_mismatch.specs.Holds.{HoldsOfItems, HoldsOfSides, IsKind}
+use Rattle.wac_mismatch.specs.Place.{item_side, value_side, by_check, expected_of, found_of, turned}
 use Rattle.wac_mismatch.specs.declared.check.SubtypeCheck.{SubtypeCheck}
 use Rattle.wac_mismatch.specs.declared.check.SubtypeCheck.TheVariants.{Covariant, Contravariant}
 use Rattle.wac_mismatch.specs.declared.fault.Fault.{Fault}
 use Rattle.wac_mismatch.proofs.PathLemmas.{values_hold}
-use Rattle.wac_checker.specs.Items.{AreOtherItems, item_number}
+use Rattle.wac_checker.specs.Items.{AreOtherItems}
 use Rattle.wac_checker.specs.Paired.{AreValues, AreResources}
-use Rattle.wac_checker.specs.Pairs.{AreNamed, AreOfItems, Below, End, EntriesFit, HasPart, Interfaces, IsBelow, IsExternPart, IsFrameOf, IsFitting, IsPlace, PartFits, Same, Worlds, entries_of, flag_of, left_of, right_of}
-use Rattle.wac_checker.specs.Listing.{AllFitBy, AreExternsOf, AreItemsNamed, AreNamedUnless, ArePartsOf, AreServedTo, AreTreesApart, AreValuesNamed, DifferIn, DifferInExports, DifferInImports, DifferThere, Externs, IsExportsTurn, IsExternOf, IsImportsTurn, IsPartOf, IsPut, IsReal, IsTold, IsTurn}
+use Rattle.wac_checker.specs.Pairs.{AreNamed, AreOfItems, Below, End, HasPart, Interfaces, IsBelow, IsExternPart, IsFrameOf, IsFitting, IsPlace, PartFits, Same, Worlds, entries_of, flag_of, left_of, right_of}
+use Rattle.wac_checker.specs.Listing.{AllFitBy, AreExternsOf, AreItemsNamed, AreNamedUnless, ArePartsOf, AreServedTo, AreTreesApart, AreValuesNamed, DifferIn, DifferInExports, DifferInImports, Externs, IsExportsTurn, IsExternOf, IsImportsTurn, IsPartOf, IsTold, IsTurn}
 use Rattle.wac_checker.specs.declared.parts.Difference.{Difference}
 use Rattle.wac_checker.specs.declared.parts.Difference.TheVariants as difference
 use Rattle.wac_checker.specs.declared.parts.EntryPair.{EntryPair}

@@ -1,11 +1,9 @@
 -- The parts at a place of two interfaces or two worlds.
-use Rattle.std.proofs.Common.{◌≡◌, ◌≤◌, ◌<◌, ◌+◌, ◌-◌, ◌^◌, ℕ, zero, suc, List, [], ◌∷◌, length, map, Bool, true, false, cond, not, Option, Some, None, slice_get, codes, String, Global, refl, ap, sym, subst, ◌∙◌, arith}
-use Rattle.std.specs.Prelude.{Result, MatchResult}
+use Rattle.std.proofs.Common.{◌≡◌, ◌≤◌, ◌<◌, ◌+◌, ◌-◌, ◌^◌, ℕ, zero, suc, List, [], ◌∷◌, length, map, Bool, true, false, cond, not, Option, Some, None, slice_get, String, Global, refl, ap, sym, subst, ◌∙◌, arith}
 use Rattle.std.specs.Str.{bytes_eq}
 use Rattle.std.specs.Option.{option_map}
 use Rattle.std.proofs.lemmas.List.{length-map}
 use Rattle.std.proofs.lemmas.Option.{slice_get_within}
-use Rattle.std.proofs.lemmas.Result.{MatchResult-weaker}
 use Rattle.std.proofs.lemmas.Slice.Eq.{bytes_eq-Decides}
 use Rattle.wac_model.specs.Text.{Text}
 use Rattle.wac_model.specs.CoreTree.{Serves}
@@ -25,15 +23,11 @@ use Rattle.wac_mismatch.specs.Path.{Leads}
 use Rattle.wac_mismatch.specs.Holds.{Holds}
 use Rattle.wac_mismatch.specs.declared.fault.Fault.{Fault}
 use Rattle.wac_mismatch.specs.Steps.{IsExport, IsImportOf}
-use Rattle.wac_mismatch.proofs.PathLemmas.{explains_under, explains_below}
 use Rattle.wac_mismatch.specs.declared.check.SubtypeCheck.{SubtypeCheck}
-use Rattle.wac_mismatch.specs.declared.error.SubtypeError.{SubtypeError}
 use Rattle.wac_mismatch.specs.declared.frame.Frame.{Frame}
-use Rattle.wac_checker.specs.Externs.{ExplainsExports, ExplainsImports}
 use Rattle.wac_checker.specs.Parts.{listed, IsServedAt, IsExportFrame, IsImportFrame}
-use Rattle.wac_checker.specs.Pairs.{AreItemsCompared, AreNamed, AreOfItems, AreSwapped, IsPlace, IsExternPart, IsImportPart, IsEntriesPart, EntriesFit, ExplainsEntries, IsBelow, HasPart, PartFits, PartsFit, import_count, Entries, Interfaces, Worlds, Finding, End, Same, Below, EntriesPath, IsFrameOf}
+use Rattle.wac_checker.specs.Pairs.{AreItemsCompared, AreNamed, AreOfItems, AreSwapped, IsPlace, IsExternPart, IsEntriesPart, EntriesFit, IsBelow, HasPart, PartFits, PartsFit, import_count, Entries, Interfaces, Worlds, Finding, End, Same, Below, EntriesPath, IsFrameOf}
 use Rattle.wac_checker.proofs.PartLemmas.{pair_of}
-use Rattle.wac_checker.proofs.PairLemmas.{explains_needed}
 use Rattle.wac_checker.proofs.ExternLemmas.{tree_named, leads_to_export, leads_to_import, extern_lower, named_lower}
 
 abbrev Externs : Type 0

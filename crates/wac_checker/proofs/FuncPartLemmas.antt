@@ -2,35 +2,27 @@
 use Rattle.std.proofs.Common.{◌≡◌, ◌<◌, ◌+◌, ◌^◌, ℕ, List, [], ◌∷◌, length, map, Option, Some, None, slice_get, string_bytes, String, Global, refl, ap, sym, subst, ◌∙◌, arith}
 use Rattle.std.specs.Str.{bytes_eq}
 use Rattle.std.specs.Map.{lookup}
-use Rattle.std.specs.Prelude.{Result, MatchResult, IfOk, Ok, Err}
+use Rattle.std.specs.Prelude.{Result, IfOk, Ok, Err}
 use Rattle.std.specs.Option.{option_map}
 use Rattle.std.specs.declared.alloc.AllocError.{AllocError}
 use Rattle.std.proofs.lemmas.List.{length-map}
 use Rattle.std.proofs.Common.{length-append}
-use Rattle.std.proofs.lemmas.Result.{MatchResult-weaker}
 use Rattle.wac_model.specs.Text.{Text}
 use Rattle.wac_model.specs.ValueTree.{ValueTree, FuncTree}
 use Rattle.wac_model.specs.ItemTree.{Kind, leaf, func}
 use Rattle.wac_component.specs.declared.items.ValueType.{ValueType}
 use Rattle.wac_component.specs.declared.functions.FuncType.{FuncType}
-use Rattle.wac_component.specs.Id.{Id}
 use Rattle.wac_component.specs.Collection.{Collection}
 use Rattle.wac_component.specs.Content.{names, types_of, func_content}
-use Rattle.wac_component.specs.Height.{height, keys_height}
-use Rattle.wac_component.specs.Key.{func_key, func_keys}
-use Rattle.wac_component.specs.Tree.{value_tree, func_tree, func_content_tree}
+use Rattle.wac_component.specs.Tree.{value_tree, func_content_tree}
 use Rattle.wac_component.proofs.Lists.{slice_get-append, slice_get-last, slice_get-map}
 use Rattle.wac_mismatch.specs.Place.{item_side}
 use Rattle.wac_mismatch.specs.Steps.{IsParameter}
-use Rattle.wac_mismatch.specs.declared.check.SubtypeCheck.{SubtypeCheck}
-use Rattle.wac_mismatch.specs.declared.error.SubtypeError.{SubtypeError}
 use Rattle.wac_mismatch.specs.declared.frame.Frame.{Frame}
 use Rattle.wac_checker.specs.Parts.{func_parts, IsIndex, SamePart, SameBefore, AreAt, IsFrameAt}
-use Rattle.wac_checker.specs.Pairs.{IsValuePart, Finding}
-use Rattle.wac_checker.specs.Verdict.{ExplainsFuncs}
 use Rattle.wac_checker.proofs.ListLemmas.{same_list}
 use Rattle.wac_checker.proofs.FuncLemmas.{params_of, param_at, name_at, length-params, leads_to_param}
-use Rattle.wac_checker.proofs.PartLemmas.{pair_of, part_below}
+use Rattle.wac_checker.proofs.PartLemmas.{pair_of}
 
 -- a parameter is a part, and the result is the last one
 param_part : (t : FuncTree) (i : ℕ) (n : Text) (x : ValueTree) → i < length t.params → slice_get t.params i ≡ Some (n, x) → slice_get (func_parts t) i ≡ Some (n, Some x)

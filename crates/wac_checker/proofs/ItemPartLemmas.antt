@@ -1,6 +1,6 @@
 -- What is left to compare of two items.
 use Rattle.std.proofs.lemmas.Grind.{common_steps}
-use Rattle.std.proofs.Common.{◌≡◌, ◌==◌, ◌&&◌, Bool, true, false, refl, ap, sym, subst, ◌∙◌, arith}
+use Rattle.std.proofs.Common.{◌≡◌, ◌==◌, ◌&&◌, Bool, true, ap, sym, ◌∙◌, arith}
 use Rattle.wac_model.specs.CoreTree.{ModuleTree}
 use Rattle.wac_model.specs.ValueTree.{ValueTree}
 use Rattle.wac_model.specs.ItemTree.{Kind, Leaf, Shape, Items, leaf, core_module, composite, value, item, type_item}
@@ -15,7 +15,6 @@ use Rattle.wac_component.specs.declared.items.ItemKind.TheVariants.{«Type» as 
 use Rattle.wac_component.specs.declared.items.ValueType.{ValueType}
 use Rattle.wac_component.specs.declared.items.ValueType.TheVariants.{Defined}
 use Rattle.wac_component.specs.declared.items.Type.TheVariants.{Func as TypeFunc, Interface as TypeInterface, World as TypeWorld, Module as TypeModule}
-use Rattle.wac_mismatch.specs.Place.{item_side}
 use Rattle.wac_checker.specs.Pairs.{AreOf, AreOfItems, Entries, DefinedTypes, Funcs, Interfaces, Worlds, Modules}
 use Rattle.wac_checker.proofs.ItemLemmas.{equal_leaves, values_path}
 

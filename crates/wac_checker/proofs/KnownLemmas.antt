@@ -1,8 +1,8 @@
 -- The pairs that are known: when two are one, and one more pair.
 use Rattle.std.specs.List.{list_any, Contains}
 use Rattle.std.proofs.lemmas.Map.Views.{Contains-from_any}
-use Rattle.std.proofs.Common.{◌≡◌, ◌≢◌, ◌<◌, ◌≤◌, ◌||◌, ◌⊎◌, inl, inr, if◌then◌else◌, ℕ, zero, suc, List, [], ◌∷◌, ◌++◌, Bool, true, false, Some, slice_get, refl, ap, sym, subst, ◌∙◌, append_assoc, arith, rules}
-use Rattle.std.proofs.lemmas.List.Elements.{Contains-append_left, Contains-append_right, Contains-append_cases, Contains-push, Contains-push_cases}
+use Rattle.std.proofs.Common.{◌≡◌, ◌≢◌, ◌||◌, inl, inr, ℕ, zero, suc, List, [], ◌∷◌, ◌++◌, Bool, true, false, Some, slice_get, refl, ap, sym, subst, arith, rules}
+use Rattle.std.proofs.lemmas.List.Elements.{Contains-append_cases, Contains-push_cases}
 use Rattle.wac_component.proofs.Among.{Contains-first, Contains-later, Contains-cases}
 use Rattle.wac_component.specs.Collection.{Collection}
 use Rattle.wac_checker.specs.Pairs.{AreDistinct, ArePairsOf, IsStanding}

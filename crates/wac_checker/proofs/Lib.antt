@@ -20,6 +20,7 @@ pub mod ExternPartLemmas
 pub mod KnownLemmas
 pub mod DifferenceLemmas
 pub mod ListingLemmas
+pub mod BelievedLemmas
 pub mod WalkLemmas
 pub mod ExternListing
 pub mod ComparedGrowth

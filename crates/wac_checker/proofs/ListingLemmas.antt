@@ -1,12 +1,10 @@
 -- What is listed of two sides and of two entries, one part after another.
-use Rattle.std.proofs.Common.{◌≡◌, ◌≢◌, ◌≤◌, ◌<◌, ◌+◌, ◌^◌, ◌==◌, ◌&&◌, ◌⊎◌, inl, inr, ℕ, List, [], ◌∷◌, ◌++◌, length, map, Bool, true, false, not, Option, Some, None, is_some, slice_get, string_bytes, String, Global, refl, ap, sym, subst, subst₂, ◌∙◌, arith}
+use Rattle.std.proofs.Common.{◌≡◌, ◌≢◌, ◌≤◌, ◌<◌, ◌+◌, ◌^◌, ◌==◌, ◌&&◌, ◌⊎◌, inl, inr, ℕ, List, [], ◌∷◌, Bool, true, false, Option, Some, None, is_some, slice_get, refl, ap, sym, subst, subst₂, ◌∙◌, arith}
 use Rattle.std.specs.Prelude.{Contains}
-use Rattle.std.specs.List.{flat_map}
 use Rattle.std.specs.Option.{option_to_list}
 use Rattle.std.proofs.lemmas.Option.{slice_get_within}
 use Rattle.std.proofs.lemmas.List.Elements.{Contains-append_left, Contains-push, Contains-push_cases}
-use Rattle.wac_model.specs.Text.{Text}
-use Rattle.wac_model.specs.ValueTree.{ValueTree, ValueLabel, FuncTree, node, parts_of, list, option, fixed_size_list, stream, future}
+use Rattle.wac_model.specs.ValueTree.{ValueTree, ValueLabel, FuncTree, list, option, fixed_size_list, stream, future}
 use Rattle.wac_model.specs.ItemTree.{Kind, Leaf, item, leaf, func}
 use Rattle.wac_model.proofs.ItemOrder.{leaf_fits}
 use Rattle.wac_component.specs.Id.{Id}
@@ -16,7 +14,6 @@ use Rattle.wac_component.specs.Key.{Stands, defined_key, defined_keys, func_key,
 use Rattle.wac_component.specs.Tree.{value_tree, content_tree, func_tree, func_content_tree, IsCompound, IsResolved}
 use Rattle.wac_component.specs.declared.items.ValueType.{ValueType}
 use Rattle.wac_component.specs.declared.items.ValueType.TheVariants.{Defined}
-use Rattle.wac_mismatch.specs.Path.{Path}
 use Rattle.wac_mismatch.specs.Place.{Side, value_side, item_side, place, absent, by_check, expected_of}
 use Rattle.wac_mismatch.specs.Holds.{HoldsOfSides}
 use Rattle.wac_mismatch.specs.declared.fault.Fault.TheVariants as fault
@@ -26,10 +23,9 @@ use Rattle.wac_checker.specs.declared.parts.Difference.TheVariants as difference
 use Rattle.wac_mismatch.specs.declared.check.SubtypeCheck.{SubtypeCheck}
 use Rattle.wac_mismatch.specs.declared.check.SubtypeCheck.TheVariants.{Covariant, Contravariant}
 use Rattle.wac_mismatch.specs.declared.fault.Fault.{Fault}
-use Rattle.wac_mismatch.specs.declared.frame.Frame.{Frame}
 use Rattle.wac_checker.specs.Parts.{AreAt, IsIndex, SamePart, SameBefore, side_parts}
-use Rattle.wac_checker.specs.Pairs.{AreOf, Entries, DefinedTypes, Funcs, Interfaces, Worlds, Modules, Below, EntriesFit, HasPart, HaveAt, IsBelow, IsFitting, entries_by, entries_of, flag_of, id_in, left_of, right_of}
-use Rattle.wac_checker.specs.Listing.{AllFitBy, AreComposed, AreLeavesApart, AreMembersOf, AreNamedUnless, ArePartsOf, AreValuesNamed, DifferAtIn, DifferIn, IsLastTurn, IsMemberOf, IsNamed, IsPartOf, IsPut, IsReal, IsSideTurn, IsTurn, IsTurnTo, func_side, members_height}
+use Rattle.wac_checker.specs.Pairs.{AreOf, Entries, DefinedTypes, Funcs, Interfaces, Worlds, Modules, Below, EntriesFit, HaveAt, IsFitting, entries_by, entries_of, flag_of, id_in, left_of, right_of}
+use Rattle.wac_checker.specs.Listing.{AllFitBy, AreComposed, AreLeavesApart, AreMembersOf, AreNamedUnless, ArePartsOf, AreValuesNamed, DifferAtIn, DifferIn, IsLastTurn, IsMemberOf, IsNamed, IsPut, IsSideTurn, IsTurn, IsTurnTo, func_side, members_height}
 use Rattle.wac_checker.specs.declared.parts.Difference.{Difference}
 use Rattle.wac_checker.specs.declared.parts.EntryPair.{EntryPair}
 use Rattle.wac_checker.specs.declared.parts.Named.{Named}

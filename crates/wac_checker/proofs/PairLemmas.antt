@@ -1,7 +1,5 @@
 -- Pairs: when two are one, and what is found of their parts.
-use Rattle.std.specs.List.{list_any, Contains}
-use Rattle.std.proofs.lemmas.Map.Views.{Contains-from_any}
-use Rattle.std.proofs.Common.{◌≡◌, ◌||◌, ◌++◌, if◌then◌else◌, ℕ, zero, suc, List, [], ◌∷◌, Bool, true, false, Option, Some, slice_get, refl, ap, sym, subst, ◌∙◌, arith, rules, ◌≢◌}
+use Rattle.std.proofs.Common.{◌≡◌, ℕ, Bool, true, false, Option, Some, slice_get, refl, ap, sym, subst, ◌∙◌, arith, ◌≢◌}
 use Rattle.std.specs.Prelude.{Result, MatchResult, IfOk, Ok, Err}
 use Rattle.std.specs.declared.alloc.AllocError.{AllocError}
 use Rattle.wac_mismatch.specs.declared.frame.Frame.{Frame}
@@ -19,14 +17,14 @@ use Rattle.wac_component.specs.declared.items.ValueType.TheVariants.{Defined}
 use Rattle.wac_mismatch.specs.Place.{Side, SideFits, item_side, value_side, place, turned}
 use Rattle.wac_mismatch.specs.Path.{Explains, Refutes}
 use Rattle.wac_mismatch.specs.Steps.{IsUnder}
-use Rattle.wac_mismatch.proofs.PathLemmas.{explains_under, explains_refutes}
+use Rattle.wac_mismatch.proofs.PathLemmas.{explains_refutes}
 use Rattle.wac_mismatch.specs.declared.check.SubtypeCheck.{SubtypeCheck}
 use Rattle.wac_mismatch.specs.declared.check.SubtypeCheck.TheVariants.{Covariant, Contravariant}
 use Rattle.wac_mismatch.specs.declared.error.SubtypeError.{SubtypeError}
 use Rattle.wac_checker.proofs.ItemLemmas.{equal_leaves}
 use Rattle.wac_checker.proofs.PartLemmas.{pair_of}
 use Rattle.wac_checker.specs.Parts.{side_parts, AreAt}
-use Rattle.wac_checker.specs.Pairs.{HaveAt, IsValuePart, IsBelow, IsBelowPair, IsEntriesPart, EntriesFit, ExplainsEntries, HasPart, left_of, right_of, placed, Entries, DefinedTypes, Funcs, Interfaces, Worlds, Modules, Finding, End, Same, Below, Two, left_side, right_side}
+use Rattle.wac_checker.specs.Pairs.{HaveAt, IsValuePart, IsBelow, IsBelowPair, IsEntriesPart, EntriesFit, ExplainsEntries, left_of, right_of, placed, Entries, DefinedTypes, Funcs, Interfaces, Worlds, Modules, Finding, End, Same, Below, Two, left_side, right_side}
 
 turned_twice : (check : SubtypeCheck) → turned (turned check) ≡ check
 turned_twice Covariant = refl

@@ -5,7 +5,7 @@ use Rattle.wac_component.specs.Collection.{Collection}
 use Rattle.wac_component.specs.Key.{Key, AllStand, Stands, item_keys}
 use Rattle.wac_component.specs.declared.items.ItemKind.{ItemKind}
 use Rattle.wac_checker.specs.Paired.{IsPairing}
-use Rattle.wac_checker.specs.Pairs.{AreOfItems, entries_by, entries_of, id_in}
+use Rattle.wac_checker.specs.Pairs.{AreOfItems, entries_by, id_in}
 use Rattle.wac_checker.specs.declared.parts.Sort.{Sort}
 use Rattle.wac_checker.specs.declared.parts.EntryPair.{EntryPair}
 use Rattle.wac_checker.specs.declared.paired.Paired.TheVariants.{Entries as TwoEntries}

@@ -2,12 +2,11 @@
 use Rattle.std.specs.Str.{bytes_eq}
 use Rattle.std.specs.Map.{lookup}
 use Rattle.std.proofs.Common.{◌+◌, ◌^◌, ◌≡◌, ◌≢◌, ◌≤◌, ◌<◌, ℕ, suc, zero, List, [], ◌∷◌, ◌++◌, length, map, true, Option, Some, None, is_some, slice_get, string_bytes, String, Global, refl, ap, sym, subst, ◌∙◌, arith}
-use Rattle.std.specs.Prelude.{Result, MatchResult, IfOk, Ok, Err}
+use Rattle.std.specs.Prelude.{Result, IfOk, Ok, Err}
 use Rattle.std.specs.declared.alloc.AllocError.{AllocError}
 use Rattle.std.proofs.lemmas.List.{length-map}
 use Rattle.wac_mismatch.specs.declared.frame.Frame.{Frame}
 use Rattle.std.specs.Option.{option_map, option_to_list}
-use Rattle.std.proofs.lemmas.Result.{MatchResult-weaker}
 use Rattle.std.proofs.lemmas.Option.{slice_get_within}
 use Rattle.wac_model.specs.Text.{Text}
 use Rattle.wac_model.specs.ValueTree.{ValueTree, parts_of, tuple, map_of, record_of}
@@ -20,21 +19,16 @@ use Rattle.wac_component.specs.Height.{height, keys_height}
 use Rattle.wac_component.specs.Key.{defined_key, defined_keys, value_keys}
 use Rattle.wac_component.specs.Tree.{value_tree, content_tree}
 use Rattle.std.specs.List.{flat_map}
-use Rattle.std.proofs.lemmas.Grind.{flat_map-append}
-use Rattle.wac_component.proofs.Keys.{largest-append}
 use Rattle.wac_component.proofs.Lists.{append_nil, slice_get-map}
 use Rattle.wac_component.proofs.Members.{keys_height-member}
 use Rattle.wac_mismatch.specs.Place.{Side, value_side, by_check, expected_of}
 use Rattle.wac_mismatch.specs.Part.{sided}
-use Rattle.wac_mismatch.specs.Steps.{IsHere, IsCase, IsField}
+use Rattle.wac_mismatch.specs.Steps.{IsCase, IsField}
 use Rattle.wac_mismatch.specs.Holds.{HoldsOfSides}
-use Rattle.wac_mismatch.proofs.PathLemmas.{explains_sides}
 use Rattle.wac_mismatch.specs.declared.fault.Fault.TheVariants as fault
 use Rattle.wac_mismatch.specs.declared.fault.ResultPart.TheVariants as result_of
 use Rattle.wac_mismatch.specs.declared.check.SubtypeCheck.TheVariants.{Covariant, Contravariant}
-use Rattle.wac_mismatch.specs.Path.{Explains}
 use Rattle.wac_mismatch.specs.declared.check.SubtypeCheck.{SubtypeCheck}
-use Rattle.wac_mismatch.specs.declared.error.SubtypeError.{SubtypeError}
 use Rattle.wac_checker.specs.Content.{composed_side, variant_side, result_side, case_tree}
 use Rattle.wac_checker.specs.Parts.{IsFrameAt, IsIndex, side_parts, marked_parts, unnamed_parts, SamePart, SameBefore, AreAt}
 use Rattle.wac_checker.specs.Pairs.{AreValuesCompared, AreOptionsCompared, AreOf, HaveAt, IsValuePart, Entries, DefinedTypes, Funcs, Interfaces, Worlds, Modules, Finding, End, Same, Below}

@@ -1,18 +1,20 @@
 -- How a comparison of pairs goes on.
-use Rattle.std.proofs.Common.{◌≡◌, ◌≢◌, ◌≤◌, ◌<◌, ◌+◌, ◌-◌, ◌⊎◌, inl, inr, ℕ, zero, suc, List, [], ◌∷◌, ◌++◌, length, take, reverse, Bool, true, false, not, Some, slice_get, refl, ap, sym, subst, ◌∙◌, arith}
+use Rattle.std.proofs.Common.{◌≡◌, ◌≤◌, ◌<◌, ◌+◌, ◌-◌, ◌⊎◌, inl, inr, ℕ, zero, suc, List, [], ◌∷◌, ◌++◌, length, take, reverse, Bool, true, false, Some, slice_get, refl, ap, sym, subst, ◌∙◌, arith}
 use Rattle.std.specs.Prelude.{Contains}
 use Rattle.std.proofs.Math.Seq.{take-append_seam}
 use Rattle.std.proofs.Common.{length-append}
 use Rattle.std.proofs.lemmas.Grind.{reverse_onto}
 use Rattle.std.proofs.lemmas.List.{reverse-append, take_all}
 use Rattle.std.proofs.lemmas.Option.{slice_get_within}
-use Rattle.std.proofs.lemmas.List.Elements.{Contains-append_left, Contains-append_cases, Contains-push, Contains-push_cases}
+use Rattle.std.proofs.lemmas.List.Elements.{Contains-append_left, Contains-push, Contains-push_cases}
 use Rattle.wac_component.proofs.Among.{Contains-first, Contains-later, Contains-cases}
 use Rattle.wac_component.specs.Collection.{Collection}
 use Rattle.wac_mismatch.specs.declared.check.SubtypeCheck.{SubtypeCheck}
 use Rattle.wac_mismatch.specs.declared.fault.Fault.{Fault}
 use Rattle.wac_mismatch.specs.declared.frame.Frame.{Frame}
 use Rattle.wac_checker.specs.Compared.{AreAnswered, IsAnswered, IsUnderWay, KnowsBut, KnowsTruly}
+use Rattle.wac_checker.specs.Believed.{IsAmong, IsFittingBy, MayBelieve}
+use Rattle.wac_checker.specs.Cache.{AreInOrder, Pair}
 use Rattle.wac_checker.specs.Known.{pairs_of}
 use Rattle.wac_checker.specs.Listing.{AllFit, AllFitBy, AreItemsNamed, ArePartsOf, IsPairTurn, IsPartOf}
 use Rattle.wac_checker.specs.declared.parts.Named.TheVariants as named
@@ -27,7 +29,7 @@ use Rattle.wac_mismatch.specs.Place.{item_side}
 use Rattle.wac_mismatch.specs.declared.error.SubtypeError.{SubtypeError}
 use Rattle.wac_mismatch.specs.declared.error.SubtypeError.TheVariants.{Mismatch, Memory}
 use Rattle.wac_checker.proofs.ListingLemmas.{put_named}
-use Rattle.wac_checker.specs.Pairs.{AreOfItems, ArePairsOf, ExplainsPair, HasPart, IsBelow, IsBelowPair, IsFitting, IsPairFrame, IsStanding, Two, entries_by, entries_of, flag_of, id_in, left_of, pair_height, placed, right_of, two_of}
+use Rattle.wac_checker.specs.Pairs.{AreOfItems, ArePairsOf, ExplainsPair, IsBelowPair, IsFitting, IsPairFrame, IsStanding, Two, entries_by, entries_of, flag_of, id_in, left_of, pair_height, placed, right_of, two_of}
 use Rattle.wac_checker.specs.Walk.{AreListed, IsAtStep, IsBegun, IsOpen, IsPartOfPair, IsPath, IsPathTo, LeadFrom, LeadsTo, PathFrom}
 use Rattle.wac_checker.specs.declared.compared.Compared.{Compared}
 use Rattle.wac_checker.specs.declared.parts.Difference.{Difference}
@@ -40,6 +42,7 @@ use Rattle.wac_checker.specs.declared.walk.Walk.{Walk}
 use Rattle.wac_checker.proofs.CountLemmas.{last_or_before}
 use Rattle.wac_checker.proofs.KnownLemmas.{element_at, pairs_push}
 use Rattle.wac_checker.proofs.PairLemmas.{below_pair}
+use Rattle.wac_checker.proofs.BelievedLemmas.{among_fits, left_has_keys, none_in_order, right_has_keys}
 
 -- ---- what is listed of a pair
 
@@ -86,8 +89,8 @@ module _ (c d : Collection) (q : Part) (l ms : List Part) (differs : Bool) (stan
   listed_at i x le at = element_at ms (i - length l) x (sym (at_right l ms (i - length l) i (omega (arith, le))) ∙ at)
 
   -- a step begins
-  pub begun : (m : List Part) (s : Step) → m ≡ l ++ ms → s ≡ record { part = q; first = length l; next = length l; differs = differs } → IsBegun c d q l m s
-  begun m s more is = rw (more, is) (record {
+  pub begun : (ps : List Pair) (m : List Part) (s : Step) → m ≡ l ++ ms → s ≡ record { part = q; first = length l; next = length l; differs = differs } → IsBegun ps c d q l m s
+  begun ps m s more is = rw (more, is) (record {
     part = refl;
     first = refl;
     next = refl;
@@ -108,15 +111,15 @@ module _ (c d : Collection) (q : Part) (l ms : List Part) (differs : Bool) (stan
 abbrev pub moved : Step → Step
 moved s = record { part = s.part; first = s.first; next = s.next + 1; differs = s.differs }
 
-module _ (c d : Collection) (l : List Part) (s : Step) (n : ℕ) (h : IsAtStep c d l s n) where
-  fit_next : (q : Part) → slice_get l n ≡ Some q → IsFitting c d q.pair → (i : ℕ) (x : Part) → s.first ≤ i → i < n + 1 → slice_get l i ≡ Some x → IsFitting c d x.pair
+module _ (ps : List Pair) (c d : Collection) (l : List Part) (s : Step) (n : ℕ) (h : IsAtStep ps c d l s n) where
+  fit_next : (q : Part) → slice_get l n ≡ Some q → IsFittingBy ps c d q.pair → (i : ℕ) (x : Part) → s.first ≤ i → i < n + 1 → slice_get l i ≡ Some x → IsFittingBy ps c d x.pair
   fit_next q here fits i x le lt at = elim (last_or_before i n (omega (arith, lt))) [
-    | inl e ↦ (let same : Some q ≡ Some x = sym here ∙ ap (slice_get l) (sym e) ∙ at in let one : q ≡ x = cc in subst (λ (y : Part). IsFitting c d y.pair) one fits)
+    | inl e ↦ (let same : Some q ≡ Some x = sym here ∙ ap (slice_get l) (sym e) ∙ at in let one : q ≡ x = cc in subst (λ (y : Part). IsFittingBy ps c d y.pair) one fits)
     | inr before ↦ h.fit i x le before at
   ]
 
   -- one more part fits
-  pub step_next : (q : Part) (t : Step) → t.part ≡ s.part → t.first ≡ s.first → t.differs ≡ s.differs → slice_get l n ≡ Some q → IsFitting c d q.pair → IsAtStep c d l t (n + 1)
+  pub step_next : (q : Part) (t : Step) → t.part ≡ s.part → t.first ≡ s.first → t.differs ≡ s.differs → slice_get l n ≡ Some q → IsFittingBy ps c d q.pair → IsAtStep ps c d l t (n + 1)
   step_next q t part first differs here fits =
       let below : n < length l = slice_get_within l n q here in
       record {
@@ -129,11 +132,11 @@ module _ (c d : Collection) (l : List Part) (s : Step) (n : ℕ) (h : IsAtStep c
       }
 
   -- all parts fit, and the two don't differ after them
-  pub step_fits : length l ≤ n → s.differs ≡ false → IsFitting c d s.part.pair
-  step_fits all even = h.same even (λ i x le at. h.fit i x le (let below : i < length l = slice_get_within l i x at in omega (arith, below, all)) at)
+  pub step_fits : length l ≤ n → s.differs ≡ false → IsFittingBy ps c d s.part.pair
+  step_fits all even told = h.same even (λ i x le at. h.fit i x le (let below : i < length l = slice_get_within l i x at in omega (arith, below, all)) at told)
 
   -- the next part is at hand
-  pub step_leads : (q : Part) (t : Step) → t.part ≡ s.part → t.first ≡ s.first → t.differs ≡ s.differs → t.next ≡ n + 1 → slice_get l n ≡ Some q → LeadsTo c d l t q
+  pub step_leads : (q : Part) (t : Step) → t.part ≡ s.part → t.first ≡ s.first → t.differs ≡ s.differs → t.next ≡ n + 1 → slice_get l n ≡ Some q → LeadsTo ps c d l t q
   step_leads q t part first differs next here = record {
     place = n;
     next = next;
@@ -148,13 +151,13 @@ module _ (c d : Collection) (l : List Part) (s : Step) (n : ℕ) (h : IsAtStep c
     here = here;
   }
 
-leads_part : (c d : Collection) (l : List Part) (s : Step) (q : Part) → LeadsTo c d l s q → IsPartOfPair c d s.part.pair q
-leads_part c d l s q h = h.at.parts h.place q h.at.within.0 h.here
+leads_part : (ps : List Pair) (c d : Collection) (l : List Part) (s : Step) (q : Part) → LeadsTo ps c d l s q → IsPartOfPair c d s.part.pair q
+leads_part ps c d l s q h = h.at.parts h.place q h.at.within.0 h.here
 
 -- steps that lead are a path
-pub lead_path : (c d : Collection) (r : EntryPair) (l : List Part) (ss : List Step) (q : Part) → LeadFrom c d r l ss q → PathFrom c d r ss q
-lead_path c d r l [] q h = h
-lead_path c d r l (s ∷ ss) q h = (h.0.at.stands, leads_part c d l s q h.0, lead_path c d r (take s.first l) ss s.part h.1)
+pub lead_path : (ps : List Pair) (c d : Collection) (r : EntryPair) (l : List Part) (ss : List Step) (q : Part) → LeadFrom ps c d r l ss q → PathFrom c d r ss q
+lead_path ps c d r l [] q h = h
+lead_path ps c d r l (s ∷ ss) q h = (h.0.at.stands, leads_part ps c d l s q h.0, lead_path ps c d r (take s.first l) ss s.part h.1)
 
 module _ (c d : Collection) (r : EntryPair) where
   -- a part is lower than the pairs of the steps that lead to it
@@ -211,26 +214,26 @@ open_first s ss = (s, Contains-first s ss, refl)
 open_later : (s : Step) (ss : List Step) (p : EntryPair) → IsOpen ss p → IsOpen (s ∷ ss) p
 open_later s ss p o = (o.0, Contains-later o.0 s ss o.1, o.2)
 
-module _ (c d : Collection) (k : Compared) where
-  pub truly_but : (ss : List Step) → KnowsTruly c d k → KnowsBut c d k ss
-  truly_but ss h = record { pairs = h.pairs; unfit = h.unfit; known = λ p m. inl (h.known p m) }
+module _ (ps : List Pair) (c d : Collection) (k : Compared) where
+  pub truly_but : (ss : List Step) → KnowsTruly c d k → KnowsBut ps c d k ss
+  truly_but ss h = record { pairs = h.pairs; unfit = h.unfit; known = λ p m. inl (elim (h.known p m) [ inl fits ↦ inl (λ told. fits) | inr there ↦ inr there ]) }
 
   -- the pair at hand fits
-  pub knows_closed : (s : Step) (ss : List Step) → KnowsBut c d k (s ∷ ss) → IsFitting c d s.part.pair → KnowsBut c d k ss
+  pub knows_closed : (s : Step) (ss : List Step) → KnowsBut ps c d k (s ∷ ss) → IsFittingBy ps c d s.part.pair → KnowsBut ps c d k ss
   knows_closed s ss h fits = record {
     pairs = h.pairs;
     unfit = h.unfit;
     known = λ p m. elim (h.known p m) [
       | inl told ↦ inl told
-      | inr o ↦ elim (open_cases s ss p o) [ inl e ↦ inl (inl (subst (λ (x : EntryPair). IsFitting c d x) e fits)) | inr later ↦ inr later ]
+      | inr o ↦ elim (open_cases s ss p o) [ inl e ↦ inl (inl (subst (λ (x : EntryPair). IsFittingBy ps c d x) e fits)) | inr later ↦ inr later ]
     ];
   }
 
-  pub knows_all : KnowsBut c d k [] → KnowsTruly c d k
-  knows_all h = record { pairs = h.pairs; unfit = h.unfit; known = λ p m. elim (h.known p m) [ inl told ↦ told | inr o ↦ absurd (omega (arith, o.1.1)) ] }
+  pub knows_all : KnowsBut ps c d k [] → AreInOrder c d ps → KnowsTruly c d k
+  knows_all h given = record { pairs = h.pairs; unfit = h.unfit; known = λ p m. elim (h.known p m) [ inl told ↦ elim told [ inl fits ↦ inl (fits given) | inr there ↦ inr there ] | inr o ↦ absurd (omega (arith, o.1.1)) ] }
 
   -- a step of the same pair in the place of the pair at hand
-  pub knows_moved : (s t : Step) (ss : List Step) → t.part ≡ s.part → KnowsBut c d k (s ∷ ss) → KnowsBut c d k (t ∷ ss)
+  pub knows_moved : (s t : Step) (ss : List Step) → t.part ≡ s.part → KnowsBut ps c d k (s ∷ ss) → KnowsBut ps c d k (t ∷ ss)
   knows_moved s t ss same h = record {
     pairs = h.pairs;
     unfit = h.unfit;
@@ -241,7 +244,7 @@ module _ (c d : Collection) (k : Compared) where
   }
 
   -- one more pair is known, that of a step
-  pub knows_opened : (k' : Compared) (s : Step) (ss : List Step) → KnowsBut c d k ss → (Contains (pairs_of k.known) s.part.pair → ⊥) → IsStanding c d s.part.pair → pairs_of k'.known ≡ pairs_of k.known ++ s.part.pair ∷ [] → pairs_of k'.unfit ≡ pairs_of k.unfit → KnowsBut c d k' (s ∷ ss)
+  pub knows_opened : (k' : Compared) (s : Step) (ss : List Step) → KnowsBut ps c d k ss → (Contains (pairs_of k.known) s.part.pair → ⊥) → IsStanding c d s.part.pair → pairs_of k'.known ≡ pairs_of k.known ++ s.part.pair ∷ [] → pairs_of k'.unfit ≡ pairs_of k.unfit → KnowsBut ps c d k' (s ∷ ss)
   knows_opened k' s ss h new stands more same = record {
     pairs = rw more (pairs_push c d (pairs_of k.known) s.part.pair h.pairs new stands);
     unfit = λ p m. h.unfit p (rw same at m);
@@ -252,13 +255,13 @@ module _ (c d : Collection) (k : Compared) where
   }
 
   -- a part that is known fits, if it isn't known not to
-  pub part_fits : (r : EntryPair) (ss : List Step) (q : Part) → KnowsBut c d k ss → PathFrom c d r ss q → (Contains (pairs_of k.unfit) q.pair → ⊥) → Contains (pairs_of k.known) q.pair → IsFitting c d q.pair
+  pub part_fits : (r : EntryPair) (ss : List Step) (q : Part) → KnowsBut ps c d k ss → PathFrom c d r ss q → (Contains (pairs_of k.unfit) q.pair → ⊥) → Contains (pairs_of k.known) q.pair → IsFittingBy ps c d q.pair
   part_fits r ss q h path nw m = elim (h.known q.pair m) [
     | inl told ↦ elim told [ inl fits ↦ fits | inr there ↦ absurd (nw there) ]
     | inr o ↦ absurd (let lower = path_lower c d r ss q path o.0 o.1 in let same = ap (λ (x : EntryPair). pair_height c d (two_of c d x)) o.2 in omega (arith, lower, same))
   ]
 
-  pub knows_same : (k' : Compared) (ss : List Step) → KnowsBut c d k ss → pairs_of k'.known ≡ pairs_of k.known → pairs_of k'.unfit ≡ pairs_of k.unfit → KnowsBut c d k' ss
+  pub knows_same : (k' : Compared) (ss : List Step) → KnowsBut ps c d k ss → pairs_of k'.known ≡ pairs_of k.known → pairs_of k'.unfit ≡ pairs_of k.unfit → KnowsBut ps c d k' ss
   knows_same k' ss h known unfit = record {
     pairs = rw known h.pairs;
     unfit = λ p m. h.unfit p (rw unfit at m);
@@ -267,37 +270,37 @@ module _ (c d : Collection) (k : Compared) where
 
 -- ---- turns
 
-module _ (c d : Collection) (k : Compared) (w : Walk) (s : Step) (h : IsUnderWay c d k w s) where
+module _ (ps : List Pair) (c d : Collection) (k : Compared) (w : Walk) (s : Step) (h : IsUnderWay ps c d k w s) where
   way_path : PathFrom c d w.asked (reverse w.open) s.part
-  way_path = lead_path c d w.asked (take s.first w.parts.before) (reverse w.open) s.part h.lead
+  way_path = lead_path ps c d w.asked (take s.first w.parts.before) (reverse w.open) s.part h.lead
 
   -- the two differ after their parts
-  pub way_differs : (v : Walk) → v.open ≡ w.open ++ s ∷ [] → v.asked ≡ w.asked → s.differs ≡ true → IsAnswered c d k v false
+  pub way_differs : (v : Walk) → v.open ≡ w.open ++ s ∷ [] → v.asked ≡ w.asked → s.differs ≡ true → IsAnswered ps c d k v false
   way_differs v opened asked differs = rw (asked, opened, reverse_push w.open s) (h.knows, (h.at.stands, h.at.apart differs, way_path))
 
   module _ (all : length w.parts.before ≤ s.next) (even : s.differs ≡ false) where
-    this_fits : IsFitting c d s.part.pair
-    this_fits = step_fits c d w.parts.before s s.next h.at all even
+    this_fits : IsFittingBy ps c d s.part.pair
+    this_fits = step_fits ps c d w.parts.before s s.next h.at all even
 
     -- back to the step above
-    pub way_back : (os : List Step) (a : Step) (v : Walk) → w.open ≡ os ++ a ∷ [] → v.open ≡ os → v.parts.before ≡ take s.first w.parts.before → v.asked ≡ w.asked → v.parts.items ≡ w.parts.items → IsUnderWay c d k v a
+    pub way_back : (os : List Step) (a : Step) (v : Walk) → w.open ≡ os ++ a ∷ [] → v.open ≡ os → v.parts.before ≡ take s.first w.parts.before → v.asked ≡ w.asked → v.parts.items ≡ w.parts.items → IsUnderWay ps c d k v a
     way_back os a v was kept parts asked listed =
         let knows = rw (was, reverse_push os a) at h.knows in
         let lead = rw (was, reverse_push os a) at h.lead in
-        let at = step_next c d (take s.first w.parts.before) a lead.0.place lead.0.at s.part a refl refl refl lead.0.here this_fits in
+        let at = step_next ps c d (take s.first w.parts.before) a lead.0.place lead.0.at s.part a refl refl refl lead.0.here this_fits in
         record {
-          knows = rw kept (knows_closed c d k s (a ∷ reverse os) knows this_fits);
-          at = rw parts (subst (λ (n : ℕ). IsAtStep c d (take s.first w.parts.before) a n) (sym lead.0.next) at);
+          knows = rw kept (knows_closed ps c d k s (a ∷ reverse os) knows this_fits);
+          at = rw parts (subst (λ (n : ℕ). IsAtStep ps c d (take s.first w.parts.before) a n) (sym lead.0.next) at);
           lead = rw (asked, parts, kept) lead.1;
           listed = listed ∙ h.listed;
         }
 
     -- to the end
-    pub way_end : (v : Walk) → w.open ≡ [] → v.asked ≡ w.asked → IsAnswered c d k v true
+    pub way_end : (v : Walk) → w.open ≡ [] → v.asked ≡ w.asked → IsAnswered ps c d k v true
     way_end v was asked =
         let knows = rw was at h.knows in
         let lead = rw was at h.lead in
-        rw asked (knows_all c d k (knows_closed c d k s [] knows this_fits), subst (λ (p : EntryPair). IsFitting c d p) lead this_fits)
+        rw asked (λ told. (knows_all ps c d k (knows_closed ps c d k s [] knows this_fits) told, subst (λ (p : EntryPair). IsFitting c d p) lead (this_fits told)))
 
   module _ (q : Part) (here : slice_get w.parts.before s.next ≡ Some q) where
     this_part : IsPartOfPair c d s.part.pair q
@@ -310,71 +313,75 @@ module _ (c d : Collection) (k : Compared) (w : Walk) (s : Step) (h : IsUnderWay
     part_path = (h.at.stands, this_part, way_path)
 
     -- the next part is known not to fit
-    pub way_unfit : (v : Walk) → Contains (pairs_of k.unfit) q.pair → v.open ≡ w.open ++ moved s ∷ [] → v.asked ≡ w.asked → IsAnswered c d k v false
-    way_unfit v m opened asked = rw (asked, opened, reverse_push w.open (moved s)) (knows_moved c d k s (moved s) (reverse w.open) refl h.knows, (h.at.stands, (λ fits. (h.knows.unfit q.pair m).1 (this_part.1.needed fits)), way_path))
+    pub way_unfit : (v : Walk) → Contains (pairs_of k.unfit) q.pair → v.open ≡ w.open ++ moved s ∷ [] → v.asked ≡ w.asked → IsAnswered ps c d k v false
+    way_unfit v m opened asked = rw (asked, opened, reverse_push w.open (moved s)) (knows_moved ps c d k s (moved s) (reverse w.open) refl h.knows, (h.at.stands, (λ fits. (h.knows.unfit q.pair m).1 (this_part.1.needed fits)), way_path))
 
     -- the next part fits
-    way_fits : (k' : Compared) → KnowsBut c d k' (moved s ∷ reverse w.open) → IsFitting c d q.pair → (v : Walk) → v.open ≡ w.open → v.parts.before ≡ w.parts.before → v.asked ≡ w.asked → v.parts.items ≡ [] → IsUnderWay c d k' v (moved s)
+    way_fits : (k' : Compared) → KnowsBut ps c d k' (moved s ∷ reverse w.open) → IsFittingBy ps c d q.pair → (v : Walk) → v.open ≡ w.open → v.parts.before ≡ w.parts.before → v.asked ≡ w.asked → v.parts.items ≡ [] → IsUnderWay ps c d k' v (moved s)
     way_fits k' knows fits v kept parts asked listed = record {
       knows = rw kept knows;
-      at = rw parts (step_next c d w.parts.before s s.next h.at q (moved s) refl refl refl here fits);
+      at = rw parts (step_next ps c d w.parts.before s s.next h.at q (moved s) refl refl refl here fits);
       lead = rw (asked, parts, kept) h.lead;
       listed = listed;
     }
 
+    -- it is believed to
+    pub way_told : IsFittingBy ps c d q.pair → IsUnderWay ps c d k w (moved s)
+    way_told fits = way_fits k (knows_moved ps c d k s (moved s) (reverse w.open) refl h.knows) fits w refl refl refl h.listed
+
     -- it is known to
-    pub way_known : (k' : Compared) → (Contains (pairs_of k.unfit) q.pair → ⊥) → Contains (pairs_of k.known) q.pair → pairs_of k'.known ≡ pairs_of k.known → pairs_of k'.unfit ≡ pairs_of k.unfit → IsUnderWay c d k' w (moved s)
-    way_known k' nw m known unfit = way_fits k' (knows_same c d k k' (moved s ∷ reverse w.open) (knows_moved c d k s (moved s) (reverse w.open) refl h.knows) known unfit) (part_fits c d k w.asked (s ∷ reverse w.open) q h.knows part_path nw m) w refl refl refl h.listed
+    pub way_known : (k' : Compared) → (Contains (pairs_of k.unfit) q.pair → ⊥) → Contains (pairs_of k.known) q.pair → pairs_of k'.known ≡ pairs_of k.known → pairs_of k'.unfit ≡ pairs_of k.unfit → IsUnderWay ps c d k' w (moved s)
+    way_known k' nw m known unfit = way_fits k' (knows_same ps c d k k' (moved s ∷ reverse w.open) (knows_moved ps c d k s (moved s) (reverse w.open) refl h.knows) known unfit) (part_fits ps c d k w.asked (s ∷ reverse w.open) q h.knows part_path nw m) w refl refl refl h.listed
 
     -- it is opened
     module _ (k' : Compared) (v : Walk) (b : Step) (new : Contains (pairs_of k.known) q.pair → ⊥) (more : pairs_of k'.known ≡ pairs_of k.known ++ q.pair ∷ []) (same : pairs_of k'.unfit ≡ pairs_of k.unfit) where
       pub pairs_opened : ArePairsOf c d (pairs_of k'.known)
       pairs_opened = rw more (pairs_push c d (pairs_of k.known) q.pair h.knows.pairs new part_stands)
 
-      module _ (begins : IsBegun c d q w.parts.before v.parts.before b) (asked : v.asked ≡ w.asked) (listed : v.parts.items ≡ []) where
+      module _ (begins : IsBegun ps c d q w.parts.before v.parts.before b) (asked : v.asked ≡ w.asked) (listed : v.parts.items ≡ []) where
         -- and has parts, or differs
-        pub way_below : v.open ≡ w.open ++ moved s ∷ [] → IsUnderWay c d k' v b
+        pub way_below : v.open ≡ w.open ++ moved s ∷ [] → IsUnderWay ps c d k' v b
         way_below opened =
-            let knows = knows_opened c d k k' b (moved s ∷ reverse w.open) (knows_moved c d k s (moved s) (reverse w.open) refl h.knows) (λ m. new (rw begins.part at m)) (rw begins.part part_stands) (rw begins.part more) same in
+            let knows = knows_opened ps c d k k' b (moved s ∷ reverse w.open) (knows_moved ps c d k s (moved s) (reverse w.open) refl h.knows) (λ m. new (rw begins.part at m)) (rw begins.part part_stands) (rw begins.part more) same in
             record {
               knows = rw (opened, reverse_push w.open (moved s)) knows;
-              at = subst (λ (n : ℕ). IsAtStep c d v.parts.before b n) (sym begins.next) begins.at;
-              lead = rw (asked, opened, reverse_push w.open (moved s), begins.first, begins.before, begins.part) (step_leads c d w.parts.before s s.next h.at q (moved s) refl refl refl refl here, h.lead);
+              at = subst (λ (n : ℕ). IsAtStep ps c d v.parts.before b n) (sym begins.next) begins.at;
+              lead = rw (asked, opened, reverse_push w.open (moved s), begins.first, begins.before, begins.part) (step_leads ps c d w.parts.before s s.next h.at q (moved s) refl refl refl refl here, h.lead);
               listed = listed;
             }
 
         -- and has none, and doesn't differ
-        pub way_over : v.open ≡ w.open → b.differs ≡ false → length v.parts.before ≤ b.first → IsUnderWay c d k' v (moved s)
+        pub way_over : v.open ≡ w.open → b.differs ≡ false → length v.parts.before ≤ b.first → IsUnderWay ps c d k' v (moved s)
         way_over opened even none =
             let few : length v.parts.before ≤ length w.parts.before = subst (λ (n : ℕ). length v.parts.before ≤ n) begins.first none in
             let parts : v.parts.before ≡ w.parts.before = sym (take_all (length w.parts.before) v.parts.before few) ∙ begins.before in
             let fits : IsFitting c d q.pair = subst (λ (x : Part). IsFitting c d x.pair) begins.part (begins.at.same even (λ i x le at. absurd (let below : i < length v.parts.before = slice_get_within v.parts.before i x at in omega (arith, below, none, le)))) in
-            let knows = knows_opened c d k k' (record { part = q; first = 0; next = 0; differs = false }) (moved s ∷ reverse w.open) (knows_moved c d k s (moved s) (reverse w.open) refl h.knows) new part_stands more same in
-            way_fits k' (knows_closed c d k' (record { part = q; first = 0; next = 0; differs = false }) (moved s ∷ reverse w.open) knows fits) fits v opened parts asked listed
+            let knows = knows_opened ps c d k k' (record { part = q; first = 0; next = 0; differs = false }) (moved s ∷ reverse w.open) (knows_moved ps c d k s (moved s) (reverse w.open) refl h.knows) new part_stands more same in
+            way_fits k' (knows_closed ps c d k' (record { part = q; first = 0; next = 0; differs = false }) (moved s ∷ reverse w.open) knows (λ told. fits)) (λ told. fits) v opened parts asked listed
 
 -- ---- a comparison begins
 
-module _ (c d : Collection) (k : Compared) (w : Walk) (h : KnowsTruly c d k) (stands : IsStanding c d w.asked) (kept : w.open ≡ []) where
-  pub known_answer : (k' : Compared) → (Contains (pairs_of k.unfit) w.asked → ⊥) → Contains (pairs_of k.known) w.asked → pairs_of k'.known ≡ pairs_of k.known → pairs_of k'.unfit ≡ pairs_of k.unfit → IsAnswered c d k' w true
-  known_answer k' nw m known unfit = (
-    knows_all c d k' (knows_same c d k k' [] (truly_but c d k [] h) known unfit),
+module _ (ps : List Pair) (c d : Collection) (k : Compared) (w : Walk) (h : KnowsTruly c d k) (stands : IsStanding c d w.asked) (kept : w.open ≡ []) where
+  pub known_answer : (k' : Compared) → (Contains (pairs_of k.unfit) w.asked → ⊥) → Contains (pairs_of k.known) w.asked → pairs_of k'.known ≡ pairs_of k.known → pairs_of k'.unfit ≡ pairs_of k.unfit → IsAnswered ps c d k' w true
+  known_answer k' nw m known unfit told = (
+    knows_all ps c d k' (knows_same ps c d k k' [] (truly_but ps c d k [] h) known unfit) told,
     elim (h.known w.asked m) [ inl fits ↦ fits | inr there ↦ absurd (nw there) ],
   )
 
-  pub unfit_answer : Contains (pairs_of k.unfit) w.asked → IsAnswered c d k w false
-  unfit_answer m = rw kept (truly_but c d k [] h, (h.unfit w.asked m).1)
+  pub unfit_answer : Contains (pairs_of k.unfit) w.asked → IsAnswered ps c d k w false
+  unfit_answer m = rw kept (truly_but ps c d k [] h, (h.unfit w.asked m).1)
 
   module _ (k' : Compared) (new : Contains (pairs_of k.known) w.asked → ⊥) (more : pairs_of k'.known ≡ pairs_of k.known ++ w.asked ∷ []) (same : pairs_of k'.unfit ≡ pairs_of k.unfit) where
     pub pairs_first : ArePairsOf c d (pairs_of k'.known)
     pairs_first = rw more (pairs_push c d (pairs_of k.known) w.asked h.pairs new stands)
 
-    pub way_first : (q : Part) (v : Walk) (b : Step) → q.pair ≡ w.asked → w.parts.before ≡ [] → IsBegun c d q w.parts.before v.parts.before b → v.asked ≡ w.asked → v.open ≡ w.open → v.parts.items ≡ [] → IsUnderWay c d k' v b
+    pub way_first : (q : Part) (v : Walk) (b : Step) → q.pair ≡ w.asked → w.parts.before ≡ [] → IsBegun ps c d q w.parts.before v.parts.before b → v.asked ≡ w.asked → v.open ≡ w.open → v.parts.items ≡ [] → IsUnderWay ps c d k' v b
     way_first q v b pair none begins asked opened listed =
         let first : b.part.pair ≡ w.asked = ap (λ (x : Part). x.pair) begins.part ∙ pair in
-        let knows = knows_opened c d k k' b [] (truly_but c d k [] h) (λ m. new (rw first at m)) (rw first stands) (rw first more) same in
+        let knows = knows_opened ps c d k k' b [] (truly_but ps c d k [] h) (λ m. new (rw first at m)) (rw first stands) (rw first more) same in
         record {
           knows = rw (opened, kept) knows;
-          at = subst (λ (n : ℕ). IsAtStep c d v.parts.before b n) (sym begins.next) begins.at;
+          at = subst (λ (n : ℕ). IsAtStep ps c d v.parts.before b n) (sym begins.next) begins.at;
           lead = rw (asked, opened, kept) first;
           listed = listed;
         }
@@ -408,7 +415,7 @@ module _ (old new : List EntryPair) (p : EntryPair) (answer : Result Bool AllocE
   add_there false is = subst (λ (xs : List EntryPair). Contains xs p) (sym (same (λ e. absurd (cc (e, is))))) (there is)
 
 -- the pairs of all steps were added
-pub all_noted : (c d : Collection) (r : EntryPair) (k k' : Compared) (ss : List Step) → pairs_of k'.known ≡ pairs_of k.known → ((p : EntryPair) → Contains (pairs_of k.unfit) p → Contains (pairs_of k'.unfit) p) → ((p : EntryPair) → Contains (pairs_of k'.unfit) p → Contains (pairs_of k.unfit) p ⊎ IsOpen ss p) → ((j : ℕ) (s : Step) → slice_get ss j ≡ Some s → Contains (pairs_of k'.unfit) s.part.pair) → KnowsBut c d k (reverse ss) → IsPathTo c d r (reverse ss) → KnowsTruly c d k'
+pub all_noted : (c d : Collection) (r : EntryPair) (k k' : Compared) (ss : List Step) → pairs_of k'.known ≡ pairs_of k.known → ((p : EntryPair) → Contains (pairs_of k.unfit) p → Contains (pairs_of k'.unfit) p) → ((p : EntryPair) → Contains (pairs_of k'.unfit) p → Contains (pairs_of k.unfit) p ⊎ IsOpen ss p) → ((j : ℕ) (s : Step) → slice_get ss j ≡ Some s → Contains (pairs_of k'.unfit) s.part.pair) → KnowsBut [] c d k (reverse ss) → IsPathTo c d r (reverse ss) → KnowsTruly c d k'
 all_noted c d r k k' ss known kept only added h path = record {
   pairs = rw known h.pairs;
   unfit = λ p m. elim (only p m) [
@@ -416,7 +423,7 @@ all_noted c d r k k' ss known kept only added h path = record {
     | inr o ↦ open_unfit c d r (reverse ss) path p (o.0, has_reverse ss o.0 o.1, o.2)
   ];
   known = λ p m. elim (h.known p (rw known at m)) [
-    | inl told ↦ elim told [ inl fits ↦ inl fits | inr there ↦ inr (kept p there) ]
+    | inl told ↦ elim told [ inl fits ↦ inl (fits (none_in_order c d)) | inr there ↦ inr (kept p there) ]
     | inr o ↦ (let at = place_in ss o.0 (reverse_has ss o.0 o.1) in inr (subst (λ (x : EntryPair). Contains (pairs_of k'.unfit) x) o.2 (added at.0 o.0 at.1)))
   ];
 }
@@ -460,8 +467,12 @@ module _ (l r : Collection) (x y : ItemKind) (p : EntryPair) (straight : p.swapp
   answer_named (Ok b) h = ((λ t. named_fits (h.0 t)), (λ fits. h.1 (named_needed fits)))
   answer_named (Err e) h = tt
 
+  -- it is believed to
+  pub named_told : (ps : List Pair) → IsAmong ps l r p → MayBelieve ps l r x y → Fits (item_tree l x) (item_tree r y)
+  named_told ps among may = named_fits (among_fits ps l r p named_stands among (may (left_has_keys l r x y (entries_of l r p) of) (right_has_keys l r x y (entries_of l r p) of)))
+
 -- what is answered about the pair that is named for two items
-pub asked_answer : (l r : Collection) (x y : ItemKind) (p : EntryPair) → p.swapped ≡ false → AreOfItems l r x y (entries_of l r p) → (k : Compared) (w : Walk) → w.asked ≡ p → (answer : Result Bool AllocError) → IfOk answer (IsAnswered l r k w) → IfOk answer (AreAnswered l r x y w)
-asked_answer l r x y p straight of k w same (Ok true) h = named_fits l r x y p straight of (subst (λ (q : EntryPair). IsFitting l r q) same h.1)
-asked_answer l r x y p straight of k w same (Ok false) h = (rw same straight, rw same of, h.1)
-asked_answer l r x y p straight of k w same (Err e) h = tt
+pub asked_answer : (ps : List Pair) (l r : Collection) (x y : ItemKind) (p : EntryPair) → p.swapped ≡ false → AreOfItems l r x y (entries_of l r p) → (k : Compared) (w : Walk) → w.asked ≡ p → (answer : Result Bool AllocError) → IfOk answer (IsAnswered ps l r k w) → IfOk answer (AreAnswered ps l r x y w)
+asked_answer ps l r x y p straight of k w same (Ok true) h = λ may. named_fits l r x y p straight of (subst (λ (q : EntryPair). IsFitting l r q) same (h (may (left_has_keys l r x y (entries_of l r p) of) (right_has_keys l r x y (entries_of l r p) of))).1)
+asked_answer ps l r x y p straight of k w same (Ok false) h = (rw same straight, rw same of, h.1)
+asked_answer ps l r x y p straight of k w same (Err e) h = tt

@@ -1,14 +1,20 @@
 -- What is known of the pairs that were compared.
-use Rattle.std.specs.Prelude.{◌≡◌, ◌⊎◌, List, [], ◌∷◌, Contains, Bool, true, false, Option, Some, None, reverse, take}
+use Rattle.std.specs.Prelude.{◌≡◌, ◌⊎◌, List, [], ◌∷◌, Contains, Bool, true, false, Option, Some, None, Result, reverse, take}
 use Rattle.wac_component.specs.Collection.{Collection}
 use Rattle.wac_model.specs.Order.{Fits}
 use Rattle.wac_component.specs.Tree.{item_tree}
 use Rattle.wac_component.specs.declared.items.ItemKind.{ItemKind}
+use Rattle.wac_checker.specs.Believed.{IsFittingBy, MayBelieve}
+use Rattle.wac_checker.specs.Cache.{AreInOrder, Pair}
 use Rattle.wac_checker.specs.Listing.{AreItemsNamed, AreTreesApart}
 use Rattle.wac_checker.specs.Pairs.{AreOfItems, ArePairsOf, IsFitting, IsStanding, entries_of}
 use Rattle.wac_checker.specs.declared.parts.Named.TheVariants as named
 use Rattle.wac_checker.specs.declared.parts.Part.{Part}
 use Rattle.wac_checker.specs.Known.{pairs_of}
+use Rattle.wac_mismatch.specs.declared.check.SubtypeCheck.{SubtypeCheck}
+use Rattle.wac_mismatch.specs.declared.error.SubtypeError.{SubtypeError}
+use Rattle.wac_checker.specs.Verdict.{IsItemVerdict}
+use Rattle.wac_checker.specs.declared.sides.Sides.{Sides}
 use Rattle.wac_checker.specs.Walk.{IsAtStep, IsOpen, IsPathTo, LeadFrom}
 use Rattle.wac_checker.specs.declared.compared.Compared.{Compared}
 use Rattle.wac_checker.specs.declared.parts.EntryPair.{EntryPair}
@@ -23,42 +29,51 @@ pub record KnowsTruly (c d : Collection) (k : Compared) : Type 0 where
   pub unfit : (p : EntryPair) → Contains (pairs_of k.unfit) p → IsStanding c d p × (¬ (IsFitting c d p))
   pub known : (p : EntryPair) → Contains (pairs_of k.known) p → IsFitting c d p ⊎ Contains (pairs_of k.unfit) p
 
--- the same but for the pairs of steps, which are known and being compared
-pub record KnowsBut (c d : Collection) (k : Compared) (ss : List Step) : Type 0 where
+-- the same but for the pairs of steps, which are known and being compared, and if what is believed is
+-- in the order
+pub record KnowsBut (ps : List Pair) (c d : Collection) (k : Compared) (ss : List Step) : Type 0 where
   pub pairs : ArePairsOf c d (pairs_of k.known)
   pub unfit : (p : EntryPair) → Contains (pairs_of k.unfit) p → IsStanding c d p × (¬ (IsFitting c d p))
-  pub known : (p : EntryPair) → Contains (pairs_of k.known) p → (IsFitting c d p ⊎ Contains (pairs_of k.unfit) p) ⊎ IsOpen ss p
+  pub known : (p : EntryPair) → Contains (pairs_of k.known) p → (IsFittingBy ps c d p ⊎ Contains (pairs_of k.unfit) p) ⊎ IsOpen ss p
 
 -- a comparison is at a step
-pub record IsUnderWay (c d : Collection) (k : Compared) (w : Walk) (s : Step) : Type 0 where
-  pub knows : KnowsBut c d k (s ∷ reverse w.open)
-  pub at : IsAtStep c d w.parts.before s s.next
-  pub lead : LeadFrom c d w.asked (take s.first w.parts.before) (reverse w.open) s.part
+pub record IsUnderWay (ps : List Pair) (c d : Collection) (k : Compared) (w : Walk) (s : Step) : Type 0 where
+  pub knows : KnowsBut ps c d k (s ∷ reverse w.open)
+  pub at : IsAtStep ps c d w.parts.before s s.next
+  pub lead : LeadFrom ps c d w.asked (take s.first w.parts.before) (reverse w.open) s.part
   pub listed : w.parts.items ≡ []
 
 -- it has come to an end: the pair that was asked about fits, or the open steps lead to one that
 -- doesn't
-abbrev pub IsAnswered : Collection → Collection → Compared → Walk → Bool → Type 0
-IsAnswered c d k w true = KnowsTruly c d k × IsFitting c d w.asked
-IsAnswered c d k w false = KnowsBut c d k (reverse w.open) × IsPathTo c d w.asked (reverse w.open)
+abbrev pub IsAnswered : List Pair → Collection → Collection → Compared → Walk → Bool → Type 0
+IsAnswered ps c d k w true = AreInOrder c d ps → KnowsTruly c d k × IsFitting c d w.asked
+IsAnswered ps c d k w false = KnowsBut ps c d k (reverse w.open) × IsPathTo c d w.asked (reverse w.open)
 
 -- it goes on, or has come to an end
-abbrev pub IsGoingOn : Collection → Collection → Compared → Walk → Step → Option Bool → Type 0
-IsGoingOn c d k w s None = IsUnderWay c d k w s
-IsGoingOn c d k w s (Some b) = IsAnswered c d k w b
+abbrev pub IsGoingOn : List Pair → Collection → Collection → Compared → Walk → Step → Option Bool → Type 0
+IsGoingOn ps c d k w s None = IsUnderWay ps c d k w s
+IsGoingOn ps c d k w s (Some b) = IsAnswered ps c d k w b
 
 -- what is named of two items that are asked about
 abbrev pub AreNamedAlone : Collection → Collection → ItemKind → ItemKind → List Part → Type 0
 AreNamedAlone c d x y ms = AreItemsNamed c d false 0 x y [] ms named.Fits
 
 -- two items fit, or the open steps lead from the pair that is named for them to one that doesn't
-abbrev pub AreAnswered : Collection → Collection → ItemKind → ItemKind → Walk → Bool → Type 0
-AreAnswered c d x y w true = Fits (item_tree c x) (item_tree d y)
-AreAnswered c d x y w false = (w.asked.swapped ≡ false) × AreOfItems c d x y (entries_of c d w.asked) × IsPathTo c d w.asked (reverse w.open)
+abbrev pub AreAnswered : List Pair → Collection → Collection → ItemKind → ItemKind → Walk → Bool → Type 0
+AreAnswered ps c d x y w true = MayBelieve ps c d x y → Fits (item_tree c x) (item_tree d y)
+AreAnswered ps c d x y w false = (w.asked.swapped ≡ false) × AreOfItems c d x y (entries_of c d w.asked) × IsPathTo c d w.asked (reverse w.open)
 
--- what is found of two items: that they fit, that they differ themselves, or where
-abbrev pub AreFound : Collection → Collection → ItemKind → ItemKind → Walk → Found → Type 0
-AreFound c d x y w found.Fits = AreAnswered c d x y w true
-AreFound c d x y w found.Apart = AreTreesApart (item_tree c x) (item_tree d y) × (¬ (Fits (item_tree c x) (item_tree d y)))
-AreFound c d x y w found.Below = AreAnswered c d x y w false
-AreFound c d x y w found.Memory = Unit {0}
+-- what is found of two items that don't fit: that they differ themselves, or where
+abbrev pub AreRefused : Collection → Collection → ItemKind → ItemKind → Walk → Found → Type 0
+AreRefused c d x y w found.Apart = AreTreesApart (item_tree c x) (item_tree d y) × (¬ (Fits (item_tree c x) (item_tree d y)))
+AreRefused c d x y w found.Below = AreAnswered [] c d x y w false
+AreRefused c d x y w _ = Unit {0}
+
+-- what is found of two items: that they fit, or of what doesn't
+abbrev pub AreFound : List Pair → Collection → Collection → ItemKind → ItemKind → Walk → Found → Type 0
+AreFound ps c d x y w found.Fits = AreAnswered ps c d x y w true
+AreFound ps c d x y w f = AreRefused c d x y w f
+
+-- a verdict on two items, by what is believed of them
+abbrev pub IsVerdictOn : Sides → SubtypeCheck → List Pair → Pair → Result (Unit {0}) SubtypeError → Type 0
+IsVerdictOn s check ps p r = IsItemVerdict r (MayBelieve ps s.left.now s.right.now p.0 p.1) check (item_tree s.left.now p.0) (item_tree s.right.now p.1)

@@ -9,6 +9,7 @@ pub mod Known
 pub mod Verdict
 pub mod Externs
 pub mod Cache
+pub mod Believed
 pub mod Checker
 pub mod Walk
 pub mod Compared

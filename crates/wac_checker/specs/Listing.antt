@@ -1,5 +1,6 @@
 -- What is listed of two entries: the parts that they stand on, and what they differ in.
-use Rattle.std.specs.Prelude.{◌≡◌, ◌≢◌, ◌<◌, ◌++◌, ◌⊎◌, ◌+◌, ℕ, List, [], ◌∷◌, length, Bool, true, false, not, Option, Some, None, Contains, string_bytes}
+use Rattle.std.specs.Prelude.{◌≡◌, ◌≢◌, ◌<◌, ◌++◌, ◌⊎◌, ◌+◌, ℕ, List, [], ◌∷◌, length, Bool, true, false, not, Option, Some, None, is_some, Contains, string_bytes}
+use Rattle.std.specs.Option.{option_to_list}
 use Rattle.std.specs.List.{flat_map}
 use Rattle.std.specs.declared.string.String.{String}
 use Rattle.std.specs.declared.alloc.Global.{Global}
@@ -41,6 +42,7 @@ use Rattle.wac_checker.specs.declared.parts.EntryPair.{EntryPair}
 use Rattle.wac_checker.specs.declared.parts.Named.{Named}
 use Rattle.wac_checker.specs.declared.parts.Named.TheVariants as named
 use Rattle.wac_checker.specs.declared.parts.Part.{Part}
+use Rattle.wac_checker.specs.declared.sides.Sides.{Sides}
 use Rattle.wac_checker.specs.declared.parts.Turn.{Turn}
 use Rattle.wac_checker.specs.declared.parts.Turn.TheVariants as turn
 
@@ -264,6 +266,21 @@ IsImportsTurn l r w is js ns turn.End = AreExternsOf r l (not w) 0 js is [] ns �
 IsImportsTurn l r w is js ns (turn.Apart x) = AreExternsOf r l (not w) 0 js is [] ns × IsReal x × DifferInImports x (items_of (item_tree l) is) (items_of (item_tree r) js)
 IsImportsTurn l r w is js ns (turn.PartApart i b x) = AreExternsOf r l (not w) 0 js is [] ns × (b ≡ true) × DifferThere r l js is i x
 IsImportsTurn l r w is js ns turn.Memory = Unit {0}
+
+-- the same words, told from the two collections of a comparison
+abbrev pub IsExportsListed : Sides → Text → ℕ → Externs → Externs → List Part → List Part → Turn → Type 0
+IsExportsListed s h first es ts ms ns t = IsExportsTurn s.left.now s.right.now s.swapped h first es ts ms ns t
+
+abbrev pub IsOptionalListed : Sides → ℕ → Difference → Option ValueType → Option ValueType → List Part → List Part → Turn → Type 0
+IsOptionalListed s i d o p ms ns t = IsOptionalTurn s.left.now s.right.now s.swapped i d o p ms ns t
+
+-- what is found of the results of two functions, after so many parameters
+abbrev pub IsResultListed : Sides → ℕ → Option ValueType → Option ValueType → List Part → List Part → Turn → Type 0
+IsResultListed s n o p ms ns t = IsOptionalListed s n (difference.FuncResult (is_some o) (is_some p)) o p ms ns t
+
+-- what is found of the payloads of two streams, or of two futures
+abbrev pub ArePayloads : Sides → (Bool → ValueLabel) → Option ValueType → Option ValueType → List Part → Turn → Type 0
+ArePayloads s label o p ms t = AreComposed s.left.now s.right.now s.swapped (label (is_some o)) (option_to_list o) (label (is_some p)) (option_to_list p) ms t
 
 -- ---- of two entries
 

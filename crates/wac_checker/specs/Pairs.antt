@@ -4,7 +4,6 @@ use Rattle.wac_model.specs.Text.{Text, lookup}
 use Rattle.wac_model.specs.Order.{Fits}
 use Rattle.wac_component.specs.declared.items.ItemKind.{ItemKind}
 use Rattle.std.specs.Prelude.{◌≡◌, ◌+◌, ◌-◌, ◌^◌, ◌<◌, ◌≤◌, ℕ, List, [], ◌∷◌, Contains, length, Bool, true, false, not, Option, Some, None, slice_get}
-use Rattle.wac_model.specs.ValueTree.{ValueTree}
 use Rattle.wac_model.specs.ItemTree.{Kind, item, leaf, core_module, composite, no_items, resource, func, interface, world}
 use Rattle.wac_component.specs.Id.{Id}
 use Rattle.wac_component.specs.Collection.{Collection}
@@ -14,8 +13,7 @@ use Rattle.wac_component.specs.Tree.{item_tree, value_tree, func_tree, module_tr
 use Rattle.wac_component.specs.declared.items.ValueType.{ValueType}
 use Rattle.wac_component.specs.declared.items.ValueType.TheVariants.{Defined}
 use Rattle.wac_mismatch.specs.Place.{Side, value_side, item_side, place, turned, SideFits}
-use Rattle.wac_mismatch.specs.Path.{Path, Explains, Refutes}
-use Rattle.wac_mismatch.specs.Steps.{IsUnder}
+use Rattle.wac_mismatch.specs.Path.{Path, Explains}
 use Rattle.wac_mismatch.specs.declared.check.SubtypeCheck.{SubtypeCheck}
 use Rattle.wac_mismatch.specs.declared.error.SubtypeError.{SubtypeError}
 use Rattle.wac_mismatch.specs.declared.fault.Fault.{Fault}
@@ -232,6 +230,14 @@ flag_of true t = not t
 -- the id of an index
 abbrev pub id_in : Collection → ℕ → Id
 id_in c i = record { number = c.number; index = i }
+
+-- the key of an entry of a sort
+abbrev pub entry_key : PairSort → Id → Key
+entry_key sort.Defined a = defined_key a
+entry_key sort.Func a = func_key a
+entry_key sort.Interface a = interface_key a
+entry_key sort.World a = world_key a
+entry_key sort.Module a = module_key a
 
 abbrev pub entries_by : PairSort → Id → Id → Entries
 entries_by sort.Defined a b = DefinedTypes a b

@@ -1,13 +1,16 @@
 -- How far a comparison of pairs is.
-use Rattle.std.specs.Prelude.{◌≡◌, ◌≢◌, ◌+◌, ◌<◌, ◌≤◌, ◌⊎◌, ℕ, List, [], ◌∷◌, Bool, true, false, Some, slice_get, length, take, Contains}
+use Rattle.std.specs.Prelude.{◌≡◌, ◌+◌, ◌<◌, ◌≤◌, ℕ, List, [], ◌∷◌, Bool, true, false, Some, slice_get, length, take, Contains}
 use Rattle.wac_component.specs.Collection.{Collection}
 use Rattle.wac_checker.specs.Pairs.{IsFitting, IsStanding, IsBelowPair, PairHasPart, PairPath, two_of}
 use Rattle.wac_mismatch.specs.declared.check.SubtypeCheck.{SubtypeCheck}
 use Rattle.wac_mismatch.specs.declared.fault.Fault.{Fault}
 use Rattle.wac_mismatch.specs.declared.frame.Frame.{Frame}
+use Rattle.wac_checker.specs.Believed.{IsFittingBy}
+use Rattle.wac_checker.specs.Cache.{Pair}
 use Rattle.wac_checker.specs.Listing.{AllFit}
 use Rattle.wac_checker.specs.declared.parts.EntryPair.{EntryPair}
 use Rattle.wac_checker.specs.declared.parts.Part.{Part}
+use Rattle.wac_checker.specs.declared.sides.Sides.{Sides}
 use Rattle.wac_checker.specs.declared.walk.Step.{Step}
 
 -- a part of a pair: it is lower, and fits if the pair does
@@ -21,35 +24,35 @@ pub record AreListed (c d : Collection) (p : EntryPair) (ms : List Part) (differ
   pub apart : differs ≡ true → ¬ (IsFitting c d p)
 
 -- the pair of a step stands, its parts stand on the list from a place on, and those before another
--- place fit
-pub record IsAtStep (c d : Collection) (l : List Part) (s : Step) (done : ℕ) : Type 0 where
+-- place fit, if what is believed is in the order
+pub record IsAtStep (ps : List Pair) (c d : Collection) (l : List Part) (s : Step) (done : ℕ) : Type 0 where
   pub stands : IsStanding c d s.part.pair
   pub within : (s.first ≤ done) × (done ≤ length l)
   pub parts : (i : ℕ) (q : Part) → s.first ≤ i → slice_get l i ≡ Some q → IsPartOfPair c d s.part.pair q
-  pub fit : (i : ℕ) (q : Part) → s.first ≤ i → i < done → slice_get l i ≡ Some q → IsFitting c d q.pair
+  pub fit : (i : ℕ) (q : Part) → s.first ≤ i → i < done → slice_get l i ≡ Some q → IsFittingBy ps c d q.pair
   pub same : s.differs ≡ false → ((i : ℕ) (q : Part) → s.first ≤ i → slice_get l i ≡ Some q → IsFitting c d q.pair) → IsFitting c d s.part.pair
   pub apart : s.differs ≡ true → ¬ (IsFitting c d s.part.pair)
 
 -- a step begins with the parts of a pair, which are put on the list
-pub record IsBegun (c d : Collection) (q : Part) (l m : List Part) (s : Step) : Type 0 where
+pub record IsBegun (ps : List Pair) (c d : Collection) (q : Part) (l m : List Part) (s : Step) : Type 0 where
   pub part : s.part ≡ q
   pub first : s.first ≡ length l
   pub next : s.next ≡ length l
   pub before : take (length l) m ≡ l
-  pub at : IsAtStep c d m s (length l)
+  pub at : IsAtStep ps c d m s (length l)
 
 -- a step leads to a part of its pair, which is the one before its next
-pub record LeadsTo (c d : Collection) (l : List Part) (s : Step) (q : Part) : Type 0 where
+pub record LeadsTo (ps : List Pair) (c d : Collection) (l : List Part) (s : Step) (q : Part) : Type 0 where
   pub place : ℕ
   pub next : s.next ≡ place + 1
-  pub at : IsAtStep c d l s place
+  pub at : IsAtStep ps c d l s place
   pub here : slice_get l place ≡ Some q
 
 -- steps, the last one first, lead from a pair to a part: each stands on what is left of the list
 -- without the parts of those after it
-abbrev pub LeadFrom : Collection → Collection → EntryPair → List Part → List Step → Part → Type 0
-LeadFrom c d r l [] q = q.pair ≡ r
-LeadFrom c d r l (s ∷ ss) q = LeadsTo c d l s q × LeadFrom c d r (take s.first l) ss s.part
+abbrev pub LeadFrom : List Pair → Collection → Collection → EntryPair → List Part → List Step → Part → Type 0
+LeadFrom ps c d r l [] q = q.pair ≡ r
+LeadFrom ps c d r l (s ∷ ss) q = LeadsTo ps c d l s q × LeadFrom ps c d r (take s.first l) ss s.part
 
 -- the pair of one of the steps
 abbrev pub IsOpen : List Step → EntryPair → Type 0
@@ -68,3 +71,7 @@ IsPathTo c d r (s ∷ ss) = IsStanding c d s.part.pair × (¬ (IsFitting c d s.p
 -- these frames and this fault are a path from a pair
 abbrev pub IsPath : Collection → Collection → SubtypeCheck → EntryPair → List Frame → Fault → Type 0
 IsPath c d check p frames f = PairPath check c d (two_of c d p) frames f
+
+-- what is a path from one pair is one, with more frames, from another
+abbrev pub LeadsFurther : Sides → EntryPair → List Frame → EntryPair → List Frame → Type 0
+LeadsFurther s p fs q gs = (c : SubtypeCheck) (f : Fault) → IsPath s.left.now s.right.now c p fs f → IsPath s.left.now s.right.now c q gs f

@@ -5,12 +5,14 @@ ghost use Rattle.wac_model.specs.Order.{Fits};
 ghost use Rattle.wac_component.specs.Collection.{Collection};
 ghost use Rattle.wac_component.specs.Key.{AllStand, item_keys};
 ghost use Rattle.wac_component.specs.Tree.{item_tree};
+ghost use Rattle.wac_checker.specs.Believed.{told};
 ghost use Rattle.wac_checker.specs.Compared.{IsAnswered, IsGoingOn, IsUnderWay, KnowsTruly, KnowsBut};
 ghost use Rattle.wac_checker.specs.Known.{pairs_of};
 ghost use Rattle.wac_checker.specs.Pairs.{ArePairsOf, IsFitting, IsStanding};
 ghost use Rattle.wac_checker.specs.Walk.{IsPathTo};
 ghost use Rattle.wac_checker.specs.declared.parts.EntryPair.{EntryPair};
 
+use super::cache::{Believed, Kinds, is_believed};
 use super::composites::name_items;
 use super::known::Known;
 use super::parts::{Named, Part};
@@ -97,7 +99,11 @@ impl Compared {
         ensures answer { IfOk result (λ yes. IsTrue yes ↔ IsFitting sides.now.left.now sides.now.right.now walk.old.asked) }
         ensures truly { KnowsTruly sides.now.left.now sides.now.right.now self.new }
     {
-        match self.compare(alloc, walk, sides) {
+        let nothing = Believed {
+            cache: None,
+            kinds: Kinds::None,
+        };
+        match self.compare(alloc, walk, sides, &nothing) {
             Ok(true) => Ok(true),
             Ok(false) => {
                 self.note(alloc, &walk.open)?;
@@ -120,7 +126,7 @@ impl Compared {
 
     // The pairs of steps don't fit.
     fn note(&mut self, alloc: Global, open: &Short<Step>) -> Result<(), AllocError>
-        ensures { (c d : Collection) (r : EntryPair) → KnowsBut c d self.old (reverse open.now) → IsPathTo c d r (reverse open.now) → KnowsTruly c d self.new }
+        ensures { (c d : Collection) (r : EntryPair) → KnowsBut [] c d self.old (reverse open.now) → IsPathTo c d r (reverse open.now) → KnowsTruly c d self.new }
     {
         for i in 0..open.len() {
             let step = open.at(i);
@@ -139,6 +145,7 @@ impl Compared {
         alloc: Global,
         walk: &mut Walk,
         sides: &Sides<'_>,
+        believed: &Believed<'_>,
     ) -> Result<bool, AllocError>
         requires straight { sides.now.swapped ≡ false }
         requires stands { IsStanding sides.now.left.now sides.now.right.now walk.old.asked }
@@ -146,7 +153,7 @@ impl Compared {
         requires open { walk.old.open ≡ [] }
         requires none { walk.old.parts.items ≡ [] }
         requires truly { KnowsTruly sides.now.left.now sides.now.right.now self.old }
-        ensures answer { IfOk result (IsAnswered sides.now.left.now sides.now.right.now self.new walk.new) }
+        ensures answer { IfOk result (IsAnswered (told believed.now) sides.now.left.now sides.now.right.now self.new walk.new) }
         ensures asked { walk.new.asked ≡ walk.old.asked }
         ensures pairs { ArePairsOf sides.now.left.now sides.now.right.now (pairs_of self.new.known) }
     {
@@ -162,7 +169,7 @@ impl Compared {
         };
         let mut step = walk.begin(alloc, sides, part)?;
         for _turn in 0..u64::MAX {
-            if let Some(yes) = self.turn(alloc, walk, sides, &mut step)? {
+            if let Some(yes) = self.turn(alloc, walk, sides, &mut step, believed)? {
                 return Ok(yes);
             }
         }
@@ -176,15 +183,16 @@ impl Compared {
         walk: &mut Walk,
         sides: &Sides<'_>,
         step: &mut Step,
+        believed: &Believed<'_>,
     ) -> Result<Option<bool>, AllocError>
         requires straight { sides.now.swapped ≡ false }
-        requires way { IsUnderWay sides.now.left.now sides.now.right.now self.old walk.old step.old }
-        ensures way { IfOk result (IsGoingOn sides.now.left.now sides.now.right.now self.new walk.new step.new) }
+        requires way { IsUnderWay (told believed.now) sides.now.left.now sides.now.right.now self.old walk.old step.old }
+        ensures way { IfOk result (IsGoingOn (told believed.now) sides.now.left.now sides.now.right.now self.new walk.new step.new) }
         ensures asked { walk.new.asked ≡ walk.old.asked }
         ensures pairs { ArePairsOf sides.now.left.now sides.now.right.now (pairs_of self.new.known) }
     {
         if step.next < walk.parts.len() {
-            return self.go_below(alloc, walk, sides, step);
+            return self.go_below(alloc, walk, sides, step, believed);
         }
         if step.differs {
             walk.open.push(*step)?;
@@ -207,12 +215,13 @@ impl Compared {
         walk: &mut Walk,
         sides: &Sides<'_>,
         step: &mut Step,
+        believed: &Believed<'_>,
     ) -> Result<Option<bool>, AllocError>
         requires straight { sides.now.swapped ≡ false }
-        requires way { IsUnderWay sides.now.left.now sides.now.right.now self.old walk.old step.old }
+        requires way { IsUnderWay (told believed.now) sides.now.left.now sides.now.right.now self.old walk.old step.old }
         requires within { step.old.next < length walk.old.parts.before }
         requires room { step.old.next < usize.MAX }
-        ensures way { IfOk result (IsGoingOn sides.now.left.now sides.now.right.now self.new walk.new step.new) }
+        ensures way { IfOk result (IsGoingOn (told believed.now) sides.now.left.now sides.now.right.now self.new walk.new step.new) }
         ensures asked { walk.new.asked ≡ walk.old.asked }
         ensures pairs { ArePairsOf sides.now.left.now sides.now.right.now (pairs_of self.new.known) }
     {
@@ -221,6 +230,9 @@ impl Compared {
         if self.unfit.has(&part.pair) {
             walk.open.push(*step)?;
             return Ok(Some(false));
+        }
+        if is_believed(believed, sides, &part.pair) {
+            return Ok(None);
         }
         if self.known.add(&part.pair)? {
             let below = walk.begin(alloc, sides, part)?;

@@ -8,7 +8,7 @@ ghost use Rattle.wac_mismatch.specs.declared.check.SubtypeCheck.{SubtypeCheck};
 ghost use Rattle.wac_mismatch.specs.declared.fault.Fault.{Fault};
 ghost use Rattle.wac_checker.specs.Listing.{AreNamesOf, IsFaultOf};
 ghost use Rattle.wac_checker.specs.Pairs.{ExplainsEntries, ExplainsPair, IsStanding, Modules, check_of, id_in, two_of};
-ghost use Rattle.wac_checker.specs.Walk.{IsPath, IsPathTo, PathFrom};
+ghost use Rattle.wac_checker.specs.Walk.{IsPathTo, LeadsFurther, PathFrom};
 
 use super::composites::list_parts;
 use super::frames::pair_frame;
@@ -212,7 +212,7 @@ fn frames_to(
 ) -> Result<Vec<Frame>, AllocError>
     requires straight { sides.now.swapped ≡ false }
     requires path { PathFrom sides.now.left.now sides.now.right.now walk.old.asked (reverse walk.old.open) part }
-    ensures { IfOk result (λ fs. (c : SubtypeCheck) (g : Fault) → IsPath sides.now.left.now sides.now.right.now c part.pair below.items g → IsPath sides.now.left.now sides.now.right.now c walk.old.asked fs.items g) }
+    ensures { IfOk result (λ fs. LeadsFurther sides.now part.pair below.items walk.old.asked fs.items) }
 {
     let mut part = part;
     let mut frames = Vec::new(alloc);

@@ -1,6 +1,7 @@
 //! Where a comparison is: the parts that are listed, and the steps to the pair at hand.
 
-ghost use Rattle.std.specs.Prelude.{◌≡◌, ◌≤◌, [], false, length, IfOk, OnOk};
+ghost use Rattle.std.specs.Prelude.{◌≡◌, ◌≤◌, [], false, length, IfOk, List, OnOk};
+ghost use Rattle.wac_checker.specs.Cache.{Pair};
 ghost use Rattle.wac_checker.specs.Pairs.{IsStanding};
 ghost use Rattle.wac_checker.specs.Walk.{AreListed, IsBegun};
 
@@ -87,7 +88,7 @@ impl Walk {
         requires stands { IsStanding sides.now.left.now sides.now.right.now part.pair }
         requires straight { sides.now.swapped ≡ false }
         requires none { self.old.parts.items ≡ [] }
-        ensures begun { IfOk result (IsBegun sides.now.left.now sides.now.right.now part self.old.parts.before self.new.parts.before) }
+        ensures begun { IfOk result (λ s. (ps : List Pair) → IsBegun ps sides.now.left.now sides.now.right.now part self.old.parts.before self.new.parts.before s) }
         ensures listed { OnOk result (self.new.parts.items ≡ []) }
         ensures open { self.new.open ≡ self.old.open }
         ensures asked { self.new.asked ≡ self.old.asked }

@@ -1,4 +1,4 @@
-use Rattle.std.proofs.Common.{◌≡◌, inl, inr, refl}
+use Rattle.std.proofs.Common.{inl, inr, refl}
 use Rattle.wac_checker.proofs.checker.found_of.Goals as goal
 
 pub pair_fits-requires-clause-named : goal.pair_fits-requires-clause-named

@@ -1,6 +1,5 @@
 use Rattle.wac_component.specs.Tree.{item_tree, root_name, value_tree}
 use Rattle.wac_checker.specs.Listing.{AreLeavesApart}
-use Rattle.wac_model.specs.ItemTree.{item, leaf, resource, value}
 use Rattle.wac_checker.proofs.DifferenceLemmas.{resources_differ}
 use Rattle.wac_checker.proofs.ExternListing.{leaf_trees, others_differ, root_trees, value_items_differ}
 use Rattle.wac_checker.proofs.composites.items_apart.Goals as goal

@@ -1,7 +1,7 @@
-use Rattle.std.proofs.Common.{ap, ◌≡◌, ◌+◌, ◌∙◌, not, [], string_bytes, refl, sym, arith}
+use Rattle.std.proofs.Common.{ap, ◌+◌, ◌∙◌, string_bytes, refl, sym, arith}
 use Rattle.wac_component.specs.Content.{named}
 use Rattle.wac_checker.proofs.ExternLemmas.{extern_stands, named_stands}
-use Rattle.wac_checker.proofs.ExternListing.{exports_lack, imports_lack, next_extern, no_externs}
+use Rattle.wac_checker.proofs.ExternListing.{exports_lack, next_extern}
 use Rattle.std.specs.Prelude.{option_copied}
 use Rattle.wac_checker.proofs.ExternPartLemmas.{named_length}
 use Rattle.wac_checker.proofs.composites.list_exports.Goals as goal

@@ -1,4 +1,4 @@
-use Rattle.std.proofs.Common.{◌≡◌, ◌+◌}
+use Rattle.std.proofs.Common.{◌≡◌}
 use Rattle.wac_component.specs.Content.{named}
 use Rattle.wac_checker.specs.Listing.{AreExternsOf, AreServedTo}
 use Rattle.wac_checker.proofs.composites.list_exports.Given as goal

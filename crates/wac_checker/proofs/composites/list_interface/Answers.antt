@@ -4,7 +4,7 @@ use Rattle.wac_component.specs.Content.{interface_content}
 use Rattle.wac_component.specs.Tree.{Externs}
 use Rattle.wac_component.proofs.Members.{exports_stand, exports_lower}
 use Rattle.wac_checker.specs.Pairs.{Interfaces}
-use Rattle.wac_checker.specs.Listing.{IsTurn, IsExportsTurn}
+use Rattle.wac_checker.specs.Listing.{IsTurn}
 use Rattle.wac_checker.proofs.ExternListing.{interface_turn}
 use Rattle.wac_checker.proofs.composites.list_interface.Goals as goal
 

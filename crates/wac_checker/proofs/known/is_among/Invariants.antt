@@ -1,4 +1,4 @@
-use Rattle.std.proofs.Common.{◌≡◌, ◌≢◌, ℕ, ◌<◌, Some, slice_get}
+use Rattle.std.proofs.Common.{◌≢◌, ℕ, ◌<◌, Some, slice_get}
 use Rattle.wac_checker.proofs.known.is_among.Given as goal
 
 abbrev pub invariant-loop-i : goal.invariant-loop-i

@@ -1,4 +1,4 @@
-use Rattle.std.proofs.Common.{◌≡◌, ℕ, ◌<◌, map, length, Some, slice_get, string_bytes}
+use Rattle.std.proofs.Common.{◌≡◌, ℕ, ◌<◌, map, length, slice_get, string_bytes}
 use Rattle.wac_checker.proofs.values.compare_names.Given as goal
 
 abbrev pub invariant-loop-i : goal.invariant-loop-i

@@ -1,4 +1,4 @@
-use Rattle.std.proofs.Common.{◌≢◌, ◌+◌, ◌∙◌, length, refl, sym, subst₂, arith}
+use Rattle.std.proofs.Common.{◌+◌, ◌∙◌, length, refl, sym, subst₂, arith}
 use Rattle.wac_component.specs.Id.{Id}
 use Rattle.wac_component.specs.Content.{func_content}
 use Rattle.wac_component.specs.Height.{keys_height}

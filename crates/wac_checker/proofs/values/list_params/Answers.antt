@@ -1,18 +1,15 @@
-use Rattle.std.proofs.Common.{◌≡◌, ◌≢◌, ◌∙◌, ◌+◌, length, map, string_bytes, Some, is_some, refl, ap, sym, arith}
-use Rattle.std.specs.List.{flat_map}
+use Rattle.std.proofs.Common.{◌≡◌, ◌∙◌, ◌+◌, length, string_bytes, Some, refl, ap, arith}
 use Rattle.std.proofs.lemmas.List.{length-map}
-use Rattle.wac_component.proofs.Members.{AllStand-member, keys_height-member}
+use Rattle.wac_component.proofs.Members.{AllStand-member}
 use Rattle.wac_component.specs.Height.{keys_height}
-use Rattle.wac_checker.specs.Content.{composed_side, variant_side}
-use Rattle.wac_checker.specs.Listing.{members_height, func_side}
-use Rattle.wac_checker.specs.declared.parts.Turn.TheVariants as turn
-use Rattle.wac_checker.proofs.ListingLemmas.{none_listed, turn_from, turn_done, turn_same, turn_next, turn_apart, turn_last}
+use Rattle.wac_checker.specs.Listing.{func_side}
+use Rattle.wac_checker.proofs.ListingLemmas.{turn_next, turn_apart}
 use Rattle.wac_component.specs.Content.{types_of, func_content}
 use Rattle.wac_component.specs.Key.{func_keys}
 use Rattle.wac_component.specs.Tree.{func_content_tree}
 use Rattle.wac_checker.proofs.NameLemmas.{same_text, other_text}
 use Rattle.wac_checker.proofs.DifferenceLemmas.{param_names_differ}
-use Rattle.wac_checker.proofs.FuncLemmas.{params_stand, param_lower, length-params}
+use Rattle.wac_checker.proofs.FuncLemmas.{params_stand, param_lower}
 use Rattle.wac_checker.proofs.FuncPartLemmas.{params_at}
 use Rattle.std.proofs.Common.{List, String, Global}
 use Rattle.wac_component.specs.Content.{named}

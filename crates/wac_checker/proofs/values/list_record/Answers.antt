@@ -1,12 +1,9 @@
-use Rattle.std.proofs.Common.{◌≡◌, ◌≢◌, ◌∙◌, ◌+◌, length, map, string_bytes, Some, is_some, refl, ap, sym, arith}
-use Rattle.std.specs.List.{flat_map}
-use Rattle.std.proofs.lemmas.List.{length-map}
+use Rattle.std.proofs.Common.{◌≡◌, ◌∙◌, string_bytes, Some, ap, arith}
 use Rattle.wac_component.proofs.Members.{AllStand-member, keys_height-member}
-use Rattle.wac_component.specs.Height.{keys_height}
-use Rattle.wac_checker.specs.Content.{composed_side, variant_side}
-use Rattle.wac_checker.specs.Listing.{members_height, func_side}
+use Rattle.wac_checker.specs.Content.{composed_side}
+use Rattle.wac_checker.specs.Listing.{members_height}
 use Rattle.wac_checker.specs.declared.parts.Turn.TheVariants as turn
-use Rattle.wac_checker.proofs.ListingLemmas.{none_listed, turn_from, turn_done, turn_same, turn_next, turn_apart, turn_last}
+use Rattle.wac_checker.proofs.ListingLemmas.{turn_done, turn_next, turn_apart}
 use Rattle.wac_model.specs.ValueTree.{record_of}
 use Rattle.wac_component.specs.Content.{names, types_of}
 use Rattle.wac_checker.proofs.NameLemmas.{same_text}

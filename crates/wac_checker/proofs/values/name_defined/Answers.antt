@@ -1,4 +1,4 @@
-use Rattle.std.proofs.Common.{◌≡◌, inl, refl, sym, ◌∙◌, arith}
+use Rattle.std.proofs.Common.{inl, refl, sym, ◌∙◌, arith}
 use Rattle.wac_component.specs.Content.{defined_content}
 use Rattle.wac_component.specs.declared.items.ValueType.TheVariants.{Defined}
 use Rattle.wac_checker.proofs.ListingLemmas.{resolved_here, values_put}

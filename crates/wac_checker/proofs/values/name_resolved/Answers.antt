@@ -1,4 +1,4 @@
-use Rattle.std.proofs.Common.{◌≡◌, refl, arith}
+use Rattle.std.proofs.Common.{arith}
 use Rattle.wac_checker.proofs.ListingLemmas.{values_put}
 use Rattle.wac_checker.proofs.values.name_resolved.Goals as goal
 

@@ -16,3 +16,6 @@ returns-in-Err-Memory-clause-remembered c = c.is_subtype.ensures.still_true (c.a
 
 pub returns-in-Err-clause-remembered : goal.returns-in-Err-clause-remembered
 returns-in-Err-clause-remembered c = c.is_subtype.ensures.still_true (c.args.types.now ∷ c.args.types.now ∷ []) (alone-apart c.args.types.now) c.requires.remembered
+
+pub returns-in-Ok-clause-verdict : goal.returns-in-Ok-clause-verdict
+returns-in-Ok-clause-verdict c = λ items name is. (c.args.found.now, is, rw (c.left_item-left.ensures, c.right_item-right.ensures) at c.in-Ok.ensures.answer c.requires.remembered)

@@ -1,5 +1,6 @@
 use Rattle.wac_checker.proofs.WalkLemmas.{path_refuses}
-use Rattle.std.proofs.Common.{reverse}
+use Rattle.std.proofs.Common.{refl, reverse}
+use Rattle.wac_checker.proofs.BelievedLemmas.{none_in_order}
 use Rattle.wac_checker.proofs.compared.Compared.answer.Goals as goal
 
 pub returns-in_err-note-in-Ok-false-clause-truly : goal.returns-in_err-note-in-Ok-false-clause-truly
@@ -13,3 +14,14 @@ returns-in_ok-note-in-Ok-false-clause-answer c = (λ no_answer. absurd (cc (no_a
 
 pub returns-in-Err-clause-truly : goal.returns-in-Err-clause-truly
 returns-in-Err-clause-truly c = c.forget.ensures c.args.sides.now.left.now c.args.sides.now.right.now
+
+pub returns-in-Ok-true-clause-answer : goal.returns-in-Ok-true-clause-answer
+returns-in-Ok-true-clause-answer c =
+    let told = rw c.in-Ok-true.field-0-test at c.in-Ok-true.ensures.answer in
+    let fits = told (none_in_order c.args.sides.now.left.now c.args.sides.now.right.now) in
+    (λ yes. rw c.compare.ensures.asked at fits.1, λ fits. refl)
+
+pub returns-in-Ok-true-clause-truly : goal.returns-in-Ok-true-clause-truly
+returns-in-Ok-true-clause-truly c =
+    let told = rw c.in-Ok-true.field-0-test at c.in-Ok-true.ensures.answer in
+    (told (none_in_order c.args.sides.now.left.now c.args.sides.now.right.now)).0

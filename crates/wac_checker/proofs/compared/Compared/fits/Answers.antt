@@ -1,8 +1,6 @@
-use Rattle.std.proofs.Common.{◌≡◌, [], false, refl, ap}
-use Rattle.std.specs.Prelude.{List}
-use Rattle.wac_checker.specs.Pairs.{AreOfItems, entries_of}
+use Rattle.std.proofs.Common.{false, refl, ap}
 use Rattle.wac_checker.specs.PartLists.{PartLists}
-use Rattle.wac_checker.proofs.WalkLemmas.{answer_named, named_none, named_pair, named_stands}
+use Rattle.wac_checker.proofs.WalkLemmas.{answer_named, named_pair}
 use Rattle.wac_checker.proofs.compared.Compared.fits.Goals as goal
 
 pub returns-clause-answer : goal.returns-clause-answer

@@ -1,4 +1,4 @@
-use Rattle.std.proofs.Common.{◌≡◌, sym, ◌∙◌, arith}
+use Rattle.std.proofs.Common.{sym, ◌∙◌, arith}
 use Rattle.wac_checker.proofs.ListLemmas.{left_at}
 use Rattle.wac_checker.proofs.KnownLemmas.{pair_exact}
 use Rattle.wac_checker.proofs.parts.Parts.is_last.Goals as goal

@@ -1,4 +1,3 @@
-use Rattle.std.proofs.Common.{◌≡◌, take, length, ap, sym, ◌∙◌}
 use Rattle.wac_checker.proofs.ListLemmas.{take_whole}
 use Rattle.wac_checker.proofs.parts.Parts.truncate.Goals as goal
 

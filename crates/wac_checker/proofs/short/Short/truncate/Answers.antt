@@ -1,4 +1,4 @@
-use Rattle.std.proofs.Common.{◌≡◌, ◌≤◌, length, take, sym, ◌∙◌, arith}
+use Rattle.std.proofs.Common.{◌≡◌, ◌≤◌, length, take, sym, arith}
 use Rattle.std.proofs.lemmas.List.{length-take-le}
 use Rattle.wac_checker.proofs.ListLemmas.{take_past}
 use Rattle.wac_checker.proofs.short.Short.truncate.Goals as goal
