@@ -10,7 +10,7 @@ use Rattle.wac_component.specs.Sound.{entry_count}
 use Rattle.wac_component.proofs.Among.{Contains-first, Contains-later}
 use Rattle.wac_checker.proofs.CountLemmas.{without, ids, length-ids, id_among, contains_map, paired, length-paired, paired_among, within}
 use Rattle.wac_merge.specs.Built.{Origins}
-use Rattle.wac_merge.specs.Memo.{Made, AreMadeOnce, first_key, second_key}
+use Rattle.wac_merge.specs.Memo.{asked_for, Made, AreMadeOnce, first_key, second_key}
 use Rattle.wac_merge.specs.Runs.{AreMadeOn}
 use Rattle.wac_merge.specs.declared.memo.Asked.{Asked}
 use Rattle.wac_merge.specs.declared.memo.Bound.{Bound}
@@ -59,9 +59,6 @@ length-all_pairs c =
     within (length c.interfaces) (length c.interfaces) (length c.worlds * length c.worlds + length c.modules * length c.modules) (length c.worlds + length c.modules) (length c.worlds + length c.modules) two in
     let all = mul-le (length c.interfaces + (length c.worlds + length c.modules)) (length c.interfaces + (length c.worlds + length c.modules)) (entry_count c) (entry_count c) (omega arith) (omega arith) in
     simp length-append (rw (interfaces_pairs, interfaces, worlds_pairs, worlds, modules_pairs, modules) (omega (arith, three, all)))
-
-abbrev asked_for : Bound → Pair → Asked
-asked_for b p = record { bound = b; pair = p }
 
 asked_among : (c : Collection) (a : Asked) → Contains (all_pairs c) a.pair → Contains (map (asked_for Meet) (all_pairs c) ++ map (asked_for Join) (all_pairs c)) a
 asked_among c a m = by_bound a.bound a.pair m

@@ -9,7 +9,7 @@ use Rattle.wac_component.specs.Sound.{IsSound}
 use Rattle.wac_component.specs.Tree.{module_tree}
 use Rattle.wac_merge.specs.Built.{AreBuilt}
 use Rattle.wac_merge.specs.Items.{Externs, extern_list}
-use Rattle.wac_merge.specs.Memo.{Made, made_of, IsMade, IsTrueMemo, IsTrueRefused, Grows}
+use Rattle.wac_merge.specs.Memo.{asked_for, Made, made_of, IsMade, IsTrueMemo, IsTrueRefused, Grows}
 use Rattle.wac_merge.specs.Reads.{exports_at, IsInterfaceOfBoth, IsWorldOfBoth}
 use Rattle.wac_merge.specs.Runs.{FromBuilt, Runs}
 use Rattle.wac_merge.specs.Told.{AreBound, HasBoundNames, AreSides, AreSidesOf, AreSidesBuilt, IsModuleBoundIn}
@@ -27,9 +27,6 @@ use Rattle.wac_merge.proofs.DoneLemmas.{interface_done, world_done}
 use Rattle.wac_merge.proofs.MadeLemmas.{interface_run, world_run}
 use Rattle.wac_merge.proofs.MemoLemmas.{Grows-after}
 use Rattle.wac_merge.proofs.ReadLemmas.{has_exports_at}
-
-abbrev asked_for : Bound → Pair → Asked
-asked_for u p = record { bound = u; pair = p }
 
 -- c when two entries are read, and l is remembered; m with what is compared since; e and n at the end
 module _ (c e : Collection) (l m n : BoundMemo) (u : Bound) (r : BoundId) (same : made_of m ≡ made_of l) (known : IsTrueMemo c m) (more : Extends c e) (sound : IsSound c) (x y : Id) where

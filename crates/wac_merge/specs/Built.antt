@@ -62,7 +62,8 @@ pub record IsWorldFrom (c d : Collection) (o : Origins) (a b e : WorldContent) :
   pub uses : e.uses ≡ uses_of_both a.uses b.uses
   pub imports : AreBuilt c d o a.imports b.imports e.imports
   pub exports : AreBuilt c d o a.exports b.exports e.exports
-  pub names : (HasAllNames bytes_eq a.exports b.exports e.exports × HasSomeNames bytes_eq a.imports e.imports) ⊎ (HasSomeNames bytes_eq a.exports e.exports × HasAllNames bytes_eq a.imports b.imports e.imports)
+  pub names : (HasAllNames bytes_eq a.exports b.exports e.exports × HasSomeNames bytes_eq a.imports e.imports)
+      ⊎ (HasSomeNames bytes_eq a.exports e.exports × HasAllNames bytes_eq a.imports b.imports e.imports)
 
 -- of a meet all exports and some imports, of a join some exports and all imports
 pub record IsModuleBuilt (a b e : ModuleContent) : Type 0 where
@@ -91,7 +92,8 @@ pub record IsAddedBuilt (c d : Collection) (o : Origins) (m : Key) : Type 0 wher
   pub second_at : entry_at c (o m).1 ≡ Some second
   pub self_at : entry_at d m ≡ Some self
   pub is_from : IsEntryFrom c d o first second self
-  pub bound : ((k : Kind) → IsMetAs c d (entry_item k (o m).0) (entry_item k (o m).1) (Some (entry_item k m))) ⊎ ((k : Kind) → IsJoinedAs c d (entry_item k (o m).0) (entry_item k (o m).1) (Some (entry_item k m)))
+  pub bound : ((k : Kind) → IsMetAs c d (entry_item k (o m).0) (entry_item k (o m).1) (Some (entry_item k m)))
+      ⊎ ((k : Kind) → IsJoinedAs c d (entry_item k (o m).0) (entry_item k (o m).1) (Some (entry_item k m)))
 
 -- d adds to c nothing but interfaces, worlds and core modules, each built of two that stood
 pub record OnlyBuilds (c d : Collection) (o : Origins) : Type 0 where

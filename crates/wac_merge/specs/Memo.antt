@@ -7,6 +7,7 @@ use Rattle.wac_model.specs.Order.{Fits}
 use Rattle.wac_bounds.specs.MeetIn.{IsMeetIn}
 use Rattle.wac_component.specs.Collection.{Collection}
 use Rattle.wac_component.specs.Growth.{Extends}
+use Rattle.wac_component.specs.Id.{Id}
 use Rattle.wac_component.specs.Key.{Key, Stands, interface_key, world_key, module_key}
 use Rattle.wac_component.specs.Sound.{entry_count}
 use Rattle.wac_component.specs.Tree.{item_tree}
@@ -90,7 +91,8 @@ order_of Join s t = Fits t s
 -- the entry, in d, is the meet or the join of two in c, as items and as
 -- types; none where there is none
 abbrev pub IsBoundOf : Bound → Collection → Collection → Pair → Option BoundId → Type 0
-IsBoundOf b c d p m = (k : Kind) → IsMeetIn (order_of b) (item_tree c (entry_item k (first_key p))) (item_tree c (entry_item k (second_key p))) (option_map (item_tree d) (option_map (λ e. entry_item k (entry_key e)) m))
+IsBoundOf b c d p m = (k : Kind) → IsMeetIn (order_of b) (item_tree c (entry_item k (first_key p))) (item_tree c (entry_item k (second_key p)))
+    (option_map (item_tree d) (option_map (λ e. entry_item k (entry_key e)) m))
 
 -- what was made is what was asked for
 pub record IsTrueMade (d : Collection) (x : Asked × BoundId) : Type 0 where
@@ -123,7 +125,15 @@ pub record Grows (d : Collection) (m : BoundMemo) (e : Collection) (n : BoundMem
   pub counted : entry_count e + length (made_of m) ≡ entry_count d + length (made_of n)
   pub true_memo : IsTrueMemo e n
 
+-- what is asked for of a pair
+abbrev pub asked_for : Bound → Pair → Asked
+asked_for b p = record { bound = b; pair = p }
+
 -- the entry was made before for what is asked, and nothing is added; or it is made now, and noted
 pub data IsMade (d : Collection) (m : BoundMemo) (e : Collection) (n : BoundMemo) (a : Asked) (p : BoundId) (IsAdded : Type 0) : Type 0 where
   before : Contains (made_of m) (a, p) → e ≡ d → IsSame m n → IsMade d m e n a p IsAdded
   now : IsNew (made_of m) a → IsAdded → made_of n ≡ made_of m ++ (a, p) ∷ [] → refused_of n ≡ refused_of m → n.compared ≡ m.compared → IsMade d m e n a p IsAdded
+
+-- the same of an entry of one sort, of which this holds where it is made now
+abbrev pub IsMadeAs : Collection → BoundMemo → Collection → BoundMemo → Asked → (Id → BoundId) → (Id → Type 0) → BoundId → Type 0
+IsMadeAs d m e n a of_sort IsAdded p = IsMade d m e n a p ((q : Id) × (p ≡ of_sort q) × IsAdded q)

@@ -1,14 +1,18 @@
 -- What is told of a meet or a join by what is known of the entries that two items name.
-use Rattle.std.specs.Prelude.{◌≡◌, List, [], ◌∷◌, ◌++◌, Option, Some, None, IfSome}
+use Rattle.std.specs.Prelude.{◌≡◌, List, [], ◌∷◌, ◌++◌, Option, Some, None, Result, IfOk, IfSome}
 use Rattle.std.specs.Map.{keys_of}
 use Rattle.std.specs.Option.{option_map}
 use Rattle.std.specs.Str.{bytes_eq}
+use Rattle.std.specs.declared.alloc.Global.{Global}
+use Rattle.std.specs.declared.string.String.{String}
+use Rattle.indexmap.specs.IndexMap.{IndexMap}
 use Rattle.wac_model.specs.CoreTree.{ModuleContent}
 use Rattle.wac_bounds.specs.MeetIn.{IsMeetIn, IsJoinIn}
 use Rattle.wac_bounds.specs.Valid.{ValidModuleFits}
 use Rattle.wac_core_merge.specs.NameOrder.{HasAllNames, HasSomeNames}
 use Rattle.wac_component.specs.Collection.{Collection}
 use Rattle.wac_component.specs.Growth.{Extends}
+use Rattle.wac_component.specs.Id.{Id}
 use Rattle.wac_component.specs.Key.{Key, AllStand, item_keys}
 use Rattle.wac_component.specs.Sound.{IsSound}
 use Rattle.wac_component.specs.Tree.{item_tree}
@@ -16,13 +20,16 @@ use Rattle.wac_component.specs.declared.items.ItemKind.{ItemKind}
 use Rattle.wac_merge.specs.Bounded.{IsKept, IsMetWith, IsJoinedWith, AreMet, AreFirstMet, AreJoined, Clash}
 use Rattle.wac_merge.specs.Built.{Origins, IsBuilt, AreBuilt}
 use Rattle.wac_merge.specs.Items.{Externs, extern_list}
-use Rattle.wac_merge.specs.Memo.{made_of, first_key, second_key, order_of}
-use Rattle.wac_merge.specs.Reads.{imports_at, exports_at, met_at, joined_at}
+use Rattle.wac_merge.specs.Memo.{Made, asked_for, made_of, IsMadeAs, first_key, second_key, order_of}
+use Rattle.wac_merge.specs.Reads.{imports_at, exports_at, met_at, joined_at, IsInterfaceOfBoth, IsWorldOfBoth}
 use Rattle.wac_merge.specs.Runs.{FromBuilt, StepsStand, IsUnderWay}
 use Rattle.wac_merge.specs.declared.entries.WorldSides.{WorldSides}
 use Rattle.wac_merge.specs.declared.memo.Bound.{Bound}
 use Rattle.wac_merge.specs.declared.memo.Bound.TheVariants.{Meet, Join}
+use Rattle.wac_merge.specs.declared.memo.BoundId.{BoundId}
+use Rattle.wac_merge.specs.declared.memo.BoundId.TheVariants.{Interface, World}
 use Rattle.wac_merge.specs.declared.memo.BoundMemo.{BoundMemo}
+use Rattle.wac_merge.specs.declared.memo.Pair.TheVariants.{Interfaces, Worlds}
 use Rattle.wac_merge.specs.declared.memo.Untold.{Untold}
 use Rattle.wac_merge.specs.declared.memo.Untold.TheVariants.{Memory, Lacks}
 use Rattle.wac_merge.specs.declared.steps.Step.{Step}
@@ -89,6 +96,17 @@ AreSides u c x y (Some w) = AreSidesOf u c x y w
 
 abbrev pub AreSidesBuilt : Collection → Collection → Origins → Key → Key → WorldSides → Type 0
 AreSidesBuilt c d o x y w = AreBuilt c d o (imports_at d x) (imports_at d y) (extern_list w.imports) × AreBuilt c d o (exports_at d x) (exports_at d y) (extern_list w.exports)
+
+-- what is answered, if anything is, is built of these lists, wherever the ids stood
+abbrev pub AnswersBuilt : {S E : Type 0} → List Key → Externs → Externs → Collection → Made → Result (Option (IndexMap (String Global) ItemKind S)) E → Type 0
+AnswersBuilt ks es ts d ms r = FromBuilt ks d ms (λ c o. IfOk r (λ m. IfSome m (λ fs. AreBuilt c d o es ts (extern_list fs))))
+
+-- the entry is the interface that was made of two, with these exports, or the world, with these sides
+abbrev pub IsInterfaceMade : Collection → BoundMemo → Collection → BoundMemo → Bound → Id → Id → Externs → BoundId → Type 0
+IsInterfaceMade c m d n b x y es p = IsMadeAs c m d n (asked_for b (Interfaces x y)) Interface (IsInterfaceOfBoth c d x y es) p
+
+abbrev pub IsWorldMade : Collection → BoundMemo → Collection → BoundMemo → Bound → Id → Id → WorldSides → BoundId → Type 0
+IsWorldMade c m d n b x y w p = IsMadeAs c m d n (asked_for b (Worlds x y)) World (IsWorldOfBoth c d x y (extern_list w.imports) (extern_list w.exports)) p
 
 -- what is lacking is a bound of two entries that stood wherever these ids did
 abbrev pub LacksOnly : Collection → List Key → Untold → Type 0

@@ -5,11 +5,10 @@ ghost use Rattle.std.specs.Option.{option_map};
 ghost use Rattle.wac_component.specs.Key.{Stands, AllStand, interface_key, world_key};
 ghost use Rattle.wac_component.specs.Sound.{IsSound};
 ghost use Rattle.wac_merge.specs.Items.{extern_keys, extern_list};
-ghost use Rattle.wac_merge.specs.Built.{AreBuilt};
 ghost use Rattle.wac_merge.specs.Reads.{exports_at};
 ghost use Rattle.wac_merge.specs.Memo.{IsTrueMemo, Grows, made_of, first_key, second_key};
 ghost use Rattle.wac_merge.specs.Runs.{FromBuilt, Runs};
-ghost use Rattle.wac_merge.specs.Told.{LacksOnly, AreBound, HasBoundNames, AreSides, AreSidesBuilt};
+ghost use Rattle.wac_merge.specs.Told.{AnswersBuilt, LacksOnly, AreBound, HasBoundNames, AreSides, AreSidesBuilt};
 
 use crate::entries::{WorldSides, exports_of, interface_of, joined_side, met_side, world_of};
 use crate::externs::bound_externs;
@@ -81,7 +80,7 @@ fn exports_of_both(
     ensures bound { IfOk result (λ r. AreBound bound types.now types.now (exports_at types.now (interface_key x)) (exports_at types.now (interface_key y)) (option_map extern_list r)) }
     ensures names { IfOk result (λ r. IfSome r (λ m. HasBoundNames bound (exports_at types.now (interface_key x)) (exports_at types.now (interface_key y)) (extern_list m))) }
     ensures standing { IfOk result (λ r. IfSome r (λ m. AllStand types.now (extern_keys (extern_list m)))) }
-    ensures built { FromBuilt (interface_key x ∷ interface_key y ∷ []) types.now (made_of memo.old) (λ c o. IfOk result (λ r. IfSome r (λ m. AreBuilt c types.now o (exports_at types.now (interface_key x)) (exports_at types.now (interface_key y)) (extern_list m)))) }
+    ensures built { AnswersBuilt (interface_key x ∷ interface_key y ∷ []) (exports_at types.now (interface_key x)) (exports_at types.now (interface_key y)) types.now (made_of memo.old) result }
     ensures lacks { IfErr result (LacksOnly types.now (interface_key x ∷ interface_key y ∷ [])) }
 {
     let first = exports_of(types, x);

@@ -7,8 +7,9 @@ ghost use Rattle.wac_component.specs.Growth.{Extends};
 ghost use Rattle.wac_component.specs.Key.{Stands, AllStand, interface_key, world_key};
 ghost use Rattle.wac_merge.specs.Built.{uses_of_both};
 ghost use Rattle.wac_merge.specs.Items.{extern_keys, extern_list};
-ghost use Rattle.wac_merge.specs.Memo.{IsMade, IsSame};
+ghost use Rattle.wac_merge.specs.Memo.{IsSame};
 ghost use Rattle.wac_merge.specs.Reads.{imports_at, exports_at, met_at, joined_at, IsInterfaceOfBoth, IsWorldOfBoth};
+ghost use Rattle.wac_merge.specs.Told.{IsInterfaceMade, IsWorldMade};
 
 use crate::memo::{Asked, Bound, BoundId, BoundMemo, Pair};
 use indexmap::IndexMap;
@@ -160,7 +161,7 @@ pub(crate) fn interface_of(
     requires first { Stands types.old (interface_key first) }
     requires second { Stands types.old (interface_key second) }
     requires exports { AllStand types.old (extern_keys (extern_list exports)) }
-    ensures made { IfOk result (λ p. IsMade types.old memo.old types.new memo.new (record { bound = bound; pair = Pair.Interfaces first second }) p ((q : Id) × (p ≡ BoundId.Interface q) × IsInterfaceOfBoth types.old types.new first second (extern_list exports) q)) }
+    ensures made { IfOk result (IsInterfaceMade types.old memo.old types.new memo.new bound first second (extern_list exports)) }
     ensures grows { Extends types.old types.new }
     ensures err { OnErr result (types.new ≡ types.old) }
     ensures err_memo { OnErr result (IsSame memo.old memo.new) }
@@ -188,7 +189,7 @@ pub(crate) fn world_of(
     requires second { Stands types.old (world_key second) }
     requires imports { AllStand types.old (extern_keys (extern_list sides.imports)) }
     requires exports { AllStand types.old (extern_keys (extern_list sides.exports)) }
-    ensures made { IfOk result (λ p. IsMade types.old memo.old types.new memo.new (record { bound = bound; pair = Pair.Worlds first second }) p ((q : Id) × (p ≡ BoundId.World q) × IsWorldOfBoth types.old types.new first second (extern_list sides.imports) (extern_list sides.exports) q)) }
+    ensures made { IfOk result (IsWorldMade types.old memo.old types.new memo.new bound first second sides) }
     ensures grows { Extends types.old types.new }
     ensures err { OnErr result (types.new ≡ types.old) }
     ensures err_memo { OnErr result (IsSame memo.old memo.new) }

@@ -4,10 +4,8 @@ ghost use Rattle.std.specs.Prelude.{◌≡◌, ◌++◌, IfOk, IfErr, IfSome};
 ghost use Rattle.std.specs.Option.{option_map};
 ghost use Rattle.wac_component.specs.Key.{AllStand};
 ghost use Rattle.wac_merge.specs.Items.{extern_keys, extern_list};
-ghost use Rattle.wac_merge.specs.Built.{AreBuilt};
 ghost use Rattle.wac_merge.specs.Memo.{IsTrueMemo, made_of};
-ghost use Rattle.wac_merge.specs.Runs.{FromBuilt};
-ghost use Rattle.wac_merge.specs.Told.{AreBound, AreFirstBound, HasBoundNames, HasFirstNames, LacksOnly};
+ghost use Rattle.wac_merge.specs.Told.{AnswersBuilt, AreBound, AreFirstBound, HasBoundNames, HasFirstNames, LacksOnly};
 
 use crate::items::bound_with;
 use crate::memo::{Bound, BoundMemo, Untold};
@@ -32,7 +30,7 @@ pub(crate) fn bound_externs(
     ensures bound { IfOk result (λ r. AreBound bound types.now types.now (extern_list first.now) (extern_list second.now) (option_map extern_list r)) }
     ensures names { IfOk result (λ r. IfSome r (λ m. HasBoundNames bound (extern_list first.now) (extern_list second.now) (extern_list m))) }
     ensures standing { IfOk result (λ r. IfSome r (λ m. AllStand types.now (extern_keys (extern_list m)))) }
-    ensures built { FromBuilt (extern_keys (extern_list first.now) ++ extern_keys (extern_list second.now)) types.now (made_of memo.old) (λ c o. IfOk result (λ r. IfSome r (λ m. AreBuilt c types.now o (extern_list first.now) (extern_list second.now) (extern_list m)))) }
+    ensures built { AnswersBuilt (extern_keys (extern_list first.now) ++ extern_keys (extern_list second.now)) (extern_list first.now) (extern_list second.now) types.now (made_of memo.old) result }
     ensures lacks { IfErr result (LacksOnly types.now (extern_keys (extern_list first.now) ++ extern_keys (extern_list second.now))) }
 {
     let Some(mut parts) = bound_first(types, memo, bound, first, second)? else {
@@ -63,7 +61,7 @@ fn bound_first(
     ensures bound { IfOk result (λ r. AreFirstBound bound types.now types.now (extern_list first.now) (extern_list second.now) (option_map extern_list r)) }
     ensures names { IfOk result (λ r. IfSome r (λ m. HasFirstNames bound (extern_list first.now) (extern_list m))) }
     ensures standing { IfOk result (λ r. IfSome r (λ m. AllStand types.now (extern_keys (extern_list m)))) }
-    ensures built { FromBuilt (extern_keys (extern_list first.now) ++ extern_keys (extern_list second.now)) types.now (made_of memo.old) (λ c o. IfOk result (λ r. IfSome r (λ m. AreBuilt c types.now o (extern_list first.now) (extern_list second.now) (extern_list m)))) }
+    ensures built { AnswersBuilt (extern_keys (extern_list first.now) ++ extern_keys (extern_list second.now)) (extern_list first.now) (extern_list second.now) types.now (made_of memo.old) result }
     ensures lacks { IfErr result (LacksOnly types.now (extern_keys (extern_list first.now) ++ extern_keys (extern_list second.now))) }
 {
     let mut parts = IndexMap::new(memo.alloc);
