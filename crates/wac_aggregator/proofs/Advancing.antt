@@ -11,27 +11,27 @@ use Rattle.wac_component.specs.Tree.{item_tree}
 use Rattle.wac_component.specs.declared.items.ItemKind.{ItemKind}
 use Rattle.wac_names.specs.Class.{class_eq, class_of}
 use Rattle.wac_names.proofs.Classes.{classes_decided}
-use Rattle.wac_narrowing.specs.Identified.{IsCovered}
-use Rattle.wac_narrowing.specs.Imports.{IsImportFor, ImportsFit}
-use Rattle.wac_narrowing.specs.Remembers.{RemembersTruly}
-use Rattle.wac_narrowing.specs.State.{State, IsKept, Runs}
-use Rattle.wac_narrowing.proofs.Running.{Runs-step, Runs-trans, Runs-import}
-use Rattle.wac_narrowing.proofs.Remembered.{RemembersTruly-step}
-use Rattle.wac_call_lists.specs.Aggregated.{IsStep, IsByTrack}
-use Rattle.wac_call_lists.specs.Call.{Call, call_track, call_tree}
-use Rattle.wac_imports.specs.Import.{ImportContent, ImportsContent, import_of, import_at, AreFiled}
-use Rattle.wac_imports.proofs.Listed.{classes_listed}
-use Rattle.wac_call_lists.specs.Attempt.{Attempt}
+use Rattle.wac_aggregator_narrowing.specs.Identified.{IsCovered}
+use Rattle.wac_aggregator_narrowing.specs.Imports.{IsImportFor, ImportsFit}
+use Rattle.wac_aggregator_narrowing.specs.Remembers.{RemembersTruly}
+use Rattle.wac_aggregator_narrowing.specs.State.{State, IsStateKept, RunsTaking}
+use Rattle.wac_aggregator_narrowing.proofs.Running.{RunsTaking-step, RunsTaking-trans, RunsTaking-import}
+use Rattle.wac_aggregator_narrowing.proofs.Remembered.{RemembersTruly-step}
+use Rattle.wac_aggregator_promises.specs.Aggregated.{IsCallStep, IsByTrack}
+use Rattle.wac_aggregator_promises.specs.Call.{Call, call_track, call_tree}
+use Rattle.wac_aggregator_imports.specs.Import.{ImportContent, ImportsContent, import_of, import_at, AreFiled}
+use Rattle.wac_aggregator_imports.proofs.Listed.{classes_listed}
+use Rattle.wac_aggregator_promises.specs.Attempt.{Attempt}
 use Rattle.wac_component.specs.Reach.{IsAmong}
 use Rattle.wac_component.proofs.Among.{among_each}
-use Rattle.wac_reasons.specs.Sharing.{of_import}
-use Rattle.wac_reasons.specs.Trial.{IsTrial, IsAccounted, IsOpenSource}
-use Rattle.wac_reasons.proofs.Accounts.{root_open, accounted_imports}
-use Rattle.wac_taking.specs.Takes.{shared_keys, state_of, MayTake}
-use Rattle.wac_taking.specs.declared.state.Merging.{Merging}
-use Rattle.wac_aggregator.specs.Advances.{IsPlaced, Advances, added, noted}
+use Rattle.wac_aggregator_reasons.specs.Sharing.{of_import}
+use Rattle.wac_aggregator_reasons.specs.Trial.{IsTrial, IsAccounted, IsOpenSource}
+use Rattle.wac_aggregator_reasons.proofs.Accounts.{root_open, accounted_imports}
+use Rattle.wac_aggregator_taking.specs.Takes.{shared_keys, state_of, MayTake}
+use Rattle.wac_aggregator_taking.specs.declared.state.Merging.{Merging}
+use Rattle.wac_aggregator.specs.Advances.{IsImportPlaced, Advances, added, noted}
 use Rattle.wac_aggregator.specs.Content.{shown, content_of}
-use Rattle.wac_aggregator.specs.Served.{LeadsTo}
+use Rattle.wac_aggregator.specs.Served.{NameLeadsTo}
 use Rattle.wac_aggregator.proofs.Leading.{PlacedAs, placed_as, placed_here, placed_other, leads-on, leads-new, leads-from, found-of, canonical-other, canonical-track}
 
 -- what is found under a class is found under each name of it
@@ -55,15 +55,15 @@ module _ (call : Call) (a b : Merging) (may : MayTake call.types a) (filed_a : A
   pub placing : PlacedAs a.imports h.taken.imports b.imports call.name h.import
   placing = placed_as a.imports h.taken.imports b.imports h.takes.led call.name h.import h.placed
 
-  pub taken_kept : IsKept (state_of h.taken)
+  pub taken_kept : IsStateKept (state_of h.taken)
   taken_kept = h.takes.run.kept may.kept
 
   -- the state once entries were added
   abbrev mid : State
   mid = record (state_of h.taken) { own = b.types }
 
-  to_mid : Runs (RemembersTruly class_of) f (state_of h.taken) mid
-  to_mid = Runs-step (RemembersTruly class_of) f (state_of h.taken) b.types ss (λ k. h.on.steps ss k.good)
+  to_mid : RunsTaking (RemembersTruly class_of) f (state_of h.taken) mid
+  to_mid = RunsTaking-step (RemembersTruly class_of) f (state_of h.taken) b.types ss (λ k. h.on.steps ss k.good)
       (λ k g t. let s = h.on.steps ss k.good in RemembersTruly-step class_of g (state_of h.taken) b.types ss s.narrows s.stops t)
 
   -- the imports before, and now
@@ -77,7 +77,7 @@ module _ (call : Call) (a b : Merging) (may : MayTake call.types a) (filed_a : A
           subst P same new
       by false e = old n x (ap (option_map (λ (j : ImportContent). j.1)) (sym (placed_other a.imports h.taken.imports b.imports call.name h.import placing h.takes.stays (class_of n) e)) ∙ at)
 
-  fit : IsKept mid → ImportsFit b.types (import_at h.taken.imports) b.types (import_at b.imports)
+  fit : IsStateKept mid → ImportsFit b.types (import_at h.taken.imports) b.types (import_at b.imports)
   fit kept n x at = by (class_eq (call_track call) (class_of n)) refl
     where
       stood : AllStand h.taken.types (item_keys x)
@@ -93,7 +93,7 @@ module _ (call : Call) (a b : Merging) (may : MayTake call.types a) (filed_a : A
             fits = subst (λ t. Fits (item_tree b.types h.import) t) (sym (h.on.grows.trees x stood)) (by_place h.placed i.0 (ap (import_of h.taken.imports) on ∙ i.1) i.2);
           }
         where
-          by_place : IsPlaced a.imports h.taken.imports b.imports call.name h.import → (i : ImportContent) → import_of h.taken.imports (call_track call) ≡ Some i → i.1 ≡ x → Fits (item_tree b.types h.import) (item_tree h.taken.types x)
+          by_place : IsImportPlaced a.imports h.taken.imports b.imports call.name h.import → (i : ImportContent) → import_of h.taken.imports (call_track call) ≡ Some i → i.1 ≡ x → Fits (item_tree b.types h.import) (item_tree h.taken.types x)
           by_place (added before none puts led) i here is = absurd (let no : None ≡ Some i = sym none ∙ here in cc)
           by_place (noted j before is_noted) i here is =
               let same : j ≡ i = let both : Some j ≡ Some i = sym (h.takes.stays (call_track call) j before) ∙ here in cc in
@@ -105,17 +105,17 @@ module _ (call : Call) (a b : Merging) (may : MayTake call.types a) (filed_a : A
             fits = Fits-refl (item_tree b.types x);
           }
 
-  pub rest : Runs (RemembersTruly class_of) f (state_of h.taken) (state_of b)
-  rest = subst (λ (m : Merging). Runs (RemembersTruly class_of) f (state_of h.taken) (state_of m)) (sym h.same)
-      (Runs-trans (RemembersTruly class_of) f (state_of h.taken) mid (record mid { imports = import_at b.imports }) to_mid
-      (Runs-import (RemembersTruly class_of) f mid (import_at b.imports)
+  pub rest : RunsTaking (RemembersTruly class_of) f (state_of h.taken) (state_of b)
+  rest = subst (λ (m : Merging). RunsTaking (RemembersTruly class_of) f (state_of h.taken) (state_of m)) (sym h.same)
+      (RunsTaking-trans (RemembersTruly class_of) f (state_of h.taken) mid (record mid { imports = import_at b.imports }) to_mid
+      (RunsTaking-import (RemembersTruly class_of) f mid (import_at b.imports)
       (λ kept. was_or (λ x. AllStand b.types (item_keys x)) h.stands kept.imports)
       (λ kept. was_or (λ x. Each (IsCovered b.types ss) (item_keys x)) h.covered kept.imports_covered)
       fit
       (λ g t. record { taken = t.taken; copies = t.copies; closed = t.closed })))
 
-  pub run : Runs (RemembersTruly class_of) f (state_of a) (state_of b)
-  run = Runs-trans (RemembersTruly class_of) f (state_of a) (state_of h.taken) (state_of b) h.takes.run rest
+  pub run : RunsTaking (RemembersTruly class_of) f (state_of a) (state_of b)
+  run = RunsTaking-trans (RemembersTruly class_of) f (state_of a) (state_of h.taken) (state_of b) h.takes.run rest
 
   -- all stays accounted for
   pub call_accounts : (at : Attempt) → IsTrial at call.types (item_keys call.kind) → IsAccounted at (state_of a) → IsAccounted at (state_of b)
@@ -130,13 +130,13 @@ module _ (call : Call) (a b : Merging) (may : MayTake call.types a) (filed_a : A
   fits_item = Fits-trans (item_tree b.types h.import) (item_tree h.taken.types h.own) (call_tree call) h.fits h.takes.holds.fits
 
   -- a name that led to an import leads to one that is no wider
-  pub leads_below : (n : Text) (i : ImportContent) → LeadsTo a.imports n i → (j : ImportContent) × LeadsTo b.imports n j × Fits (item_tree b.types j.1) (item_tree a.types i.1)
+  pub leads_below : (n : Text) (i : ImportContent) → NameLeadsTo a.imports n i → (j : ImportContent) × NameLeadsTo b.imports n j × Fits (item_tree b.types j.1) (item_tree a.types i.1)
   leads_below n i l =
       let m = run.imports may.kept n i.1 (at_of a.imports n i l.import) in
       let j = of_at b.imports n m.import m.is in
       (j.0, leads-on a.imports h.taken.imports b.imports call.name h.import placing h.takes.stays n i j.0 l j.1, subst (λ x. Fits (item_tree b.types x) (item_tree a.types i.1)) (sym j.2) m.fits)
 
-  pub advances_step : IsStep (shown (content_of a)) (shown (content_of b)) call
+  pub advances_step : IsCallStep (shown (content_of a)) (shown (content_of b)) call
   advances_step = record {
     kept = λ n x is.
         let j = leads_below n (canonical_name n, x) (leads-from a.imports filed_a n x is) in

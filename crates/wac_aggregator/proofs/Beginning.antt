@@ -10,16 +10,16 @@ use Rattle.wac_component.specs.Sound.{IsSound}
 use Rattle.wac_component.specs.declared.items.ItemKind.{ItemKind}
 use Rattle.wac_component.proofs.Among.{each_among}
 use Rattle.wac_names.specs.Class.{Class}
-use Rattle.wac_narrowing.specs.Apart.{IsApart, IsGood}
-use Rattle.wac_narrowing.specs.Identified.{IsCovered}
-use Rattle.wac_narrowing.specs.Laws.{IsNew}
-use Rattle.wac_narrowing.specs.State.{IsKept}
-use Rattle.wac_reasons.proofs.Starting.{new_held}
-use Rattle.wac_call_lists.specs.Holding.{HoldsReached}
+use Rattle.wac_aggregator_narrowing.specs.Apart.{IsKeyApart, IsGood}
+use Rattle.wac_aggregator_narrowing.specs.Identified.{IsCovered}
+use Rattle.wac_aggregator_narrowing.specs.Laws.{IsNewState}
+use Rattle.wac_aggregator_narrowing.specs.State.{IsStateKept}
+use Rattle.wac_aggregator_reasons.proofs.Starting.{new_held}
+use Rattle.wac_aggregator_promises.specs.Holding.{HoldsReached}
 use Rattle.wac_component.specs.Memo.{memo_of}
-use Rattle.wac_imports.specs.Import.{ImportsContent, import_at, AreFiled}
-use Rattle.wac_taking.specs.Takes.{shared_keys, shared_in, state_of, AreFiledIn}
-use Rattle.wac_taking.specs.declared.state.Merging.{Merging}
+use Rattle.wac_aggregator_imports.specs.Import.{ImportsContent, import_at, AreFiled}
+use Rattle.wac_aggregator_taking.specs.Takes.{shared_keys, shared_in, state_of, AreFiledIn}
+use Rattle.wac_aggregator_taking.specs.declared.state.Merging.{Merging}
 use Rattle.wac_aggregator.specs.InOrder.{IsStart}
 
 -- nothing stands in an empty collection
@@ -51,10 +51,10 @@ module _ (a : Merging) (number : ℕ) (sound : IsSound a.types) (empty : a.types
     shared = each_among (Stands a.types) (shared_keys a.shared.entries) (λ k m. absurd (none_shared k m));
     identified = λ s m. absurd (none_shared s m);
     covered = each_among (IsCovered a.types (shared_keys a.shared.entries)) (shared_keys a.shared.entries) (λ k m. absurd (none_shared k m));
-    isolated = λ k st. each_among (IsApart a.types (shared_keys a.shared.entries)) (import_next a.types k) (λ j m s among walk. none_shared s among);
+    isolated = λ k st. each_among (IsKeyApart a.types (shared_keys a.shared.entries)) (import_next a.types k) (λ j m s among walk. none_shared s among);
   }
 
-  new : IsNew (state_of a)
+  new : IsNewState (state_of a)
   new = record {
     sound = sound;
     shared = ap (λ (es : List (Class × Id)). shared_keys es) shared;
@@ -63,7 +63,7 @@ module _ (a : Merging) (number : ℕ) (sound : IsSound a.types) (empty : a.types
     copies = copies;
   }
 
-  kept : IsKept (state_of a)
+  kept : IsStateKept (state_of a)
   kept = record {
     good = good;
     imports = λ n x at. absurd (none_imported n x at);

@@ -12,22 +12,22 @@ use Rattle.wac_component.specs.Key.{Each, AllStand, item_keys, interface_key}
 use Rattle.wac_component.specs.Tree.{item_tree}
 use Rattle.wac_component.specs.declared.items.ItemKind.{ItemKind}
 use Rattle.wac_names.specs.Class.{Class, class_of}
-use Rattle.wac_narrowing.specs.Identified.{IsCovered, IsUnstopped}
-use Rattle.wac_narrowing.specs.State.{IsKept}
-use Rattle.wac_narrowing.specs.Taking.{IsTakenItem}
-use Rattle.wac_narrowing.proofs.Mapped.{taken_each}
-use Rattle.wac_call_lists.specs.Call.{Call, call_track}
-use Rattle.wac_imports.specs.Import.{ImportContent, ImportsContent, import_of, import_at, IsNoted}
-use Rattle.wac_call_lists.specs.Attempt.{Attempt}
-use Rattle.wac_reasons.specs.Trial.{IsTrial, IsAccounted, IsOpenSource}
-use Rattle.wac_reasons.proofs.Accounts.{accounted_built}
-use Rattle.wac_taking.specs.Growing.{IsMetWith, with_own}
-use Rattle.wac_taking.specs.Takes.{shared_keys, state_of, MayTake, IsOwnEntry, IsNear, Takes}
-use Rattle.wac_taking.specs.declared.state.Merging.{Merging}
-use Rattle.wac_taking.proofs.GrowLemmas.{StepsOn-refl}
-use Rattle.wac_taking.proofs.MergeReasons.{met_sources}
-use Rattle.wac_taking.proofs.TakeLemmas.{near_none}
-use Rattle.wac_aggregator.specs.Advances.{added, noted, Advances, IsAdded, IsMerged}
+use Rattle.wac_aggregator_narrowing.specs.Identified.{IsCovered, IsUnstopped}
+use Rattle.wac_aggregator_narrowing.specs.State.{IsStateKept}
+use Rattle.wac_aggregator_narrowing.specs.Taking.{IsTakenItem}
+use Rattle.wac_aggregator_narrowing.proofs.Mapped.{taken_each}
+use Rattle.wac_aggregator_promises.specs.Call.{Call, call_track}
+use Rattle.wac_aggregator_imports.specs.Import.{ImportContent, ImportsContent, import_of, import_at, IsImportNoted}
+use Rattle.wac_aggregator_promises.specs.Attempt.{Attempt}
+use Rattle.wac_aggregator_reasons.specs.Trial.{IsTrial, IsAccounted, IsOpenSource}
+use Rattle.wac_aggregator_reasons.proofs.Accounts.{accounted_built}
+use Rattle.wac_aggregator_taking.specs.Growing.{IsOwnMeet, with_own}
+use Rattle.wac_aggregator_taking.specs.Takes.{shared_keys, state_of, MayTake, IsOwnEntry, IsNear, Takes}
+use Rattle.wac_aggregator_taking.specs.declared.state.Merging.{Merging}
+use Rattle.wac_aggregator_taking.proofs.GrowLemmas.{StepsOn-refl}
+use Rattle.wac_aggregator_taking.proofs.MergeReasons.{met_sources}
+use Rattle.wac_aggregator_taking.proofs.TakeLemmas.{near_none}
+use Rattle.wac_aggregator.specs.Advances.{added, noted, Advances, PutsLast, IsMerged}
 use Rattle.wac_aggregator.proofs.Unstopped.{met_unstopped}
 use Rattle.wac_aggregator.proofs.Trying.{import_open, own_open, taken_accounted}
 
@@ -37,7 +37,7 @@ import_with None x h = absurd (cc)
 import_with (Some i) x h = let same : i.1 ≡ x = cc in (i, refl, same)
 
 -- the interface that an import is stands, and openly leads to shared ones alone
-pub near_import : (a : Merging) (name : Text) (existing : ItemKind) → IsKept (state_of a) → import_at a.imports name ≡ Some existing → (near : Option Id) → IfSome near (λ i. item_keys existing ≡ interface_key i ∷ []) → IsNear a near
+pub near_import : (a : Merging) (name : Text) (existing : ItemKind) → IsStateKept (state_of a) → import_at a.imports name ≡ Some existing → (near : Option Id) → IfSome near (λ i. item_keys existing ≡ interface_key i ∷ []) → IsNear a near
 near_import a name existing kept at None h i is = absurd (cc)
 near_import a name existing kept at (Some j) h i is =
     let same : j ≡ i = cc in
@@ -51,7 +51,7 @@ module _ (call : Call) (a mid : Merging) (own : ItemKind) (may : MayTake call.ty
   own_covered = taken_each class_of call.types (state_of mid) (IsCovered mid.types (shared_keys mid.shared.entries)) (λ i j k. k.covered) (item_keys call.kind) (item_keys own) takes.holds.keys
 
   -- as a new import
-  pub added_advances : (b : Merging) → IsAdded mid b call.name own → import_of a.imports (call_track call) ≡ None → Advances call a b
+  pub added_advances : (b : Merging) → PutsLast mid b call.name own → import_of a.imports (call_track call) ≡ None → Advances call a b
   added_advances b h none = subst (λ (m : Merging). Advances call a m) (sym h.same) record {
     taken = mid;
     own = own;
@@ -90,7 +90,7 @@ module _ (call : Call) (a mid : Merging) (own : ItemKind) (may : MayTake call.ty
     existing_stands = (takes.run.kept may.kept).imports call.name existing at_still
 
     -- what is met is open where both are
-    met_accounted : (d : Collection) (m : ItemKind) → IsMetWith mid.types d existing own m → (at : Attempt) → IsTrial at call.types (item_keys call.kind) → IsAccounted at (state_of a)
+    met_accounted : (d : Collection) (m : ItemKind) → IsOwnMeet mid.types d existing own m → (at : Attempt) → IsTrial at call.types (item_keys call.kind) → IsAccounted at (state_of a)
         → IsAccounted at (with_own (state_of mid) d) × Each (IsOpenSource at (with_own (state_of mid) d)) (item_keys m)
     met_accounted d m met at trial all =
         let now = taken_accounted call a may mid own takes at trial all in
@@ -195,10 +195,10 @@ module _ (a m b : Merging) (first : m ≡ record a { types = m.types }) (then : 
   same_rest : b ≡ record a { types = b.types; imports = b.imports }
   same_rest = then ∙ ap (λ (x : Merging). record x { imports = b.imports }) first ∙ ap (λ (t : Collection). record a { types = t; imports = b.imports }) (sym same_types)
 
-  pub is_merged : (name : Text) (existing own met : ItemKind) → IsMetWith a.types m.types existing own met → ((i : ImportContent) → import_of m.imports (class_of name) ≡ Some i → IsNoted m.imports b.imports (class_of name) i.0 name met) → IsMerged a b name existing own
+  pub is_merged : (name : Text) (existing own met : ItemKind) → IsOwnMeet a.types m.types existing own met → ((i : ImportContent) → import_of m.imports (class_of name) ≡ Some i → IsImportNoted m.imports b.imports (class_of name) i.0 name met) → IsMerged a b name existing own
   is_merged name existing own met h leaves = record {
     same = same_rest;
     import = met;
-    met = subst (λ (t : Collection). IsMetWith a.types t existing own met) (sym same_types) h;
-    noted = subst (λ (is : ImportsContent). (i : ImportContent) → import_of is (class_of name) ≡ Some i → IsNoted is b.imports (class_of name) i.0 name met) same_imports leaves;
+    met = subst (λ (t : Collection). IsOwnMeet a.types t existing own met) (sym same_types) h;
+    noted = subst (λ (is : ImportsContent). (i : ImportContent) → import_of is (class_of name) ≡ Some i → IsImportNoted is b.imports (class_of name) i.0 name met) same_imports leaves;
   }

@@ -16,23 +16,23 @@ use Rattle.wac_component.specs.Reach.{IsAmong, Reaches}
 use Rattle.wac_component.proofs.OpenWalks.{opens_reach}
 use Rattle.wac_names.specs.Class.{Class, class_eq, class_of}
 use Rattle.wac_names.proofs.Classes.{classes_decided}
-use Rattle.wac_narrowing.specs.Remembers.{RemembersTruly}
-use Rattle.wac_narrowing.specs.State.{IsKept, Runs}
-use Rattle.wac_call_lists.specs.Aggregated.{AllAreServed, IsAggregated}
-use Rattle.wac_call_lists.specs.Call.{Call, call_track, call_tree}
-use Rattle.wac_call_lists.specs.Due.{OwnsOn, IsDue, of_name, of_owner, IsHigher, IsReachedIdentifier, IsHandedInName, IsImportName, AreImportNames}
-use Rattle.wac_imports.specs.Import.{ImportContent, import_of, AreFiled, PutsImport, stays, leads, raises}
-use Rattle.wac_imports.specs.Left.{listed}
-use Rattle.wac_imports.proofs.Listed.{of_Contains, classes_listed}
-use Rattle.wac_taking.specs.Takes.{shared_keys, state_of, MayTake, IsOwnersImport, IsSharedFrom}
-use Rattle.wac_taking.specs.declared.state.Merging.{Merging}
-use Rattle.wac_taking.proofs.TakeLemmas.{shared_stands}
-use Rattle.wac_aggregator.specs.Advances.{IsPlaced, Advances, added, noted}
+use Rattle.wac_aggregator_narrowing.specs.Remembers.{RemembersTruly}
+use Rattle.wac_aggregator_narrowing.specs.State.{IsStateKept, RunsTaking}
+use Rattle.wac_aggregator_promises.specs.Aggregated.{AllAreServed, IsAggregated}
+use Rattle.wac_aggregator_promises.specs.Call.{Call, call_track, call_tree}
+use Rattle.wac_aggregator_promises.specs.Due.{OwnsOn, IsDue, of_name, of_owner, IsHigher, IsReachedIdentifier, IsHandedInName, IsImportName, AreImportNames}
+use Rattle.wac_aggregator_imports.specs.Import.{ImportContent, import_of, AreFiled, PutsImport, stays, leads, raises}
+use Rattle.wac_aggregator_imports.specs.Left.{listed_imports}
+use Rattle.wac_aggregator_imports.proofs.Listed.{of_Contains, classes_listed}
+use Rattle.wac_aggregator_taking.specs.Takes.{shared_keys, state_of, MayTake, IsOwnersImport, IsSharedFrom}
+use Rattle.wac_aggregator_taking.specs.declared.state.Merging.{Merging}
+use Rattle.wac_aggregator_taking.proofs.TakeLemmas.{shared_stands}
+use Rattle.wac_aggregator.specs.Advances.{IsImportPlaced, Advances, added, noted}
 use Rattle.wac_aggregator.specs.HandedIn.{IsOneOf}
-use Rattle.wac_aggregator.specs.Served.{LeadsTo, AreServed}
+use Rattle.wac_aggregator.specs.Served.{NameLeadsTo, AreCallsServed}
 use Rattle.wac_aggregator.specs.Content.{shown, content_of}
 use Rattle.wac_aggregator.proofs.Advancing.{placing, rest, run, taken_kept, fits_item, leads_below}
-use Rattle.wac_taking.proofs.Identifiers.{is_interface, has_identifier}
+use Rattle.wac_aggregator_taking.proofs.Identifiers.{is_interface, has_identifier}
 use Rattle.wac_aggregator.proofs.Imported.{still_imported, owner_imported, owners_after}
 use Rattle.wac_aggregator.proofs.Leading.{PlacedAs, placed_here, placed_other, puts_here, leads-new, found-of}
 use Rattle.wac_aggregator.proofs.Newer.{higher_track, not_higher-self, not_higher-old, not_higher-newer}
@@ -79,7 +79,7 @@ module _ (front : List Call) (call : Call) where
 -- ---- one call more
 
 module _ (calls front : List Call) (call : Call) (a b : Merging) (among : Contains calls call) (one : (c : Call) → Contains calls c → call.types.number ≡ c.types.number → call.types ≡ c.types) (may : MayTake call.types a) (item : AllStand call.types (item_keys call.kind))
-    (filed_a : AreFiled a.imports) (filed_b : AreFiled b.imports) (s : AreServed calls front a) (h : Advances call a b) where
+    (filed_a : AreFiled a.imports) (filed_b : AreFiled b.imports) (s : AreCallsServed calls front a) (h : Advances call a b) where
   abbrev f : Collection
   f = call.types
 
@@ -184,7 +184,7 @@ module _ (calls front : List Call) (call : Call) (a b : Merging) (among : Contai
   new_name : ((other : Text) → IsHandedInName front other → ¬ (IsHigher other call.name)) → IsImportName (more front call) call.name
   new_name highest = record { due = due_here; source = inl handed_in; highest = highest_more front call call.name highest (not_higher-self call.name) }
 
-  of_here : IsPlaced a.imports taken.imports b.imports call.name h.import → (i : ImportContent) → import_of b.imports c ≡ Some i → IsImportName (more front call) i.0
+  of_here : IsImportPlaced a.imports taken.imports b.imports call.name h.import → (i : ImportContent) → import_of b.imports c ≡ Some i → IsImportName (more front call) i.0
   of_here (added none absent puts led) i at = subst (λ n. IsImportName (more front call) n) (named_as call.name i puts at)
       (new_name (λ other m higher. let r = had_import other m in let no : None ≡ Some r.0 = sym none ∙ ap (import_of a.imports) (sym (higher_track other call.name higher)) ∙ r.1 in cc))
   of_here (noted j stood (stays is puts led)) i at = subst (λ n. IsImportName (more front call) n) (named_as j.0 i puts at)
@@ -202,13 +202,13 @@ module _ (calls front : List Call) (call : Call) (a b : Merging) (among : Contai
       by false e = of_other q i e at
 
   -- what is shared, served and owned
-  rests : Runs (RemembersTruly class_of) f (state_of taken) (state_of b)
+  rests : RunsTaking (RemembersTruly class_of) f (state_of taken) (state_of b)
   rests = rest call a b may filed_a filed_b h
 
-  runs : Runs (RemembersTruly class_of) f (state_of a) (state_of b)
+  runs : RunsTaking (RemembersTruly class_of) f (state_of a) (state_of b)
   runs = run call a b may filed_a filed_b h
 
-  kept_then : IsKept (state_of taken)
+  kept_then : IsStateKept (state_of taken)
   kept_then = taken_kept call a b may filed_a filed_b h
 
   same_shared : shared_keys b.shared.entries ≡ shared_keys taken.shared.entries
@@ -219,14 +219,14 @@ module _ (calls front : List Call) (call : Call) (a b : Merging) (among : Contai
       let was = subst (IsAmong e) same_shared m in
       shared_taken e n was (sym ((rests.stops kept_then).identifiers e (shared_stands (state_of taken) kept_then e was)) ∙ is)
 
-  served_now : (d : Call) → Contains (more front call) d → (i : ImportContent) × LeadsTo b.imports d.name i × Fits (item_tree b.types i.1) (call_tree d)
+  served_now : (d : Call) → Contains (more front call) d → (i : ImportContent) × NameLeadsTo b.imports d.name i × Fits (item_tree b.types i.1) (call_tree d)
   served_now d m = elim (either front call d m) [
     | inl old ↦ by_old old
-    | inr is ↦ subst (λ d. (i : ImportContent) × LeadsTo b.imports d.name i × Fits (item_tree b.types i.1) (call_tree d)) is
+    | inr is ↦ subst (λ d. (i : ImportContent) × NameLeadsTo b.imports d.name i × Fits (item_tree b.types i.1) (call_tree d)) is
         ((placed.as_name, h.import), leads-new a.imports taken.imports b.imports call.name h.import placed h.takes.stays, fits_item call a b may filed_a filed_b h)
   ]
     where
-      by_old : Contains front d → (i : ImportContent) × LeadsTo b.imports d.name i × Fits (item_tree b.types i.1) (call_tree d)
+      by_old : Contains front d → (i : ImportContent) × NameLeadsTo b.imports d.name i × Fits (item_tree b.types i.1) (call_tree d)
       by_old old =
           let r = s.served d old in
           let j = leads_below call a b may filed_a filed_b h d.name r.0 r.1 in
@@ -238,7 +238,7 @@ module _ (calls front : List Call) (call : Call) (a b : Merging) (among : Contai
     | inr is ↦ owner_imported call a b may filed_a filed_b h (s.owners f is_one) item t (subst (λ d. OwnsOn d t) (sym is) o)
   ]
 
-  pub advances_served : AreServed calls (more front call) b
+  pub advances_served : AreCallsServed calls (more front call) b
   advances_served = record {
     truly = λ g is. runs.truly may.kept g (λ e. is call among e) (s.truly g is);
     owners = λ g is. owners_after call a b may filed_a filed_b h g (λ e. is call among e) (s.owners g is);
@@ -250,7 +250,7 @@ module _ (calls front : List Call) (call : Call) (a b : Merging) (among : Contai
 
 -- ---- the first call, and the last
 
-pub none_served : (calls : List Call) (a : Merging) → ((k : Key) → (state_of a).taken k ≡ None) → ((k : Key) → (state_of a).copies k ≡ None) → ((q : Class) → import_of a.imports q ≡ None) → a.shared.entries ≡ [] → AreServed calls [] a
+pub none_served : (calls : List Call) (a : Merging) → ((k : Key) → (state_of a).taken k ≡ None) → ((k : Key) → (state_of a).copies k ≡ None) → ((q : Class) → import_of a.imports q ≡ None) → a.shared.entries ≡ [] → AreCallsServed calls [] a
 none_served calls a taken copies imports shared = record {
   truly = λ g is. record {
     taken = λ k o at number. absurd (let no : None ≡ Some o = sym (taken k) ∙ at in cc);
@@ -267,7 +267,7 @@ none_served calls a taken copies imports shared = record {
     no_key : {e : Key} → IsAmong e [] → ⊥
     no_key m = elim m [ ]
 
-module _ (calls front : List Call) (a : Merging) (filed : AreFiled a.imports) (s : AreServed calls front a) where
+module _ (calls front : List Call) (a : Merging) (filed : AreFiled a.imports) (s : AreCallsServed calls front a) where
   all_served : AllAreServed front (shown (content_of a))
   all_served c d m n on =
       let theirs = s.served c m in
@@ -275,20 +275,20 @@ module _ (calls front : List Call) (a : Merging) (filed : AreFiled a.imports) (s
       let same : theirs.0 ≡ i.0 = let both : Some theirs.0 ≡ Some i.0 = sym theirs.1.import ∙ ap (import_of a.imports) (sym on) ∙ i.1.import in cc in
       record {
         import = i.0.1;
-        is_import = found-of a.imports filed c.name i.0 (subst (LeadsTo a.imports c.name) same theirs.1);
+        is_import = found-of a.imports filed c.name i.0 (subst (NameLeadsTo a.imports c.name) same theirs.1);
         fits = i.2;
       }
 
-  names : AreImportNames front (keys_of (listed a.imports))
+  names : AreImportNames front (keys_of (listed_imports a.imports))
   names = record {
-    named = λ k d l. by_name (slice_index_or (keys_of (listed a.imports)) k d) (Contains-get_or (keys_of (listed a.imports)) k d l);
+    named = λ k d l. by_name (slice_index_or (keys_of (listed_imports a.imports)) k d) (Contains-get_or (keys_of (listed_imports a.imports)) k d l);
     one_each = subst (IsDistinct class_eq) (sym (classes_listed a.imports filed)) filed.distinct;
     all_due = λ t due. subst (λ cs. Contains cs t) (sym (classes_listed a.imports filed)) (Contains-keys_from_lookup (λ x y e. (classes_decided x y).0 e) t a.imports.list (has_import t due));
   }
     where
-      by_name : (n : Text) → Contains (keys_of (listed a.imports)) n → IsImportName front n
+      by_name : (n : Text) → Contains (keys_of (listed_imports a.imports)) n → IsImportName front n
       by_name n m =
-          let i = of_key n (listed a.imports) m in
+          let i = of_key n (listed_imports a.imports) m in
           subst (IsImportName front) i.2 (s.names (class_of i.0.0) i.0 (of_Contains a.imports filed i.0 i.1))
         where
           of_key : (n : Text) (es : List ImportContent) → Contains (keys_of es) n → (i : ImportContent) × Contains es i × (i.0 ≡ n)

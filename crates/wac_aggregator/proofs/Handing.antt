@@ -8,29 +8,29 @@ use Rattle.wac_component.specs.declared.items.ItemKind.{ItemKind}
 use Rattle.std.specs.List.{Contains}
 use Rattle.wac_model.specs.Text.{Text}
 use Rattle.wac_names.specs.Class.{Class, class_of}
-use Rattle.wac_narrowing.specs.Remembers.{RemembersTruly}
-use Rattle.wac_narrowing.specs.State.{IsOneWith}
-use Rattle.wac_call_lists.specs.Aggregated.{IsStep, track_imports}
-use Rattle.wac_call_lists.specs.Attempt.{single_attempt}
-use Rattle.wac_call_lists.specs.Call.{Call, call_track}
-use Rattle.wac_call_lists.specs.Due.{OwnsOn}
-use Rattle.wac_call_lists.specs.Imported.{track_names, ImportsAfter}
-use Rattle.wac_call_lists.specs.PlainList.{IsPlain}
-use Rattle.wac_call_lists.specs.PlainRun.{IsPlainStep, IsPlainRefusal}
-use Rattle.wac_call_lists.specs.Holding.{HoldsNoOthers}
-use Rattle.wac_call_lists.specs.Reason.{IsReason}
-use Rattle.wac_refusals.specs.declared.error.AggregateError.{AggregateError}
-use Rattle.wac_refusals.specs.declared.error.AggregateError.TheVariants.{Memory}
-use Rattle.wac_imports.specs.Import.{AreFiled}
-use Rattle.wac_imports.specs.Left.{listed}
-use Rattle.wac_imports.proofs.Listed.{of_Contains}
-use Rattle.wac_refusals.specs.Said.{said}
-use Rattle.wac_taking.specs.Refused.{HasReason}
-use Rattle.wac_taking.specs.Takes.{state_of, MayTake, OwnersImported}
-use Rattle.wac_taking.specs.declared.state.Merging.{Merging}
+use Rattle.wac_aggregator_narrowing.specs.Remembers.{RemembersTruly}
+use Rattle.wac_aggregator_narrowing.specs.State.{IsOneWith}
+use Rattle.wac_aggregator_promises.specs.Aggregated.{IsCallStep, track_imports}
+use Rattle.wac_aggregator_promises.specs.Attempt.{single_attempt}
+use Rattle.wac_aggregator_promises.specs.Call.{Call, call_track}
+use Rattle.wac_aggregator_promises.specs.Due.{OwnsOn}
+use Rattle.wac_aggregator_promises.specs.Imported.{track_names, ImportsAfter}
+use Rattle.wac_aggregator_promises.specs.PlainList.{IsPlain}
+use Rattle.wac_aggregator_promises.specs.PlainRun.{IsPlainStep, IsPlainRefusal}
+use Rattle.wac_aggregator_promises.specs.Holding.{HoldsNoOthers}
+use Rattle.wac_aggregator_promises.specs.Reason.{IsReason}
+use Rattle.wac_aggregator_errors.specs.declared.error.AggregateError.{AggregateError}
+use Rattle.wac_aggregator_errors.specs.declared.error.AggregateError.TheVariants.{Memory}
+use Rattle.wac_aggregator_imports.specs.Import.{AreFiled}
+use Rattle.wac_aggregator_imports.specs.Left.{listed_imports}
+use Rattle.wac_aggregator_imports.proofs.Listed.{of_Contains}
+use Rattle.wac_aggregator_errors.specs.Said.{said}
+use Rattle.wac_aggregator_taking.specs.Refused.{HasReason}
+use Rattle.wac_aggregator_taking.specs.Takes.{state_of, MayTake, OwnersImported}
+use Rattle.wac_aggregator_taking.specs.declared.state.Merging.{Merging}
 use Rattle.wac_aggregator.specs.Advances.{attempt_at, Advances, IsRefusedCall, MayTry}
 use Rattle.wac_aggregator.specs.Content.{AggregatorContent, shown, content_of, state_in}
-use Rattle.wac_aggregator.specs.InOrder.{IsInOrder}
+use Rattle.wac_aggregator.specs.InOrder.{IsMergingInOrder}
 use Rattle.wac_aggregator.proofs.Advancing.{at_of, run, advances_step}
 use Rattle.wac_aggregator.proofs.Held.{holds_no_others}
 use Rattle.wac_aggregator.proofs.Listing.{advances_in_order, advances_number}
@@ -39,7 +39,7 @@ use Rattle.wac_aggregator.proofs.Imported.{track_name, imports_after, owner_impo
 use Rattle.wac_aggregator.proofs.Remembering.{truly_in, truly_of, owners_in, owners_of}
 
 -- each import stands
-pub imports_stand : (a : Merging) → IsInOrder a → (n : Text) (k : ItemKind) → Contains (listed a.imports) (n, k) → AllStand a.types (item_keys k)
+pub imports_stand : (a : Merging) → IsMergingInOrder a → (n : Text) (k : ItemKind) → Contains (listed_imports a.imports) (n, k) → AllStand a.types (item_keys k)
 imports_stand a h n k m = h.kept.imports n k (at_of a.imports n (n, k) (of_Contains a.imports h.imports (n, k) m))
 
 -- what refuses a call that may be tried is a reason, by the imports that are shown
@@ -49,7 +49,7 @@ refused_reason call a filed try e h = by (track_import a (call_track call) filed
     by : track_imports (shown (content_of a)) (call_track call) ≡ (attempt_at call a).import → HasReason (single_attempt a.types (track_imports (shown (content_of a)) (call_track call)) call) e
     by same r says = subst (λ import. IsReason (single_attempt a.types import call) r) (sym same) ((h (λ memory. let no : None ≡ Some r = sym (ap said memory) ∙ says in absurd (cc))).reason try r says)
 
-module _ (call : Call) (inside : Merging) (told : SubtypeCheck) (before : AggregatorContent) (is : content_of inside ≡ before) (order : IsInOrder inside) (apart : call.types.number ≢ before.types.number) (truly : RemembersTruly class_of call.types (state_in before)) where
+module _ (call : Call) (inside : Merging) (told : SubtypeCheck) (before : AggregatorContent) (is : content_of inside ≡ before) (order : IsMergingInOrder inside) (apart : call.types.number ≢ before.types.number) (truly : RemembersTruly class_of call.types (state_in before)) where
   abbrev a : Merging
   a = record inside { check = told }
 
@@ -60,14 +60,14 @@ module _ (call : Call) (inside : Merging) (told : SubtypeCheck) (before : Aggreg
   call_try sound item = record { sound = record { sound = sound; stands = item }; held = order.held; split = order.split }
 
   module _ (b : Merging) (filed : AreFiled b.imports) (h : Advances call a b) where
-    pub call_in_order : IsSound call.types → AllStand call.types (item_keys call.kind) → IsInOrder b
+    pub call_in_order : IsSound call.types → AllStand call.types (item_keys call.kind) → IsMergingInOrder b
     call_in_order sound item = advances_in_order call a b call_may (call_try sound item) order.identified order.imports filed h
 
     pub call_number : b.types.number ≡ before.types.number
     call_number = advances_number call a b call_may order.imports filed h ∙ ap (λ (s : AggregatorContent). s.types.number) is
 
-    pub call_step : IsStep (shown before) (shown (content_of b)) call
-    call_step = subst (λ s. IsStep (shown s) (shown (content_of b)) call) is (advances_step call a b call_may order.imports filed h)
+    pub call_step : IsCallStep (shown before) (shown (content_of b)) call
+    call_step = subst (λ s. IsCallStep (shown s) (shown (content_of b)) call) is (advances_step call a b call_may order.imports filed h)
 
     pub call_truly : (g : Collection) → IsOneWith call.types g → RemembersTruly class_of g (state_in before) → RemembersTruly class_of g (state_in (content_of b))
     call_truly g one t = truly_in g b ((run call a b call_may order.imports filed h).truly order.kept g one (truly_of g inside (subst (λ s. RemembersTruly class_of g (state_in s)) (sym is) t)))

@@ -8,24 +8,24 @@ use Rattle.wac_component.specs.Open.{OpenReaches, stay}
 use Rattle.wac_component.specs.Reach.{IsAmong}
 use Rattle.wac_component.proofs.Among.{Contains-first}
 use Rattle.wac_names.specs.Class.{Class, class_of}
-use Rattle.wac_narrowing.specs.Remembers.{RemembersTruly}
-use Rattle.wac_narrowing.specs.State.{Runs}
-use Rattle.wac_call_lists.specs.Attempt.{IsHeld}
-use Rattle.wac_call_lists.specs.Call.{Call}
-use Rattle.wac_call_lists.specs.Holding.{HoldsOn, ReachesOn, HoldsNoOthers, HoldsReached}
-use Rattle.wac_imports.specs.Import.{AreFiled}
-use Rattle.wac_reasons.specs.Sharing.{AreHeld, of_shared}
-use Rattle.wac_reasons.specs.Split.{AreSharedOrBelow, AddsSharedOrBelow}
-use Rattle.wac_reasons.proofs.SharedOrBelow.{adds_then, added_all}
-use Rattle.wac_taking.specs.Takes.{shared_keys, state_of, MayTake, IsSharedFrom}
-use Rattle.wac_taking.specs.declared.state.Merging.{Merging}
-use Rattle.wac_taking.proofs.Identifiers.{is_interface, has_identifier, identifier_of}
-use Rattle.wac_taking.proofs.TakeLemmas.{shared_stands}
+use Rattle.wac_aggregator_narrowing.specs.Remembers.{RemembersTruly}
+use Rattle.wac_aggregator_narrowing.specs.State.{RunsTaking}
+use Rattle.wac_aggregator_promises.specs.Attempt.{IsHeld}
+use Rattle.wac_aggregator_promises.specs.Call.{Call}
+use Rattle.wac_aggregator_promises.specs.Holding.{HoldsOn, ReachesOn, HoldsNoOthers, HoldsReached}
+use Rattle.wac_aggregator_imports.specs.Import.{AreFiled}
+use Rattle.wac_aggregator_reasons.specs.Sharing.{AreHeld, of_shared}
+use Rattle.wac_aggregator_reasons.specs.Split.{AreSharedOrBelow, AddsSharedOrBelow}
+use Rattle.wac_aggregator_reasons.proofs.SharedOrBelow.{adds_then, added_all}
+use Rattle.wac_aggregator_taking.specs.Takes.{shared_keys, state_of, MayTake, IsSharedFrom}
+use Rattle.wac_aggregator_taking.specs.declared.state.Merging.{Merging}
+use Rattle.wac_aggregator_taking.proofs.Identifiers.{is_interface, has_identifier, identifier_of}
+use Rattle.wac_aggregator_taking.proofs.TakeLemmas.{shared_stands}
 use Rattle.wac_aggregator.specs.Advances.{Advances}
 use Rattle.wac_aggregator.proofs.Advancing.{run, rest, taken_kept}
 
 module _ (call : Call) (a b : Merging) (may : MayTake call.types a) (filed_a : AreFiled a.imports) (filed_b : AreFiled b.imports) (h : Advances call a b) where
-  rests : Runs (RemembersTruly class_of) call.types (state_of h.taken) (state_of b)
+  rests : RunsTaking (RemembersTruly class_of) call.types (state_of h.taken) (state_of b)
   rests = rest call a b may filed_a filed_b h
 
   -- where the import is met with the item, nothing with an identifier is added

@@ -10,18 +10,18 @@ use Rattle.wac_component.specs.declared.items.ItemKind.TheVariants.{Instance}
 use Rattle.wac_component.proofs.Among.{among_each}
 use Rattle.wac_names.specs.Class.{Class, class_of, class_eq}
 use Rattle.wac_names.proofs.Classes.{classes_decided}
-use Rattle.wac_narrowing.specs.State.{IsKept, IsOneWith}
-use Rattle.wac_narrowing.proofs.Mapped.{taken_of}
-use Rattle.wac_call_lists.specs.Call.{Call, call_track}
-use Rattle.wac_call_lists.specs.Due.{OwnsOn, IsHigher}
-use Rattle.wac_call_lists.specs.Imported.{track_names, IsNamedAfter, new, raised, kept, ImportsOwner, ImportsAfter}
-use Rattle.wac_imports.specs.Import.{ImportContent, import_of, import_at, AreFiled, PutsImport, IsNoted, stays, leads, raises}
-use Rattle.wac_imports.proofs.Listed.{classes_listed, listed_of}
-use Rattle.wac_taking.specs.Takes.{state_of, MayTake, OwnersImported, LeadsToOwner, IsOwnersImport}
-use Rattle.wac_taking.specs.declared.state.Merging.{Merging}
-use Rattle.wac_taking.proofs.Identifiers.{has_identifier, identifier_of}
-use Rattle.wac_taking.proofs.TakeLemmas.{shared_stands}
-use Rattle.wac_aggregator.specs.Advances.{IsPlaced, Advances, added, noted}
+use Rattle.wac_aggregator_narrowing.specs.State.{IsStateKept, IsOneWith}
+use Rattle.wac_aggregator_narrowing.proofs.Mapped.{taken_of}
+use Rattle.wac_aggregator_promises.specs.Call.{Call, call_track}
+use Rattle.wac_aggregator_promises.specs.Due.{OwnsOn, IsHigher}
+use Rattle.wac_aggregator_promises.specs.Imported.{track_names, IsNamedAfter, new, raised, kept, ImportsOwner, ImportsAfter}
+use Rattle.wac_aggregator_imports.specs.Import.{ImportContent, import_of, import_at, AreFiled, PutsImport, IsImportNoted, stays, leads, raises}
+use Rattle.wac_aggregator_imports.proofs.Listed.{classes_listed, listed_of}
+use Rattle.wac_aggregator_taking.specs.Takes.{state_of, MayTake, OwnersImported, LeadsToOwner, IsOwnersImport}
+use Rattle.wac_aggregator_taking.specs.declared.state.Merging.{Merging}
+use Rattle.wac_aggregator_taking.proofs.Identifiers.{has_identifier, identifier_of}
+use Rattle.wac_aggregator_taking.proofs.TakeLemmas.{shared_stands}
+use Rattle.wac_aggregator.specs.Advances.{IsImportPlaced, Advances, added, noted}
 use Rattle.wac_aggregator.specs.Content.{shown, content_of}
 use Rattle.wac_aggregator.proofs.Advancing.{placing, rest, taken_kept, at_of, of_at}
 use Rattle.wac_aggregator.proofs.Leading.{PlacedAs, placed_other, placed_still, puts_here, some_is}
@@ -56,7 +56,7 @@ module _ (call : Call) (a b : Merging) (may : MayTake call.types a) (filed_a : A
   name_at m t i filed at = track_name m t filed ∙ ap (option_map (λ (j : ImportContent). j.0)) at
 
   -- on the track of the call
-  named_here : IsPlaced a.imports h.taken.imports b.imports call.name h.import → (name : Text) × (track_names (shown (content_of b)) c ≡ Some name) × IsNamedAfter call.name (track_names (shown (content_of a)) c) name
+  named_here : IsImportPlaced a.imports h.taken.imports b.imports call.name h.import → (name : Text) × (track_names (shown (content_of b)) c ≡ Some name) × IsNamedAfter call.name (track_names (shown (content_of a)) c) name
   named_here (added none absent puts led) =
       (call.name, name_at b c (call.name, h.import) filed_b (puts_here h.taken.imports b.imports c (call.name, h.import) puts), subst (λ o. IsNamedAfter call.name o call.name) (sym (track_name a c filed_a ∙ ap (option_map (λ (j : ImportContent). j.0)) none)) new)
   named_here (noted i stood is_noted) = by is_noted
@@ -67,7 +67,7 @@ module _ (call : Call) (a b : Merging) (may : MayTake call.types a) (filed_a : A
       was : (n : Text) → IsNamedAfter call.name (Some i.0) n → IsNamedAfter call.name (track_names (shown (content_of a)) c) n
       was n k = subst (λ o. IsNamedAfter call.name o n) (sym (name_at a c i filed_a stood)) k
 
-      by : IsNoted h.taken.imports b.imports c i.0 call.name h.import → (name : Text) × (track_names (shown (content_of b)) c ≡ Some name) × IsNamedAfter call.name (track_names (shown (content_of a)) c) name
+      by : IsImportNoted h.taken.imports b.imports c i.0 call.name h.import → (name : Text) × (track_names (shown (content_of b)) c ≡ Some name) × IsNamedAfter call.name (track_names (shown (content_of a)) c) name
       by (stays is puts led) = (i.0, now i.0 puts, was i.0 (kept (subst (λ n. ¬ (IsHigher n i.0)) (sym is) (not_higher-self i.0))))
       by (leads old puts led) = (i.0, now i.0 puts, was i.0 (kept (not_higher-old call.name i.0 old)))
       by (raises newer puts led) = (call.name, now call.name puts, was call.name (raised (higher-newer call.name i.0 newer)))
@@ -111,7 +111,7 @@ module _ (call : Call) (a b : Merging) (may : MayTake call.types a) (filed_a : A
             (((rest call a b may filed_a filed_b h).stops kept_then).identifiers (interface_key owner.entry) (shared_stands (state_of h.taken) kept_then (interface_key owner.entry) owner.is_shared) ∙ owner.named);
       }
         where
-          kept_then : IsKept (state_of h.taken)
+          kept_then : IsStateKept (state_of h.taken)
           kept_then = taken_kept call a b may filed_a filed_b h
 
   pub imports_after : ImportsAfter (shown (content_of a)) (shown (content_of b)) call

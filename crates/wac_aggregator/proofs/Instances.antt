@@ -10,8 +10,8 @@ use Rattle.wac_component.specs.declared.items.ItemKind.{ItemKind}
 use Rattle.wac_component.specs.declared.items.ItemKind.TheVariants.{«Type» as OfType, Func, Instance, Component, Module, Value}
 use Rattle.wac_component.specs.declared.items.Type.TheVariants.{Resource as TypeResource, Func as TypeFunc, Value as TypeValue, Interface as TypeInterface, World as TypeWorld, Module as TypeModule}
 use Rattle.wac_names.specs.Class.{class_of}
-use Rattle.wac_narrowing.specs.State.{State}
-use Rattle.wac_narrowing.specs.Taking.{AreTakenKeys, one_key, IsTakenKey}
+use Rattle.wac_aggregator_narrowing.specs.State.{State}
+use Rattle.wac_aggregator_narrowing.specs.Taking.{AreTakenKeys, one_key, IsTakenKey}
 
 -- an item with the tree of an interface is an instance of one, as is
 -- what fits where one is asked for

@@ -6,12 +6,12 @@ use Rattle.wac_model.specs.Text.{Text, lookup}
 use Rattle.wac_component.specs.declared.items.ItemKind.{ItemKind}
 use Rattle.wac_names.specs.Class.{Class, class_eq, class_of}
 use Rattle.wac_names.proofs.Classes.{classes_decided}
-use Rattle.wac_imports.specs.Import.{ImportContent, ImportsContent, import_of, led_of, canonical, AreFiled, PutsImport, PutsName, stays, leads, raises}
-use Rattle.wac_imports.specs.Left.{listed}
-use Rattle.wac_imports.proofs.Filed.{canonical-self, canonical-led}
-use Rattle.wac_imports.proofs.Listed.{listed_of, of_listed}
-use Rattle.wac_aggregator.specs.Advances.{IsPlaced, added, noted}
-use Rattle.wac_aggregator.specs.Served.{LeadsTo}
+use Rattle.wac_aggregator_imports.specs.Import.{ImportContent, ImportsContent, import_of, led_of, canonical, AreFiled, PutsImport, PutsName, stays, leads, raises}
+use Rattle.wac_aggregator_imports.specs.Left.{listed_imports}
+use Rattle.wac_aggregator_imports.proofs.Filed.{canonical-self, canonical-led}
+use Rattle.wac_aggregator_imports.proofs.Listed.{listed_of, of_listed}
+use Rattle.wac_aggregator.specs.Advances.{IsImportPlaced, added, noted}
+use Rattle.wac_aggregator.specs.Served.{NameLeadsTo}
 
 pub some_is : {A : Type 0} (o : Option A) → IsSome o → (a : A) × (o ≡ Some a)
 some_is None h = absurd (let no : false ≡ true = h in cc)
@@ -22,7 +22,7 @@ same_some x y h = cc
 
 module _ (is : ImportsContent) (filed : AreFiled is) where
   -- then it is canonical for the name
-  pub canonical-of : (n : Text) (i : ImportContent) → LeadsTo is n i → canonical is n ≡ i.0
+  pub canonical-of : (n : Text) (i : ImportContent) → NameLeadsTo is n i → canonical is n ≡ i.0
   canonical-of n i h = by (led_of is n) refl h.leads
     where
       by : (o : Option Class) → led_of is n ≡ o → (n ≡ i.0) ⊎ IsSome (led_of is n) → canonical is n ≡ i.0
@@ -33,10 +33,10 @@ module _ (is : ImportsContent) (filed : AreFiled is) where
       by None at (inr led) = absurd (let no : false ≡ true = subst (λ (o : Option Class). IsSome o) at led in cc)
 
   -- and found under the canonical name
-  pub found-of : (n : Text) (i : ImportContent) → LeadsTo is n i → lookup bytes_eq (listed is) (canonical is n) ≡ Some i.1
+  pub found-of : (n : Text) (i : ImportContent) → NameLeadsTo is n i → lookup bytes_eq (listed_imports is) (canonical is n) ≡ Some i.1
   found-of n i h =
       let on : class_of i.0 ≡ class_of n = filed.imports (class_of n) i h.import in
-      ap (lookup bytes_eq (listed is)) (canonical-of n i h) ∙ listed_of is filed i.0 i.1 (ap (import_of is) on ∙ h.import)
+      ap (lookup bytes_eq (listed_imports is)) (canonical-of n i h) ∙ listed_of is filed i.0 i.1 (ap (import_of is) on ∙ h.import)
 
   -- the canonical name is on the track of the name
   pub canonical-track : (n : Text) → class_of (canonical is n) ≡ class_of n
@@ -49,7 +49,7 @@ module _ (is : ImportsContent) (filed : AreFiled is) where
           ap class_of (sym (canonical-led is n q was.1.0 at was.1.1)) ∙ filed.imports q was.1.0 was.1.1 ∙ sym was.0
 
   -- what is found under the canonical name is where the name leads
-  pub leads-from : (n : Text) (x : ItemKind) → lookup bytes_eq (listed is) (canonical is n) ≡ Some x → LeadsTo is n (canonical is n, x)
+  pub leads-from : (n : Text) (x : ItemKind) → lookup bytes_eq (listed_imports is) (canonical is n) ≡ Some x → NameLeadsTo is n (canonical is n, x)
   leads-from n x h = record { import = ap (import_of is) (sym (canonical-track n)) ∙ of_listed is filed (canonical is n) x h; leads = by (led_of is n) refl }
     where
       by : (o : Option Class) → led_of is n ≡ o → (n ≡ canonical is n) ⊎ IsSome (led_of is n)
@@ -95,7 +95,7 @@ module _ (a taken b : ImportsContent) (same : taken.led ≡ a.led) (name : Text)
   none_taken : (n : Text) → led_of a n ≡ None → led_of taken n ≡ None
   none_taken n h = led_same a taken n same ∙ h
 
-  pub placed_as : IsPlaced a taken b name k → PlacedAs a taken b name k
+  pub placed_as : IsImportPlaced a taken b name k → PlacedAs a taken b name k
   placed_as (added before none puts led) = record {
     as_name = name;
     puts = puts;
@@ -150,7 +150,7 @@ module _ (a taken b : ImportsContent) (name : Text) (k : ItemKind) (p : PlacedAs
       by true e = ((p.as_name, k), ap (import_of b) (sym ((classes_decided (class_of name) q).0 e)) ∙ placed_here)
       by false e = (i, placed_other q e ∙ at)
 
-  pub leads-on : (n : Text) (i j : ImportContent) → LeadsTo a n i → import_of b (class_of n) ≡ Some j → LeadsTo b n j
+  pub leads-on : (n : Text) (i j : ImportContent) → NameLeadsTo a n i → import_of b (class_of n) ≡ Some j → NameLeadsTo b n j
   leads-on n i j h at = record {
     import = at;
     leads = elim h.leads [
@@ -171,14 +171,14 @@ module _ (a taken b : ImportsContent) (name : Text) (k : ItemKind) (p : PlacedAs
           let j_is : i ≡ j = same_some i j (sym (keeps (class_of n) i h.import) ∙ sym (placed_other (class_of n) e) ∙ at) in
           inl (is ∙ ap (λ (x : ImportContent). x.0) j_is)
 
-  pub leads-new : LeadsTo b name (p.as_name, k)
+  pub leads-new : NameLeadsTo b name (p.as_name, k)
   leads-new = record { import = placed_here; leads = p.new }
 
   -- a name that led to no import leads to itself, unless it is the one handed in
-  pub canonical-other : AreFiled a → (n : Text) → lookup bytes_eq (listed a) (canonical a n) ≡ None → ¬ (n ≡ name) → canonical b n ≡ n
+  pub canonical-other : AreFiled a → (n : Text) → lookup bytes_eq (listed_imports a) (canonical a n) ≡ None → ¬ (n ≡ name) → canonical b n ≡ n
   canonical-other filed n none other = sym (canonical-self b n (p.quiet n (by (led_of a n) refl) other (λ i at is. no_import i at is)))
     where
-      none_at : (i : ImportContent) → LeadsTo a n i → ⊥
+      none_at : (i : ImportContent) → NameLeadsTo a n i → ⊥
       none_at i h = let no : None ≡ Some i.1 = sym none ∙ found-of a filed n i h in cc
 
       by : (o : Option Class) → led_of a n ≡ o → led_of a n ≡ None

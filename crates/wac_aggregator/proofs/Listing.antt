@@ -7,21 +7,21 @@ use Rattle.std.specs.Option.{option_map}
 use Rattle.wac_component.specs.Key.{AllStand, item_keys}
 use Rattle.wac_component.specs.Sound.{IsSound}
 use Rattle.wac_component.proofs.Lists.{slice_get-map}
-use Rattle.wac_call_lists.specs.Call.{Call}
-use Rattle.wac_imports.specs.Import.{AreFiled}
+use Rattle.wac_aggregator_promises.specs.Call.{Call}
+use Rattle.wac_aggregator_imports.specs.Import.{AreFiled}
 use Rattle.wac_names.specs.Class.{class_of}
-use Rattle.wac_narrowing.specs.Remembers.{RemembersTruly}
-use Rattle.wac_narrowing.specs.State.{IsKept, Runs}
-use Rattle.wac_reasons.specs.Trial.{IsAccounted}
-use Rattle.wac_reasons.specs.Split.{AreSharedOrBelow}
-use Rattle.wac_taking.specs.Takes.{state_of, AreFiledIn, MayTake}
-use Rattle.wac_taking.specs.declared.state.Merging.{Merging}
-use Rattle.wac_taking.proofs.TakeLemmas.{AreFiledIn-run}
-use Rattle.wac_reasons.proofs.Starting.{held_after}
+use Rattle.wac_aggregator_narrowing.specs.Remembers.{RemembersTruly}
+use Rattle.wac_aggregator_narrowing.specs.State.{IsStateKept, RunsTaking}
+use Rattle.wac_aggregator_reasons.specs.Trial.{IsAccounted}
+use Rattle.wac_aggregator_reasons.specs.Split.{AreSharedOrBelow}
+use Rattle.wac_aggregator_taking.specs.Takes.{state_of, AreFiledIn, MayTake}
+use Rattle.wac_aggregator_taking.specs.declared.state.Merging.{Merging}
+use Rattle.wac_aggregator_taking.proofs.TakeLemmas.{AreFiledIn-run}
+use Rattle.wac_aggregator_reasons.proofs.Starting.{held_after}
 use Rattle.wac_aggregator.specs.Advances.{attempt_at, Advances, MayTry}
 use Rattle.wac_aggregator.specs.HandedIn.{called, handed_in}
-use Rattle.wac_aggregator.specs.Served.{AreServed}
-use Rattle.wac_aggregator.specs.InOrder.{IsInOrder}
+use Rattle.wac_aggregator.specs.Served.{AreCallsServed}
+use Rattle.wac_aggregator.specs.InOrder.{IsMergingInOrder}
 use Rattle.wac_aggregator.specs.declared.all.Call.{Call as Handed}
 use Rattle.wac_aggregator.proofs.Advancing.{run, rest, taken_kept, call_accounts}
 use Rattle.wac_aggregator.proofs.Front.{advances_served}
@@ -40,22 +40,22 @@ pub called_at : (calls : List Handed) (i : ℕ) (x : Handed) → i < length call
 called_at calls i x l is = slice_get-map called calls i ∙ ap (option_map called) (slice_get-get_or calls i x l ∙ ap (λ y. Some y) (sym is))
 
 -- a call of a sound collection may be tried
-pub may_try : (call : Call) (a : Merging) → IsSound call.types → AllStand call.types (item_keys call.kind) → IsInOrder a → MayTry call a
+pub may_try : (call : Call) (a : Merging) → IsSound call.types → AllStand call.types (item_keys call.kind) → IsMergingInOrder a → MayTry call a
 may_try call a sound item order = record { sound = record { sound = sound; stands = item }; held = order.held; split = order.split }
 
 -- the state is in order after a call
-pub advances_in_order : (call : Call) (a b : Merging) → MayTake call.types a → MayTry call a → AreSharedOrBelow (state_of a) → AreFiled a.imports → AreFiled b.imports → Advances call a b → IsInOrder b
+pub advances_in_order : (call : Call) (a b : Merging) → MayTake call.types a → MayTry call a → AreSharedOrBelow (state_of a) → AreFiled a.imports → AreFiled b.imports → Advances call a b → IsMergingInOrder b
 advances_in_order call a b may try order filed_a filed_b h = record {
   kept = kept_b;
   filed = subst (λ (m : Merging). AreFiledIn m.types m.shared.entries) (sym h.same) (AreFiledIn-run call.types (state_of h.taken) (state_of (record h.taken { types = b.types; imports = b.imports })) h.taken.shared.entries (taken_kept call a b may filed_a filed_b h) refl
-      (subst (λ (m : Merging). Runs (RemembersTruly class_of) call.types (state_of h.taken) (state_of m)) h.same (rest call a b may filed_a filed_b h)) h.takes.filed);
+      (subst (λ (m : Merging). RunsTaking (RemembersTruly class_of) call.types (state_of h.taken) (state_of m)) h.same (rest call a b may filed_a filed_b h)) h.takes.filed);
   imports = filed_b;
   held = held_after (attempt_at call a) (state_of b) kept_b now;
   split = now.split;
   identified = identified_after call a b may filed_a filed_b h order;
 }
   where
-    kept_b : IsKept (state_of b)
+    kept_b : IsStateKept (state_of b)
     kept_b = (run call a b may filed_a filed_b h).kept may.kept
 
     now : IsAccounted (attempt_at call a) (state_of b)
@@ -67,12 +67,12 @@ advances_number call a b may filed_a filed_b h = ((run call a b may filed_a file
 
 module _ (calls : List Call) (number : ℕ) (one : (c d : Call) → Contains calls c → Contains calls d → c.types.number ≡ d.types.number → c.types ≡ d.types) (apart : (c : Call) → Contains calls c → c.types.number ≢ number) where
   -- what a call finds
-  pub may_take : (front : List Call) (call : Call) (a : Merging) → Contains calls call → a.types.number ≡ number → IsInOrder a → AreServed calls front a → MayTake call.types a
+  pub may_take : (front : List Call) (call : Call) (a : Merging) → Contains calls call → a.types.number ≡ number → IsMergingInOrder a → AreCallsServed calls front a → MayTake call.types a
   may_take front call a among number_is order s = record { apart = λ e. apart call among (e ∙ number_is); kept = order.kept; truly = s.truly call.types (λ c m. one call c among m); filed = order.filed }
 
   -- what it leaves
-  pub one_more : (i : ℕ) (call : Call) (a b : Merging) → slice_get calls i ≡ Some call → AllStand call.types (item_keys call.kind) → AreFiled b.imports → a.types.number ≡ number → IsInOrder a → AreServed calls (take i calls) a → Advances call a b → AreServed calls (take (suc i) calls) b
+  pub one_more : (i : ℕ) (call : Call) (a b : Merging) → slice_get calls i ≡ Some call → AllStand call.types (item_keys call.kind) → AreFiled b.imports → a.types.number ≡ number → IsMergingInOrder a → AreCallsServed calls (take i calls) a → Advances call a b → AreCallsServed calls (take (suc i) calls) b
   one_more i call a b at item filed_b number_is order s h =
       let among = Contains-at calls i call at in
-      subst (λ front. AreServed calls front b) (sym (take-next calls i call at))
+      subst (λ front. AreCallsServed calls front b) (sym (take-next calls i call at))
       (advances_served calls (take i calls) call a b among (λ c m. one call c among m) (may_take (take i calls) call a among number_is order s) item order.imports filed_b s h)

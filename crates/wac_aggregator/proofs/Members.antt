@@ -17,33 +17,33 @@ use Rattle.wac_component.proofs.Extended.{Extends-refl}
 use Rattle.wac_merge.specs.Built.{OnlyBuilds, AreOnes, first}
 use Rattle.wac_merge.specs.declared.memo.Bound.TheVariants.{Meet}
 use Rattle.wac_names.specs.Class.{Class, class_of}
-use Rattle.wac_call_lists.specs.Call.{Call, call_track}
-use Rattle.wac_call_lists.specs.Shared.{Taken}
-use Rattle.wac_call_lists.proofs.TakenIn.{sharing_goes_on}
-use Rattle.wac_imports.specs.Import.{ImportContent, import_of}
-use Rattle.wac_narrowing.specs.State.{IsKept}
-use Rattle.wac_narrowing.specs.Taking.{IsTakenKey, IsTakenItem, AreTakenKeys}
-use Rattle.wac_narrowing.specs.Traced.{Arrows}
-use Rattle.wac_narrowing.proofs.Tracing.{traced_added}
-use Rattle.wac_taking.specs.Growing.{StepsOn, IsMetWith}
-use Rattle.wac_call_lists.specs.Reason.{Refusal}
-use Rattle.wac_refusals.specs.declared.error.AggregateError.{AggregateError}
-use Rattle.wac_refusals.specs.declared.error.AggregateError.TheVariants.{Memory}
-use Rattle.wac_taking.specs.Members.{HasTakenIn, TakesMembers, IsOfMerging, IsMemberRefusal, AnswersMembers, roots_of}
-use Rattle.wac_refusals.specs.Said.{said}
-use Rattle.wac_taking.specs.Takes.{shared_in, shared_keys, state_of, MayTake, Takes}
-use Rattle.wac_taking.specs.declared.state.Merging.{Merging}
-use Rattle.wac_taking.proofs.GrowLemmas.{built_met}
-use Rattle.wac_taking.proofs.Identifiers.{identifier_of}
-use Rattle.wac_taking.proofs.TakeLemmas.{MayTake-Takes, lookup-shared, shared_stands}
+use Rattle.wac_aggregator_promises.specs.Call.{Call, call_track}
+use Rattle.wac_aggregator_promises.specs.Shared.{TakenIds}
+use Rattle.wac_aggregator_promises.proofs.TakenIn.{sharing_goes_on}
+use Rattle.wac_aggregator_imports.specs.Import.{ImportContent, import_of}
+use Rattle.wac_aggregator_narrowing.specs.State.{IsStateKept}
+use Rattle.wac_aggregator_narrowing.specs.Taking.{IsTakenKey, IsTakenItem, AreTakenKeys}
+use Rattle.wac_aggregator_narrowing.specs.Traced.{Arrows}
+use Rattle.wac_aggregator_narrowing.proofs.Tracing.{traced_added}
+use Rattle.wac_aggregator_taking.specs.Growing.{StepsOn, IsOwnMeet}
+use Rattle.wac_aggregator_promises.specs.Reason.{CallRefusal}
+use Rattle.wac_aggregator_errors.specs.declared.error.AggregateError.{AggregateError}
+use Rattle.wac_aggregator_errors.specs.declared.error.AggregateError.TheVariants.{Memory}
+use Rattle.wac_aggregator_taking.specs.Members.{HasTakenIn, TakesMembers, IsOfMerging, IsMemberRefusal, AnswersMembers, roots_of}
+use Rattle.wac_aggregator_errors.specs.Said.{said}
+use Rattle.wac_aggregator_taking.specs.Takes.{shared_in, shared_keys, state_of, MayTake, Takes}
+use Rattle.wac_aggregator_taking.specs.declared.state.Merging.{Merging}
+use Rattle.wac_aggregator_taking.proofs.GrowLemmas.{built_met}
+use Rattle.wac_aggregator_taking.proofs.Identifiers.{identifier_of}
+use Rattle.wac_aggregator_taking.proofs.TakeLemmas.{MayTake-Takes, lookup-shared, shared_stands}
 use Rattle.wac_aggregator.specs.Wit.{MayHandIn}
 use Rattle.wac_aggregator.proofs.Calls.{import_with}
 use Rattle.wac_aggregator.proofs.Instances.{instance_fits, instance_of, first_key}
 
 -- the meet of an item with itself is itself
-pub met_itself : (c : Collection) (a b : ItemKind) → IsSound c → AllStand c (item_keys a) → a ≡ b → IsMetWith c c a b a
+pub met_itself : (c : Collection) (a b : ItemKind) → IsSound c → AllStand c (item_keys a) → a ≡ b → IsOwnMeet c c a b a
 met_itself c a b sound stand same =
-    subst (λ x. IsMetWith c c a x a) same
+    subst (λ x. IsOwnMeet c c a x a) same
     (built_met c c (λ k. (k, k)) a a a sound sound only ones (first refl) stand stand stand (Fits-refl (item_tree c a)) (Fits-refl (item_tree c a)) (λ t x y. x) (λ fits. refl))
   where
     only : OnlyBuilds c c (λ k. (k, k))
@@ -58,7 +58,7 @@ match_with (Ok x) P P' Q R Q' m i f g = f x m
 match_with (Err e) P P' Q R Q' m i f g = g e m i
 
 -- what was taken in is so where entries are only added, whatever is imported
-pub members_onward : (f : Collection) (a mid b : Merging) (P : Id → Type 0) (taken : Taken) → IsKept (state_of mid) → StepsOn mid.types b.types → b ≡ record mid { types = b.types; imports = b.imports } → TakesMembers f a mid P taken → TakesMembers f a b P taken
+pub members_onward : (f : Collection) (a mid b : Merging) (P : Id → Type 0) (taken : TakenIds) → IsStateKept (state_of mid) → StepsOn mid.types b.types → b ≡ record mid { types = b.types; imports = b.imports } → TakesMembers f a mid P taken → TakesMembers f a b P taken
 members_onward f a mid b P taken kept on same g = subst (λ (m : Merging). TakesMembers f a m P taken) (sym same) record {
   more = g.more;
   are_more = g.are_more;
@@ -72,13 +72,13 @@ members_onward f a mid b P taken kept on same g = subst (λ (m : Merging). Takes
 }
 
 -- the error says nothing of what is merged
-pub member_apart : (f : Collection) (P : Id → Type 0) (taken : Taken) (e : AggregateError) (r : Refusal) → said e ≡ Some r → (IsOfMerging r → ⊥) → IsMemberRefusal f P taken e
+pub member_apart : (f : Collection) (P : Id → Type 0) (taken : TakenIds) (e : AggregateError) (r : CallRefusal) → said e ≡ Some r → (IsOfMerging r → ⊥) → IsMemberRefusal f P taken e
 member_apart f P taken e r says apart q is merging = let same : r ≡ q = one_refusal (sym says ∙ is) in absurd (apart (subst IsOfMerging (sym same) merging))
   where
-    one_refusal : {k l : Refusal} → ◌≡◌ {A = Option Refusal} (Some k) (Some l) → k ≡ l
+    one_refusal : {k l : CallRefusal} → ◌≡◌ {A = Option CallRefusal} (Some k) (Some l) → k ≡ l
     one_refusal h = cc h
 
-pub member_memory : (f : Collection) (P : Id → Type 0) (taken : Taken) (e : AggregateError) → e ≡ Memory → IsMemberRefusal f P taken e
+pub member_memory : (f : Collection) (P : Id → Type 0) (taken : TakenIds) (e : AggregateError) → e ≡ Memory → IsMemberRefusal f P taken e
 member_memory f P taken e memory r says merging = let none : None ≡ Some r = ap said (sym memory) ∙ says in absurd (cc)
 
 -- what is told of a mismatch changes nothing else
@@ -92,8 +92,8 @@ module _ (f : Collection) (a b : Merging) (told : Option (String Global)) where
       (λ r g. record { more = g.more; are_more = g.are_more; has = g.has; all = g.all }) (λ e g. g)
 
 module _ (call : Call) (a mid : Merging) (own : ItemKind) (may : MayTake call.types a)
-    (takes : Takes call.types a mid (keys_height call.types (item_keys call.kind)) (item_keys call.kind) (λ t. IsTakenItem class_of call.types t call.kind own)) (i : Id) (hand : MayHandIn call a i) (taken : Taken) (has : HasTakenIn mid taken) where
-  kept : IsKept (state_of mid)
+    (takes : Takes call.types a mid (keys_height call.types (item_keys call.kind)) (item_keys call.kind) (λ t. IsTakenItem class_of call.types t call.kind own)) (i : Id) (hand : MayHandIn call a i) (taken : TakenIds) (has : HasTakenIn mid taken) where
+  kept : IsStateKept (state_of mid)
   kept = takes.run.kept may.kept
 
   now : MayTake call.types mid

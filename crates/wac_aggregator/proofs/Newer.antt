@@ -10,8 +10,8 @@ use Rattle.wac_names.specs.Track.{IsVersionOrder, version_cmp}
 use Rattle.wac_names.proofs.Classes.{class_of-keyed}
 use Rattle.wac_names.proofs.Standing.{version_total}
 use Rattle.wac_names.proofs.Tracks.{tracked_same}
-use Rattle.wac_call_lists.specs.Due.{IsHigher}
-use Rattle.wac_imports.specs.Import.{IsNewerBy, newer, not_newer}
+use Rattle.wac_aggregator_promises.specs.Due.{IsHigher}
+use Rattle.wac_aggregator_imports.specs.Import.{IsNewerBy, newer, not_newer}
 
 -- names of which one is higher are on one track
 pub higher_track : (a b : Text) → IsHigher a b → class_of a ≡ class_of b

@@ -12,20 +12,20 @@ use Rattle.wac_component.specs.Tree.{item_tree}
 use Rattle.wac_component.proofs.Extended.{AllStand-Extends}
 use Rattle.wac_names.specs.Class.{Class, class_eq, class_of}
 use Rattle.wac_names.proofs.Classes.{classes_decided}
-use Rattle.wac_call_lists.specs.Aggregated.{track_imports}
-use Rattle.wac_call_lists.specs.Call.{Call, call_track, call_tree}
-use Rattle.wac_call_lists.specs.PlainList.{IsPlain}
-use Rattle.wac_call_lists.specs.Answer.{Imports, Answer, accepted, refused}
-use Rattle.wac_call_lists.specs.PlainRun.{IsMetWith, IsPlainStep, IsPlainRefusal, IsPlainRun, goes_on, stops, ends, no_imports}
-use Rattle.wac_narrowing.specs.Taking.{IsTakenItem}
-use Rattle.wac_imports.specs.Import.{ImportContent, ImportsContent, import_of, AreFiled}
-use Rattle.wac_imports.specs.Left.{listed}
-use Rattle.wac_imports.proofs.Listed.{classes_listed}
-use Rattle.wac_taking.specs.Takes.{MayTake, OnlyGrows}
-use Rattle.wac_taking.specs.declared.state.Merging.{Merging}
-use Rattle.wac_taking.proofs.Plain.{plain_quiet}
-use Rattle.wac_taking.proofs.TakeLemmas.{only_grows}
-use Rattle.wac_aggregator.specs.Advances.{Advances, HasNoMeet}
+use Rattle.wac_aggregator_promises.specs.Aggregated.{track_imports}
+use Rattle.wac_aggregator_promises.specs.Call.{Call, call_track, call_tree}
+use Rattle.wac_aggregator_promises.specs.PlainList.{IsPlain}
+use Rattle.wac_aggregator_promises.specs.Answer.{ImportTrees, CallsAnswer, accepted, refused}
+use Rattle.wac_aggregator_promises.specs.PlainRun.{IsTreeMetWith, IsPlainStep, IsPlainRefusal, IsPlainRun, goes_on, stops, ends, no_import_trees}
+use Rattle.wac_aggregator_narrowing.specs.Taking.{IsTakenItem}
+use Rattle.wac_aggregator_imports.specs.Import.{ImportContent, ImportsContent, import_of, AreFiled}
+use Rattle.wac_aggregator_imports.specs.Left.{listed_imports}
+use Rattle.wac_aggregator_imports.proofs.Listed.{classes_listed}
+use Rattle.wac_aggregator_taking.specs.Takes.{MayTake, OnlyGrows}
+use Rattle.wac_aggregator_taking.specs.declared.state.Merging.{Merging}
+use Rattle.wac_aggregator_taking.proofs.Plain.{plain_quiet}
+use Rattle.wac_aggregator_taking.proofs.TakeLemmas.{only_grows}
+use Rattle.wac_aggregator.specs.Advances.{Advances, CallHasNoMeet}
 use Rattle.wac_aggregator.specs.Content.{shown, content_of}
 use Rattle.wac_aggregator.proofs.Advancing.{placing, at_of}
 use Rattle.wac_aggregator.proofs.Leading.{placed_here, placed_other}
@@ -69,13 +69,13 @@ module _ (call : Call) (a b : Merging) (may : MayTake call.types a) (filed_a : A
       stood : (ks : List Key) → AllStand a.types ks → AllStand h.taken.types ks
       stood ks st = AllStand-Extends a.types h.taken.types only.grows ks st
 
-  here : IsMetWith (track_imports (shown (content_of a)) (call_track call)) (call_tree call) (track_imports (shown (content_of b)) (call_track call))
+  here : IsTreeMetWith (track_imports (shown (content_of a)) (call_track call)) (call_tree call) (track_imports (shown (content_of b)) (call_track call))
   here =
       let now : track_imports (shown (content_of b)) (call_track call) ≡ Some (item_tree b.types h.import)
       = track_import b (call_track call) filed_b ∙ ap (option_map (λ (i : ImportContent). item_tree b.types i.1)) (placed_here a.imports h.taken.imports b.imports call.name h.import (placing call a b may filed_a filed_b h) h.takes.stays) in
       rw now (rw (track_import a (call_track call) filed_a) (by (import_of a.imports (call_track call)) refl))
     where
-      by : (o : Option ImportContent) → import_of a.imports (call_track call) ≡ o → IsMetWith (option_map (λ (i : ImportContent). item_tree a.types i.1) o) (call_tree call) (Some (item_tree b.types h.import))
+      by : (o : Option ImportContent) → import_of a.imports (call_track call) ≡ o → IsTreeMetWith (option_map (λ (i : ImportContent). item_tree a.types i.1) o) (call_tree call) (Some (item_tree b.types h.import))
       by None at = h.alone_tree at ∙ own_same
       by (Some i) at =
           let same = (kept_tree (call_track call) i at).0 in (
@@ -102,7 +102,7 @@ module _ (call : Call) (a b : Merging) (may : MayTake call.types a) (filed_a : A
   plain_step = record { here = here; elsewhere = elsewhere }
 
 -- a refused one
-pub plain_refusal : (call : Call) (a : Merging) → AreFiled a.imports → HasNoMeet call a → IsPlainRefusal (track_imports (shown (content_of a))) call
+pub plain_refusal : (call : Call) (a : Merging) → AreFiled a.imports → CallHasNoMeet call a → IsPlainRefusal (track_imports (shown (content_of a))) call
 plain_refusal call a filed h = record {
   tree = item_tree a.types h.import.1;
   stood = track_import a (call_track call) filed ∙ ap (option_map (λ (i : ImportContent). item_tree a.types i.1)) h.stood;
@@ -117,17 +117,17 @@ module _ (calls : List Call) (at : ℕ) (call : Call) (found : slice_get calls a
   rest_at = drop-cons calls at call (slice_get_within calls at call found) ∙ ap (λ x. x ∷ drop (suc at) calls) (get_or_from_slice_get calls at call call found)
 
   -- one is accepted
-  pub run_on : (is js : Imports) → IsPlainStep is js call → ((x : Answer) → IsPlainRun at is (drop at calls) x → IsPlainRun 0 no_imports calls x) → (x : Answer) → IsPlainRun (suc at) js (drop (suc at) calls) x → IsPlainRun 0 no_imports calls x
+  pub run_on : (is js : ImportTrees) → IsPlainStep is js call → ((x : CallsAnswer) → IsPlainRun at is (drop at calls) x → IsPlainRun 0 no_import_trees calls x) → (x : CallsAnswer) → IsPlainRun (suc at) js (drop (suc at) calls) x → IsPlainRun 0 no_import_trees calls x
   run_on is js step before x run = before x (subst (λ cs. IsPlainRun at is cs x) (sym rest_at) (goes_on step run))
 
   -- or refused
-  pub run_stops : (is : Imports) → IsPlainRefusal is call → ((x : Answer) → IsPlainRun at is (drop at calls) x → IsPlainRun 0 no_imports calls x) → IsPlainRun 0 no_imports calls (refused at)
+  pub run_stops : (is : ImportTrees) → IsPlainRefusal is call → ((x : CallsAnswer) → IsPlainRun at is (drop at calls) x → IsPlainRun 0 no_import_trees calls x) → IsPlainRun 0 no_import_trees calls (refused at)
   run_stops is refusal before = before (refused at) (subst (λ cs. IsPlainRun at is cs (refused at)) (sym rest_at) (stops refusal))
 
 -- all are accepted
-pub run_ends : (calls : List Call) (at : ℕ) (is : Imports) → drop at calls ≡ [] → ((x : Answer) → IsPlainRun at is (drop at calls) x → IsPlainRun 0 no_imports calls x) → IsPlainRun 0 no_imports calls (accepted is)
+pub run_ends : (calls : List Call) (at : ℕ) (is : ImportTrees) → drop at calls ≡ [] → ((x : CallsAnswer) → IsPlainRun at is (drop at calls) x → IsPlainRun 0 no_import_trees calls x) → IsPlainRun 0 no_import_trees calls (accepted is)
 run_ends calls at is none before = before (accepted is) (subst (λ cs. IsPlainRun at is cs (accepted is)) (sym none) ends)
 
 -- before the first there are no imports
-pub run_starts : (calls : List Call) (a : Merging) → a.imports ≡ record { list = []; led = [] } → (x : Answer) → IsPlainRun 0 (track_imports (shown (content_of a))) calls x → IsPlainRun 0 no_imports calls x
-run_starts calls a none x run = subst (λ (is : ImportsContent). IsPlainRun 0 (λ t. lookup class_eq (map (λ (i : ImportContent). (class_of i.0, item_tree a.types i.1)) (listed is)) t) calls x) none run
+pub run_starts : (calls : List Call) (a : Merging) → a.imports ≡ record { list = []; led = [] } → (x : CallsAnswer) → IsPlainRun 0 (track_imports (shown (content_of a))) calls x → IsPlainRun 0 no_import_trees calls x
+run_starts calls a none x run = subst (λ (is : ImportsContent). IsPlainRun 0 (λ t. lookup class_eq (map (λ (i : ImportContent). (class_of i.0, item_tree a.types i.1)) (listed_imports is)) t) calls x) none run

@@ -9,32 +9,32 @@ use Rattle.wac_component.specs.Key.{item_keys, interface_key}
 use Rattle.wac_component.specs.Tree.{item_tree}
 use Rattle.wac_component.specs.declared.items.ItemKind.{ItemKind}
 use Rattle.wac_names.specs.Class.{class_of}
-use Rattle.wac_narrowing.specs.Taking.{IsTakenItem}
-use Rattle.wac_reasons.proofs.Reasons.{merges_clash}
-use Rattle.wac_call_lists.specs.Call.{Call, call_track, call_tree}
-use Rattle.wac_call_lists.specs.Case.{case_of}
-use Rattle.wac_call_lists.specs.PlainList.{IsPlain}
-use Rattle.wac_call_lists.specs.Reason.{kinds, mismatch, taken, IsTaken}
-use Rattle.wac_call_lists.proofs.WitReasons.{fits_case}
-use Rattle.wac_imports.specs.Import.{ImportContent, ImportsContent, import_of}
-use Rattle.wac_refusals.specs.declared.error.AggregateError.{AggregateError}
-use Rattle.wac_refusals.specs.declared.error.AggregateError.TheVariants.{Memory}
-use Rattle.wac_refusals.specs.Differ.{UsesDiffer}
-use Rattle.wac_refusals.specs.Said.{said}
-use Rattle.wac_taking.specs.Refused.{HasReason, IsRefused, IsMergeRefusal, SaysMismatch}
-use Rattle.wac_taking.specs.Takes.{state_of, IsOwnersImport, MayTake, Takes}
-use Rattle.wac_taking.specs.declared.state.Merging.{Merging}
-use Rattle.wac_taking.proofs.Identifiers.{has_identifier}
-use Rattle.wac_taking.proofs.MergeReasons.{one_reason, entries_refused}
-use Rattle.wac_taking.proofs.Plain.{plain_quiet}
-use Rattle.wac_taking.proofs.TakeLemmas.{near_none, only_grows}
-use Rattle.wac_taking.proofs.PlainUses.{plain_no_uses}
-use Rattle.wac_aggregator.specs.Advances.{attempt_at, HasNoMeet, IsRefusedCall, MayTry}
+use Rattle.wac_aggregator_narrowing.specs.Taking.{IsTakenItem}
+use Rattle.wac_aggregator_reasons.proofs.Reasons.{merges_clash}
+use Rattle.wac_aggregator_promises.specs.Call.{Call, call_track, call_tree}
+use Rattle.wac_aggregator_promises.specs.Case.{case_of}
+use Rattle.wac_aggregator_promises.specs.PlainList.{IsPlain}
+use Rattle.wac_aggregator_promises.specs.Reason.{kinds, mismatch, taken, IsTaken}
+use Rattle.wac_aggregator_promises.proofs.WitReasons.{fits_case}
+use Rattle.wac_aggregator_imports.specs.Import.{ImportContent, ImportsContent, import_of}
+use Rattle.wac_aggregator_errors.specs.declared.error.AggregateError.{AggregateError}
+use Rattle.wac_aggregator_errors.specs.declared.error.AggregateError.TheVariants.{Memory}
+use Rattle.wac_aggregator_errors.specs.Differ.{UsesDiffer}
+use Rattle.wac_aggregator_errors.specs.Said.{said}
+use Rattle.wac_aggregator_taking.specs.Refused.{HasReason, MayRefuse, IsMergeRefusal, SaysMismatch}
+use Rattle.wac_aggregator_taking.specs.Takes.{state_of, IsOwnersImport, MayTake, Takes}
+use Rattle.wac_aggregator_taking.specs.declared.state.Merging.{Merging}
+use Rattle.wac_aggregator_taking.proofs.Identifiers.{has_identifier}
+use Rattle.wac_aggregator_taking.proofs.MergeReasons.{one_reason, entries_refused}
+use Rattle.wac_aggregator_taking.proofs.Plain.{plain_quiet}
+use Rattle.wac_aggregator_taking.proofs.TakeLemmas.{near_none, only_grows}
+use Rattle.wac_aggregator_taking.proofs.PlainUses.{plain_no_uses}
+use Rattle.wac_aggregator.specs.Advances.{attempt_at, CallHasNoMeet, IsRefusedCall, MayTry}
 use Rattle.wac_aggregator.proofs.Calls.{import_with, at_still, existing_stands}
 use Rattle.wac_aggregator.proofs.Trying.{call_trial, call_accounted, import_open, own_open, taken_accounted}
 
 -- what refuses the item refuses the call
-pub item_refused : (call : Call) (a : Merging) (e : AggregateError) → MayTake call.types a → IsRefused call.types a (item_keys call.kind) e → IsRefusedCall call a e
+pub item_refused : (call : Call) (a : Merging) (e : AggregateError) → MayTake call.types a → MayRefuse call.types a (item_keys call.kind) e → IsRefusedCall call a e
 item_refused call a e may h ne =
     let r = h ne in
     record {
@@ -48,7 +48,7 @@ no_some (Some i) is h = absurd (cc is)
 
 module _ (call : Call) (a : Merging) (existing : ItemKind) (found : option_map (λ (i : ImportContent). i.1) (import_of a.imports (call_track call)) ≡ Some existing) where
   -- the import on the track has no lower bound with the item
-  no_meet : ((t : ItemTree) → Fits t (item_tree a.types existing) → Fits t (call_tree call) → ⊥) → HasNoMeet call a
+  no_meet : ((t : ItemTree) → Fits t (item_tree a.types existing) → Fits t (call_tree call) → ⊥) → CallHasNoMeet call a
   no_meet none =
       let w = import_with (import_of a.imports (call_track call)) existing found in
       record { import = w.0; stood = w.1; no_bound = λ t x y. none t (subst (λ k. Fits t (item_tree a.types k)) w.2 x) y }
@@ -95,7 +95,7 @@ module _ (call : Call) (a mid : Merging) (own : ItemKind) (may : MayTake call.ty
 
   -- it has no meet with the import, or their uses differ
   module _ (existing : ItemKind) (found : option_map (λ (i : ImportContent). i.1) (import_of a.imports (call_track call)) ≡ Some existing) (e : AggregateError) where
-    plain_apart : IsPlain call.types call.kind → UsesDiffer mid.types (item_keys existing) (item_keys own) e ⊎ SaysMismatch mid.types existing own e → HasNoMeet call a
+    plain_apart : IsPlain call.types call.kind → UsesDiffer mid.types (item_keys existing) (item_keys own) e ⊎ SaysMismatch mid.types existing own e → CallHasNoMeet call a
     plain_apart p (inl uses) = absurd (plain_no_uses call.types (state_of mid) call.kind own p takes.holds (item_keys existing) e uses)
     plain_apart p (inr clash) =
         let only = only_grows call.types a mid (keys_height call.types (item_keys call.kind)) (item_keys call.kind) (λ t. IsTakenItem class_of call.types t call.kind own) takes p in

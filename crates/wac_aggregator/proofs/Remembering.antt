@@ -6,14 +6,14 @@ use Rattle.wac_component.specs.Key.{Key, Sort, defined_sort, resource_sort, func
 use Rattle.wac_component.specs.Memo.{Remembered, memo_of, own_at}
 use Rattle.wac_component.specs.declared.memo.Memo.{Memo}
 use Rattle.wac_names.specs.Class.{class_of}
-use Rattle.wac_narrowing.specs.Remembers.{RemembersTruly}
-use Rattle.wac_narrowing.specs.State.{State}
-use Rattle.wac_taking.specs.Takes.{state_of, OwnersImported}
-use Rattle.wac_taking.specs.declared.state.Merging.{Merging}
-use Rattle.wac_aggregator.specs.Content.{own_in, remembered_in, pairs_of, content_of, state_in}
+use Rattle.wac_aggregator_narrowing.specs.Remembers.{RemembersTruly}
+use Rattle.wac_aggregator_narrowing.specs.State.{State}
+use Rattle.wac_aggregator_taking.specs.Takes.{state_of, OwnersImported}
+use Rattle.wac_aggregator_taking.specs.declared.state.Merging.{Merging}
+use Rattle.wac_aggregator.specs.Content.{own_in, remembered_in, memo_pairs, content_of, state_in}
 
 -- the same stands for each id
-same_pair : (m : Memo) (s : Sort) (p : Id) → own_in (pairs_of m) s p ≡ own_at m s p
+same_pair : (m : Memo) (s : Sort) (p : Id) → own_in (memo_pairs m) s p ≡ own_at m s p
 same_pair m defined_sort p = refl
 same_pair m resource_sort p = refl
 same_pair m func_sort p = refl
@@ -21,7 +21,7 @@ same_pair m interface_sort p = refl
 same_pair m world_sort p = refl
 same_pair m module_sort p = refl
 
-same_pairs : (m : Memo) (k : Key) → remembered_in (pairs_of m) k ≡ memo_of m k
+same_pairs : (m : Memo) (k : Key) → remembered_in (memo_pairs m) k ≡ memo_of m k
 same_pairs m k = same_pair m k.sort k.id
 
 -- what is remembered truly is so wherever the same is remembered
@@ -34,7 +34,7 @@ RemembersTruly-same f s taken copies p q h = record {
 
 module _ (f : Collection) (a : Merging) where
   pub truly_in : RemembersTruly class_of f (state_of a) → RemembersTruly class_of f (state_in (content_of a))
-  truly_in h = RemembersTruly-same f (state_of a) (remembered_in (pairs_of a.taken)) (remembered_in (pairs_of a.copies)) (same_pairs a.taken) (same_pairs a.copies) h
+  truly_in h = RemembersTruly-same f (state_of a) (remembered_in (memo_pairs a.taken)) (remembered_in (memo_pairs a.copies)) (same_pairs a.taken) (same_pairs a.copies) h
 
   pub truly_of : RemembersTruly class_of f (state_in (content_of a)) → RemembersTruly class_of f (state_of a)
   truly_of h = RemembersTruly-same f (state_in (content_of a)) (memo_of a.taken) (memo_of a.copies) (λ k. sym (same_pairs a.taken k)) (λ k. sym (same_pairs a.copies k)) h

@@ -11,22 +11,22 @@ use Rattle.wac_component.specs.Tree.{item_tree}
 use Rattle.wac_component.specs.declared.items.ItemKind.{ItemKind}
 use Rattle.wac_component.proofs.Among.{each_among, Contains-first}
 use Rattle.wac_names.specs.Class.{class_of}
-use Rattle.wac_narrowing.specs.State.{State, IsKept}
-use Rattle.wac_narrowing.specs.Taking.{IsTakenItem}
-use Rattle.wac_narrowing.proofs.Mapped.{taken_each}
-use Rattle.wac_call_lists.specs.Attempt.{Attempt}
-use Rattle.wac_call_lists.specs.Call.{Call, call_track}
-use Rattle.wac_imports.specs.Import.{ImportContent, import_of, import_at}
-use Rattle.wac_reasons.specs.Sharing.{of_import, of_taken}
-use Rattle.wac_reasons.specs.Trial.{IsTrial, IsAccounted, IsOpenSource}
-use Rattle.wac_reasons.proofs.Accounts.{root_open}
-use Rattle.wac_reasons.proofs.Starting.{start_accounted}
-use Rattle.wac_refusals.specs.declared.error.AggregateError.{AggregateError}
-use Rattle.wac_taking.specs.Refused.{IsRefusedBy, IsRefused}
-use Rattle.wac_taking.specs.Takes.{state_of, near_keys, AreNear, MayTake, TakesBy, Takes}
-use Rattle.wac_taking.specs.declared.state.Merging.{Merging}
-use Rattle.wac_taking.proofs.Refusals.{refused_near}
-use Rattle.wac_taking.proofs.TakeLemmas.{near_none, Takes-near}
+use Rattle.wac_aggregator_narrowing.specs.State.{State, IsStateKept}
+use Rattle.wac_aggregator_narrowing.specs.Taking.{IsTakenItem}
+use Rattle.wac_aggregator_narrowing.proofs.Mapped.{taken_each}
+use Rattle.wac_aggregator_promises.specs.Attempt.{Attempt}
+use Rattle.wac_aggregator_promises.specs.Call.{Call, call_track}
+use Rattle.wac_aggregator_imports.specs.Import.{ImportContent, import_of, import_at}
+use Rattle.wac_aggregator_reasons.specs.Sharing.{of_import, of_taken}
+use Rattle.wac_aggregator_reasons.specs.Trial.{IsTrial, IsAccounted, IsOpenSource}
+use Rattle.wac_aggregator_reasons.proofs.Accounts.{root_open}
+use Rattle.wac_aggregator_reasons.proofs.Starting.{start_accounted}
+use Rattle.wac_aggregator_errors.specs.declared.error.AggregateError.{AggregateError}
+use Rattle.wac_aggregator_taking.specs.Refused.{IsRefusedBy, MayRefuse}
+use Rattle.wac_aggregator_taking.specs.Takes.{state_of, near_keys, AreNear, MayTake, TakesBy, Takes}
+use Rattle.wac_aggregator_taking.specs.declared.state.Merging.{Merging}
+use Rattle.wac_aggregator_taking.proofs.Refusals.{refused_near}
+use Rattle.wac_aggregator_taking.proofs.TakeLemmas.{near_none, Takes-near}
 use Rattle.wac_aggregator.specs.Advances.{attempt_at, MayTry}
 
 -- what is imported is open, and comes from sources
@@ -34,7 +34,7 @@ pub import_open : (at : Attempt) (a : Merging) (name : Text) (x : ItemKind) → 
 import_open at a name x all is = each_among (IsOpenSource at (state_of a)) (item_keys x) (λ k m. root_open at (state_of a) k all (of_import {n = name} is m))
 
 -- so is the interface that an import is
-pub near_open : (at : Attempt) (a : Merging) (name : Text) (x : ItemKind) (near : Option Id) → IsKept (state_of a) → import_at a.imports name ≡ Some x → IfSome near (λ i. item_keys x ≡ interface_key i ∷ []) → IsAccounted at (state_of a) → AreNear at a (near_keys near)
+pub near_open : (at : Attempt) (a : Merging) (name : Text) (x : ItemKind) (near : Option Id) → IsStateKept (state_of a) → import_at a.imports name ≡ Some x → IfSome near (λ i. item_keys x ≡ interface_key i ∷ []) → IsAccounted at (state_of a) → AreNear at a (near_keys near)
 near_open at a name x None kept is h all = near_none at a
 near_open at a name x (Some i) kept is h all = record { stand = subst (AllStand a.types) h (kept.imports name x is); opens = subst (Each (IsOpenSource at (state_of a))) h (import_open at a name x all is) }
 
@@ -44,7 +44,7 @@ module _ (call : Call) (a : Merging) (may : MayTake call.types a) where
     pub taken_near : (mid : Merging) (top : ℕ) (ks : List Key) (Q : State → Type 0) → TakesBy (near_keys near) call.types a mid top ks Q → Takes call.types a mid top ks Q
     taken_near mid top ks Q takes = Takes-near call.types (near_keys near) [] a mid top ks Q (λ at all by. near_open at a call.name existing near may.kept is h all) takes
 
-    pub refused_by_near : (ks : List Key) (e : AggregateError) → IsRefusedBy (near_keys near) call.types a ks e → IsRefused call.types a ks e
+    pub refused_by_near : (ks : List Key) (e : AggregateError) → IsRefusedBy (near_keys near) call.types a ks e → MayRefuse call.types a ks e
     refused_by_near ks e refused = refused_near call.types (near_keys near) [] a ks e (λ at all by. near_open at a call.name existing near may.kept is h all) refused
 
   -- a call by itself

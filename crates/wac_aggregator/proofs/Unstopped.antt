@@ -6,10 +6,10 @@ use Rattle.wac_component.specs.Reach.{IsAmong}
 use Rattle.wac_component.specs.Sound.{IsSound}
 use Rattle.wac_component.specs.declared.items.ItemKind.{ItemKind}
 use Rattle.wac_component.proofs.Among.{among_each, each_among}
-use Rattle.wac_narrowing.specs.Apart.{IsGood}
-use Rattle.wac_narrowing.specs.Identified.{IsCovered, IsUnstopped}
-use Rattle.wac_narrowing.proofs.Stopping.{open_stops, stop_identified, stop_reaches}
-use Rattle.wac_taking.specs.Growing.{IsMetWith}
+use Rattle.wac_aggregator_narrowing.specs.Apart.{IsGood}
+use Rattle.wac_aggregator_narrowing.specs.Identified.{IsCovered, IsUnstopped}
+use Rattle.wac_aggregator_narrowing.proofs.Stopping.{open_stops, stop_identified, stop_reaches}
+use Rattle.wac_aggregator_taking.specs.Growing.{IsOwnMeet}
 
 unstopped_covered : (c : Collection) (ks : List Key) → Each (IsUnstopped c) ks → Each (IsCovered c []) ks
 unstopped_covered c ks h = each_among (IsCovered c []) ks (λ k m t n walk is. let at = open_stops c k t n walk is in absurd (among_each (IsUnstopped c) k ks m h at.at at.name at.stops))
@@ -21,7 +21,7 @@ covered_unstopped c ks h = each_among (IsUnstopped c) ks (λ k m t n stops. none
     none m = elim m [ ]
 
 -- so what two such items are met in is one
-pub met_unstopped : (c d : Collection) (x y m : ItemKind) → IsSound c → IsMetWith c d x y m → Each (IsUnstopped c) (item_keys x) → Each (IsUnstopped c) (item_keys y) → Each (IsUnstopped d) (item_keys m)
+pub met_unstopped : (c d : Collection) (x y m : ItemKind) → IsSound c → IsOwnMeet c d x y m → Each (IsUnstopped c) (item_keys x) → Each (IsUnstopped c) (item_keys y) → Each (IsUnstopped d) (item_keys m)
 met_unstopped c d x y m sound met hx hy = covered_unstopped d (item_keys m) (met.covered [] good (unstopped_covered c (item_keys x) hx) (unstopped_covered c (item_keys y) hy))
   where
     none : {k : Key} → IsAmong k [] → ⊥

@@ -12,28 +12,28 @@ use Rattle.wac_component.specs.Reach.{IsAmong}
 use Rattle.wac_component.specs.Tree.{item_tree}
 use Rattle.wac_component.specs.declared.items.ItemKind.TheVariants.{Instance}
 use Rattle.wac_names.specs.Class.{Class, class_of}
-use Rattle.wac_narrowing.proofs.Tracing.{Arrows-trans}
-use Rattle.wac_call_lists.specs.Call.{Call, call_track, call_tree}
-use Rattle.wac_call_lists.specs.Due.{IsDue, of_name, of_owner}
-use Rattle.wac_call_lists.specs.Entries.{ReachesByUses}
-use Rattle.wac_call_lists.specs.PlainList.{IsPlain}
-use Rattle.wac_call_lists.specs.Shared.{Taken, SharedEntries, IsTakenTree, AreShared}
-use Rattle.wac_call_lists.specs.TreeSets.{IsMeetOf}
-use Rattle.wac_call_lists.specs.WitList.{AreWit, IsNamedInstance, IsMember, handed_in, used, IsMemberTree, IsPlainTree, IsWitList}
-use Rattle.wac_call_lists.specs.WitRun.{AreMembers, AreWitImports, IsWitState}
-use Rattle.wac_call_lists.proofs.Among.{among_front, plain_tree, wit_list_fewer}
-use Rattle.wac_call_lists.proofs.ByUses.{member_by_uses, wit_members}
-use Rattle.wac_call_lists.proofs.Members.{apart, due_tree, named_member, named_member_on}
-use Rattle.wac_call_lists.proofs.MoreMembers.{members_of_more, wit_imports_are_meets}
-use Rattle.wac_call_lists.proofs.TakenIn.{sharing_goes_on}
+use Rattle.wac_aggregator_narrowing.proofs.Tracing.{Arrows-trans}
+use Rattle.wac_aggregator_promises.specs.Call.{Call, call_track, call_tree}
+use Rattle.wac_aggregator_promises.specs.Due.{IsDue, of_name, of_owner}
+use Rattle.wac_aggregator_promises.specs.Entries.{ReachesByUses}
+use Rattle.wac_aggregator_promises.specs.PlainList.{IsPlain}
+use Rattle.wac_aggregator_promises.specs.Shared.{TakenIds, SharedEntries, IsTakenTree, AreShared}
+use Rattle.wac_aggregator_promises.specs.TreeSets.{IsMeetOf}
+use Rattle.wac_aggregator_promises.specs.WitList.{AreWit, IsNamedInstance, IsMember, handed_in, used, IsMemberTree, IsPlainTree, IsWitList}
+use Rattle.wac_aggregator_promises.specs.WitRun.{AreMembers, AreWitImports, IsWitState}
+use Rattle.wac_aggregator_promises.proofs.Among.{among_front, plain_tree, wit_list_fewer}
+use Rattle.wac_aggregator_promises.proofs.ByUses.{member_by_uses, wit_members}
+use Rattle.wac_aggregator_promises.proofs.Members.{apart, due_tree, named_member, named_member_on}
+use Rattle.wac_aggregator_promises.proofs.MoreMembers.{members_of_more, wit_imports_are_meets}
+use Rattle.wac_aggregator_promises.proofs.TakenIn.{sharing_goes_on}
 use Rattle.wac_component.specs.Memo.{memo_of}
-use Rattle.wac_imports.specs.Import.{ImportContent, ImportsContent, import_of, AreFiled}
-use Rattle.wac_taking.specs.Members.{AreMore}
-use Rattle.wac_taking.specs.Takes.{shared_in, shared_keys}
-use Rattle.wac_taking.specs.declared.state.Merging.{Merging}
-use Rattle.wac_taking.proofs.Members.{wit_within, reached_closed}
+use Rattle.wac_aggregator_imports.specs.Import.{ImportContent, ImportsContent, import_of, AreFiled}
+use Rattle.wac_aggregator_taking.specs.Members.{AreMore}
+use Rattle.wac_aggregator_taking.specs.Takes.{shared_in, shared_keys}
+use Rattle.wac_aggregator_taking.specs.declared.state.Merging.{Merging}
+use Rattle.wac_aggregator_taking.proofs.Members.{wit_within, reached_closed}
 use Rattle.wac_aggregator.specs.InOrder.{IsStart}
-use Rattle.wac_aggregator.specs.Served.{AreServed}
+use Rattle.wac_aggregator.specs.Served.{AreCallsServed}
 use Rattle.wac_aggregator.specs.Wit.{trees_of, AreInstances, IsWitAfter, MayHandIn}
 
 -- ---- before the first call
@@ -76,7 +76,7 @@ wit_start calls a number start = record {
 not_above : {k j : Kind} {l : Leaf} {s : Shape} {i e : Items} → Fits (leaf k l) (composite j s i e) → ⊥
 not_above h = elim h [ ]
 
-pub no_plain : (calls : List Call) (taken : Taken) (own : Collection) (shared : SharedEntries) → IsWitList calls → ((c : Collection) (i : Id) → Contains taken (c, i) → IsMember calls c i) → AreShared taken own shared
+pub no_plain : (calls : List Call) (taken : TakenIds) (own : Collection) (shared : SharedEntries) → IsWitList calls → ((c : Collection) (i : Id) → Contains taken (c, i) → IsMember calls c i) → AreShared taken own shared
     → (t : Class) (s : Id) (y : ItemTree) → shared t ≡ Some s → IsPlainTree calls t y → ⊥
 no_plain calls taken own shared wit members kept t s y at k = not_above ((kept.trees t s at).is_greatest (leaf item (resource [])) (λ x h. absurd (apart calls wit t x y (member_tree x h) k)))
   where
@@ -93,7 +93,7 @@ import_with_tree a t m h = by (import_of a.imports t) refl h
     by None at k = absurd (cc)
     by (Some i) at k = let same : item_tree a.types i.1 ≡ m = cc in (i, at, same)
 
-module _ (calls front : List Call) (a : Merging) (wit : IsWitList front) (filed : AreFiled a.imports) (served : AreServed calls front a) (w : IsWitAfter calls front a) where
+module _ (calls front : List Call) (a : Merging) (wit : IsWitList front) (filed : AreFiled a.imports) (served : AreCallsServed calls front a) (w : IsWitAfter calls front a) where
   -- imports stand on exactly the due tracks
   pub import_due : (t : Class) → IsDue front t → (i : ImportContent) × (import_of a.imports t ≡ Some i)
   import_due t (of_name c h) = let r = served.served c h.among in (r.0, ap (import_of a.imports) (sym h.on_track) ∙ r.1.import)
@@ -141,14 +141,14 @@ pub named_wit : (front : List Call) (call : Call) → IsWitList (front ++ call �
 named_wit front call wit i n = wit_within call.types (IsMember (front ++ call ∷ []) call.types) (ReachesByUses call.types i) (λ j walk. member_by_uses (named_member (front ++ call ∷ []) wit call i (Contains-push front call) n) walk) (reached_closed call.types i) (wit_members (front ++ call ∷ []) call.types wit)
 
 -- and members, once it is handed in
-pub taken_members : (front : List Call) (call : Call) (i : Id) → IsNamedInstance call i → (taken more : Taken) → AreMembers front taken → AreMore call.types (ReachesByUses call.types i) taken more → (c : Collection) (j : Id) → Contains more (c, j) → IsMember (front ++ call ∷ []) c j
+pub taken_members : (front : List Call) (call : Call) (i : Id) → IsNamedInstance call i → (taken more : TakenIds) → AreMembers front taken → AreMore call.types (ReachesByUses call.types i) taken more → (c : Collection) (j : Id) → Contains more (c, j) → IsMember (front ++ call ∷ []) c j
 taken_members front call i n taken more members are c j m = (members_of_more front call c j).1 (elim (are.new c j m) [
   | inl old ↦ inl ((members c j).1 old)
   | inr new ↦ inr (sym new.0, (i, n, subst (λ x. ReachesByUses x i j) (sym new.0) new.1))
 ])
 
 -- an import on its track is an instance of the shared entry there
-pub may_hand_in : (calls front : List Call) (call : Call) (a : Merging) (i : Id) → IsWitList (front ++ call ∷ []) → AreFiled a.imports → AreServed calls front a → IsWitAfter calls front a → IsNamedInstance call i → MayHandIn call a i
+pub may_hand_in : (calls front : List Call) (call : Call) (a : Merging) (i : Id) → IsWitList (front ++ call ∷ []) → AreFiled a.imports → AreCallsServed calls front a → IsWitAfter calls front a → IsNamedInstance call i → MayHandIn call a i
 may_hand_in calls front call a i wit filed served w named = record { named = named; import = by (shared_in a.shared.entries (call_track call)) refl }
   where
     by : (o : Option Id) → shared_in a.shared.entries (call_track call) ≡ o → AreInstances a (call_track call)

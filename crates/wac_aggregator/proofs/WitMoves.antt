@@ -12,21 +12,21 @@ use Rattle.wac_component.specs.declared.items.ItemKind.TheVariants.{Instance}
 use Rattle.wac_component.proofs.Among.{among_each, each_among}
 use Rattle.wac_names.specs.Class.{Class, class_eq, class_of}
 use Rattle.wac_names.proofs.Classes.{classes_decided}
-use Rattle.wac_narrowing.specs.Identified.{IsUnstopped, IsQuiet}
-use Rattle.wac_narrowing.specs.Narrows.{KeepsStops}
-use Rattle.wac_narrowing.specs.State.{State, IsKept}
-use Rattle.wac_narrowing.specs.Taking.{AreTakenKeys, one_key, no_keys}
-use Rattle.wac_call_lists.specs.Call.{Call, call_track}
-use Rattle.wac_call_lists.specs.Entries.{IsIdentifiedOn}
-use Rattle.wac_call_lists.specs.Shared.{Taken}
-use Rattle.wac_call_lists.proofs.Members.{one_track}
-use Rattle.wac_imports.specs.Import.{ImportContent, import_of, AreFiled}
-use Rattle.wac_reasons.proofs.Moving.{identifier_is}
-use Rattle.wac_taking.specs.Members.{HasTakenIn}
-use Rattle.wac_taking.specs.Takes.{shared_in, shared_keys, state_of, MayTake, IsOwnersImport}
-use Rattle.wac_taking.specs.declared.state.Merging.{Merging}
-use Rattle.wac_taking.proofs.Identifiers.{has_identifier}
-use Rattle.wac_taking.proofs.TakeLemmas.{lookup-shared, shared_stands}
+use Rattle.wac_aggregator_narrowing.specs.Identified.{IsUnstopped, IsQuiet}
+use Rattle.wac_aggregator_narrowing.specs.Narrows.{KeepsStops}
+use Rattle.wac_aggregator_narrowing.specs.State.{State, IsStateKept}
+use Rattle.wac_aggregator_narrowing.specs.Taking.{AreTakenKeys, one_key, no_keys}
+use Rattle.wac_aggregator_promises.specs.Call.{Call, call_track}
+use Rattle.wac_aggregator_promises.specs.Entries.{IsIdentifiedOn}
+use Rattle.wac_aggregator_promises.specs.Shared.{TakenIds}
+use Rattle.wac_aggregator_promises.proofs.Members.{one_track}
+use Rattle.wac_aggregator_imports.specs.Import.{ImportContent, import_of, AreFiled}
+use Rattle.wac_aggregator_reasons.proofs.Moving.{identifier_is}
+use Rattle.wac_aggregator_taking.specs.Members.{HasTakenIn}
+use Rattle.wac_aggregator_taking.specs.Takes.{shared_in, shared_keys, state_of, MayTake, IsOwnersImport}
+use Rattle.wac_aggregator_taking.specs.declared.state.Merging.{Merging}
+use Rattle.wac_aggregator_taking.proofs.Identifiers.{has_identifier}
+use Rattle.wac_aggregator_taking.proofs.TakeLemmas.{lookup-shared, shared_stands}
 use Rattle.wac_aggregator.specs.Wit.{AreUnstopped}
 use Rattle.wac_aggregator.specs.Advances.{Advances}
 use Rattle.wac_aggregator.proofs.Advancing.{placing, at_of, taken_kept, rest, run}
@@ -35,7 +35,7 @@ use Rattle.wac_aggregator.proofs.Leading.{placed_here, placed_other}
 -- ---- tracks of shared entries
 
 -- a shared entry is found on the track of its identifier
-shared_on : (b : Merging) (taken : Taken) → HasTakenIn b taken → (s : Id) (t : Class) → IsAmong (interface_key s) (shared_keys b.shared.entries) → IsIdentifiedOn b.types s t → shared_in b.shared.entries t ≡ Some s
+shared_on : (b : Merging) (taken : TakenIds) → HasTakenIn b taken → (s : Id) (t : Class) → IsAmong (interface_key s) (shared_keys b.shared.entries) → IsIdentifiedOn b.types s t → shared_in b.shared.entries t ≡ Some s
 shared_on b taken has s t m on =
     let at = has.found s m in
     ap (shared_in b.shared.entries) (one_track b.types s t at.0 on (has.shared.identified at.0 s at.1)) ∙ at.1
@@ -65,8 +65,8 @@ taken_unstopped f s _ _ (one_key {i = i} {is = is} {js = js} k others) q =
 
 -- ---- the tracks but the call's own, once the call was made
 
-module _ (call : Call) (a b : Merging) (may : MayTake call.types a) (filed_a : AreFiled a.imports) (filed_b : AreFiled b.imports) (h : Advances call a b) (before after : Taken) (was : HasTakenIn a before) (has : HasTakenIn b after) where
-  kept_then : IsKept (state_of h.taken)
+module _ (call : Call) (a b : Merging) (may : MayTake call.types a) (filed_a : AreFiled a.imports) (filed_b : AreFiled b.imports) (h : Advances call a b) (before after : TakenIds) (was : HasTakenIn a before) (has : HasTakenIn b after) where
+  kept_then : IsStateKept (state_of h.taken)
   kept_then = taken_kept call a b may filed_a filed_b h
 
   same_shared : shared_keys b.shared.entries ≡ shared_keys h.taken.shared.entries

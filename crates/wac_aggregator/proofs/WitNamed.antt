@@ -12,26 +12,26 @@ use Rattle.wac_component.specs.Tree.{item_tree}
 use Rattle.wac_component.specs.declared.items.ItemKind.TheVariants.{Instance}
 use Rattle.wac_component.proofs.Walks.{walks_stand}
 use Rattle.wac_names.specs.Class.{Class, class_eq, class_of}
-use Rattle.wac_narrowing.specs.Taking.{AreTakenKeys, IsTakenKey, IsTakenItem}
-use Rattle.wac_call_lists.specs.Call.{Call, IsSoundCall, call_track}
-use Rattle.wac_call_lists.specs.Entries.{ReachesByUses}
-use Rattle.wac_call_lists.specs.TreeSets.{IsMeetOf}
-use Rattle.wac_call_lists.specs.WitList.{IsNamedInstance, IsPlainTree, IsWitList}
-use Rattle.wac_call_lists.specs.WitRun.{AreMembers}
-use Rattle.wac_call_lists.proofs.Among.{among_front, wit_list_fewer}
-use Rattle.wac_call_lists.proofs.Members.{named_not_plain, reaches_by_uses}
-use Rattle.wac_call_lists.proofs.MoreMembers.{members_of_more}
-use Rattle.wac_call_lists.proofs.Sets.{meet_moves}
+use Rattle.wac_aggregator_narrowing.specs.Taking.{AreTakenKeys, IsTakenKey, IsTakenItem}
+use Rattle.wac_aggregator_promises.specs.Call.{Call, IsSoundCall, call_track}
+use Rattle.wac_aggregator_promises.specs.Entries.{ReachesByUses}
+use Rattle.wac_aggregator_promises.specs.TreeSets.{IsMeetOf}
+use Rattle.wac_aggregator_promises.specs.WitList.{IsNamedInstance, IsPlainTree, IsWitList}
+use Rattle.wac_aggregator_promises.specs.WitRun.{AreMembers}
+use Rattle.wac_aggregator_promises.proofs.Among.{among_front, wit_list_fewer}
+use Rattle.wac_aggregator_promises.proofs.Members.{named_not_plain, reaches_by_uses}
+use Rattle.wac_aggregator_promises.proofs.MoreMembers.{members_of_more}
+use Rattle.wac_aggregator_promises.proofs.Sets.{meet_moves}
 use Rattle.wac_component.specs.Memo.{memo_of}
-use Rattle.wac_imports.specs.Import.{ImportContent, import_of, AreFiled}
-use Rattle.wac_taking.specs.Members.{TakesMembers}
-use Rattle.wac_taking.specs.Takes.{shared_in, state_of, MayTake}
-use Rattle.wac_taking.specs.declared.state.Merging.{Merging}
-use Rattle.wac_taking.proofs.Identifiers.{has_identifier, identifier_of}
-use Rattle.wac_taking.proofs.Members.{openly_by_uses}
+use Rattle.wac_aggregator_imports.specs.Import.{ImportContent, import_of, AreFiled}
+use Rattle.wac_aggregator_taking.specs.Members.{TakesMembers}
+use Rattle.wac_aggregator_taking.specs.Takes.{shared_in, state_of, MayTake}
+use Rattle.wac_aggregator_taking.specs.declared.state.Merging.{Merging}
+use Rattle.wac_aggregator_taking.proofs.Identifiers.{has_identifier, identifier_of}
+use Rattle.wac_aggregator_taking.proofs.Members.{openly_by_uses}
 use Rattle.wac_aggregator.specs.Advances.{Advances}
 use Rattle.wac_aggregator.specs.HandedIn.{IsOneOf}
-use Rattle.wac_aggregator.specs.Served.{AreServed}
+use Rattle.wac_aggregator.specs.Served.{AreCallsServed}
 use Rattle.wac_aggregator.specs.Wit.{AreInstances, AreUnstopped, IsWitAfter}
 use Rattle.wac_aggregator.proofs.Instances.{instance_fits, instance_of, first_key}
 use Rattle.wac_aggregator.proofs.Wit.{named_wit, taken_members, no_plain, unshared_plain, may_hand_in, plain_cases, plain_before}
@@ -49,7 +49,7 @@ one_instance : (call : Call) (i j : Id) → IsNamedInstance call i → IsNamedIn
 one_instance call i j m n = let both : Instance j ≡ Instance i = sym n.instance ∙ m.instance in cc
 
 module _ (calls front : List Call) (call : Call) (wit : IsWitList (front ++ call ∷ [])) (a b : Merging) (among : Contains calls call) (one : IsOneOf calls call.types) (may : MayTake call.types a) (sound : IsSoundCall call) (filed_a : AreFiled a.imports) (filed_b : AreFiled b.imports)
-    (served : AreServed calls front a) (w : IsWitAfter calls front a) (h : Advances call a b) where
+    (served : AreCallsServed calls front a) (w : IsWitAfter calls front a) (h : Advances call a b) where
   abbrev longer : List Call
   longer = front ++ call ∷ []
 

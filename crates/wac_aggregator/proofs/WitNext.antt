@@ -2,18 +2,18 @@
 use Rattle.std.proofs.Common.{inl, inr, List, [], ◌∷◌, ◌++◌, Contains}
 use Rattle.std.proofs.lemmas.List.Elements.{Contains-push}
 use Rattle.wac_component.specs.Id.{Id}
-use Rattle.wac_call_lists.specs.Call.{Call, IsSoundCall}
-use Rattle.wac_call_lists.specs.Entries.{ReachesByUses}
-use Rattle.wac_call_lists.specs.Shared.{Taken}
-use Rattle.wac_call_lists.specs.WitList.{AreWit, IsNamedInstance, IsWitList}
-use Rattle.wac_call_lists.proofs.Members.{wit_item}
-use Rattle.wac_imports.specs.Import.{AreFiled}
-use Rattle.wac_taking.specs.Members.{HasTakenIn, HasAllOf, TakesMembers}
-use Rattle.wac_taking.specs.Takes.{MayTake}
-use Rattle.wac_taking.specs.declared.state.Merging.{Merging}
+use Rattle.wac_aggregator_promises.specs.Call.{Call, IsSoundCall}
+use Rattle.wac_aggregator_promises.specs.Entries.{ReachesByUses}
+use Rattle.wac_aggregator_promises.specs.Shared.{TakenIds}
+use Rattle.wac_aggregator_promises.specs.WitList.{AreWit, IsNamedInstance, IsWitList}
+use Rattle.wac_aggregator_promises.proofs.Members.{wit_item}
+use Rattle.wac_aggregator_imports.specs.Import.{AreFiled}
+use Rattle.wac_aggregator_taking.specs.Members.{HasTakenIn, HasAllOf, TakesMembers}
+use Rattle.wac_aggregator_taking.specs.Takes.{MayTake}
+use Rattle.wac_aggregator_taking.specs.declared.state.Merging.{Merging}
 use Rattle.wac_aggregator.specs.Advances.{Advances}
 use Rattle.wac_aggregator.specs.HandedIn.{IsOneOf}
-use Rattle.wac_aggregator.specs.Served.{AreServed}
+use Rattle.wac_aggregator.specs.Served.{AreCallsServed}
 use Rattle.wac_aggregator.specs.Wit.{IsWitAfter, MayHandIn}
 use Rattle.wac_aggregator.proofs.Wit.{named_wit, may_hand_in}
 use Rattle.wac_aggregator.proofs.WitNamed.{named_next}
@@ -21,10 +21,10 @@ use Rattle.wac_aggregator.proofs.WitPlain.{plain_next}
 
 -- what takes in the interfaces that a named instance reaches by uses
 abbrev pub TakesInNamed : Call → Merging → Merging → Type 0
-TakesInNamed call a b = (i : Id) → MayHandIn call a i → (taken : Taken) → AreWit call.types (ReachesByUses call.types i) → HasTakenIn a taken → HasAllOf call.types a taken → TakesMembers call.types a b (ReachesByUses call.types i) taken
+TakesInNamed call a b = (i : Id) → MayHandIn call a i → (taken : TakenIds) → AreWit call.types (ReachesByUses call.types i) → HasTakenIn a taken → HasAllOf call.types a taken → TakesMembers call.types a b (ReachesByUses call.types i) taken
 
 module _ (calls front : List Call) (call : Call) (wit : IsWitList (front ++ call ∷ [])) (a b : Merging) (among : Contains calls call) (one : IsOneOf calls call.types) (may : MayTake call.types a) (sound : IsSoundCall call) (filed_a : AreFiled a.imports) (filed_b : AreFiled b.imports)
-    (served : AreServed calls front a) (w : IsWitAfter calls front a) (h : Advances call a b) where
+    (served : AreCallsServed calls front a) (w : IsWitAfter calls front a) (h : Advances call a b) where
   takes_members : TakesInNamed call a b → (i : Id) (n : IsNamedInstance call i) → TakesMembers call.types a b (ReachesByUses call.types i) w.taken
   takes_members take i n = take i (may_hand_in calls front call a i wit filed_a served w n) w.taken (named_wit front call wit i n) w.has (w.all call.types one)
 

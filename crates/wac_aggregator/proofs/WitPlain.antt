@@ -11,32 +11,32 @@ use Rattle.wac_component.specs.Tree.{item_tree}
 use Rattle.wac_component.specs.declared.items.ItemKind.TheVariants.{Instance}
 use Rattle.wac_names.specs.Class.{Class, class_eq, class_of}
 use Rattle.wac_names.proofs.Classes.{classes_decided}
-use Rattle.wac_narrowing.specs.Identified.{IsUnstopped}
-use Rattle.wac_narrowing.specs.Taking.{IsTakenItem}
-use Rattle.wac_call_lists.specs.Aggregated.{track_imports}
-use Rattle.wac_call_lists.specs.Call.{Call, IsSoundCall, call_track, call_tree}
-use Rattle.wac_call_lists.specs.Due.{of_name}
-use Rattle.wac_call_lists.specs.PlainRun.{IsMetWith}
-use Rattle.wac_call_lists.specs.TreeSets.{IsMeetOf}
-use Rattle.wac_call_lists.specs.WitList.{IsPlainTree, IsPlainApart, IsWitList}
-use Rattle.wac_call_lists.specs.WitRun.{AreMembers}
-use Rattle.wac_call_lists.proofs.Among.{among_front, wit_list_fewer}
-use Rattle.wac_call_lists.proofs.Members.{named_not_plain}
-use Rattle.wac_call_lists.proofs.MoreMembers.{members_of_more}
-use Rattle.wac_call_lists.proofs.Sets.{meet_moves, meet_of_more, meet_of_one}
+use Rattle.wac_aggregator_narrowing.specs.Identified.{IsUnstopped}
+use Rattle.wac_aggregator_narrowing.specs.Taking.{IsTakenItem}
+use Rattle.wac_aggregator_promises.specs.Aggregated.{track_imports}
+use Rattle.wac_aggregator_promises.specs.Call.{Call, IsSoundCall, call_track, call_tree}
+use Rattle.wac_aggregator_promises.specs.Due.{of_name}
+use Rattle.wac_aggregator_promises.specs.PlainRun.{IsTreeMetWith}
+use Rattle.wac_aggregator_promises.specs.TreeSets.{IsMeetOf}
+use Rattle.wac_aggregator_promises.specs.WitList.{IsPlainTree, IsPlainApart, IsWitList}
+use Rattle.wac_aggregator_promises.specs.WitRun.{AreMembers}
+use Rattle.wac_aggregator_promises.proofs.Among.{among_front, wit_list_fewer}
+use Rattle.wac_aggregator_promises.proofs.Members.{named_not_plain}
+use Rattle.wac_aggregator_promises.proofs.MoreMembers.{members_of_more}
+use Rattle.wac_aggregator_promises.proofs.Sets.{meet_moves, meet_of_more, meet_of_one}
 use Rattle.wac_component.specs.Memo.{memo_of}
-use Rattle.wac_imports.specs.Import.{ImportContent, import_of, AreFiled}
-use Rattle.wac_taking.specs.Members.{TakesMembers}
-use Rattle.wac_taking.specs.Takes.{shared_in, shared_keys, state_of, MayTake, OnlyGrows}
-use Rattle.wac_taking.specs.declared.state.Merging.{Merging}
-use Rattle.wac_taking.proofs.Members.{TakesMembers-grown}
-use Rattle.wac_taking.proofs.Plain.{plain_quiet}
-use Rattle.wac_taking.proofs.TakeLemmas.{only_grows}
+use Rattle.wac_aggregator_imports.specs.Import.{ImportContent, import_of, AreFiled}
+use Rattle.wac_aggregator_taking.specs.Members.{TakesMembers}
+use Rattle.wac_aggregator_taking.specs.Takes.{shared_in, shared_keys, state_of, MayTake, OnlyGrows}
+use Rattle.wac_aggregator_taking.specs.declared.state.Merging.{Merging}
+use Rattle.wac_aggregator_taking.proofs.Members.{TakesMembers-grown}
+use Rattle.wac_aggregator_taking.proofs.Plain.{plain_quiet}
+use Rattle.wac_aggregator_taking.proofs.TakeLemmas.{only_grows}
 use Rattle.wac_component.proofs.Extended.{Extends-trans}
 use Rattle.wac_aggregator.specs.Advances.{Advances}
 use Rattle.wac_aggregator.specs.Content.{shown, content_of}
 use Rattle.wac_aggregator.specs.HandedIn.{IsOneOf}
-use Rattle.wac_aggregator.specs.Served.{AreServed}
+use Rattle.wac_aggregator.specs.Served.{AreCallsServed}
 use Rattle.wac_aggregator.specs.Wit.{AreInstances, AreUnstopped, IsWitAfter, trees_of}
 use Rattle.wac_aggregator.proofs.Advancing.{placing, taken_kept, rest, run}
 use Rattle.wac_aggregator.proofs.Leading.{placed_here}
@@ -45,7 +45,7 @@ use Rattle.wac_aggregator.proofs.Wit.{no_plain, import_due, plain_cases, plain_b
 use Rattle.wac_aggregator.proofs.WitMoves.{still_unstopped, taken_unstopped, on_other, on_own, stood_stands, unstopped_after}
 
 module _ (calls front : List Call) (call : Call) (wit : IsWitList (front ++ call ∷ [])) (a b : Merging) (among : Contains calls call) (one : IsOneOf calls call.types) (may : MayTake call.types a) (sound : IsSoundCall call) (filed_a : AreFiled a.imports) (filed_b : AreFiled b.imports)
-    (served : AreServed calls front a) (w : IsWitAfter calls front a) (h : Advances call a b) where
+    (served : AreCallsServed calls front a) (w : IsWitAfter calls front a) (h : Advances call a b) where
   abbrev longer : List Call
   longer = front ++ call ∷ []
 
@@ -114,13 +114,13 @@ module _ (calls front : List Call) (call : Call) (wit : IsWitList (front ++ call
     own_meet : shared_in b.shared.entries c ≡ None → IsMeetOf (item_tree b.types h.import) (IsPlainTree longer c)
     own_meet none = by (import_of a.imports c) refl met
       where
-        met : IsMetWith (trees_of a c) (call_tree call) (Some (item_tree b.types h.import))
-        met = subst (λ o. IsMetWith o (call_tree call) (Some (item_tree b.types h.import))) (track_import a c filed_a)
-            (subst (λ o. IsMetWith (track_imports (shown (content_of a)) c) (call_tree call) o)
+        met : IsTreeMetWith (trees_of a c) (call_tree call) (Some (item_tree b.types h.import))
+        met = subst (λ o. IsTreeMetWith o (call_tree call) (Some (item_tree b.types h.import))) (track_import a c filed_a)
+            (subst (λ o. IsTreeMetWith (track_imports (shown (content_of a)) c) (call_tree call) o)
             (track_import b c filed_b ∙ ap (option_map (λ (i : ImportContent). item_tree b.types i.1)) (placed_here a.imports h.taken.imports b.imports call.name h.import (placing call a b may filed_a filed_b h) h.takes.stays))
             (plain_step call a b may filed_a filed_b h p.plain).here)
 
-        by : (o : Option ImportContent) → import_of a.imports c ≡ o → IsMetWith (option_map (λ (i : ImportContent). item_tree a.types i.1) o) (call_tree call) (Some (item_tree b.types h.import)) → IsMeetOf (item_tree b.types h.import) (IsPlainTree longer c)
+        by : (o : Option ImportContent) → import_of a.imports c ≡ o → IsTreeMetWith (option_map (λ (i : ImportContent). item_tree a.types i.1) o) (call_tree call) (Some (item_tree b.types h.import)) → IsMeetOf (item_tree b.types h.import) (IsPlainTree longer c)
         by None at same = subst (λ x. IsMeetOf x (IsPlainTree longer c)) (sym same) (meet_of_one (IsPlainTree longer c) (call_tree call) own_tree only)
           where
             only : (x : ItemTree) → IsPlainTree longer c x → x ≡ call_tree call

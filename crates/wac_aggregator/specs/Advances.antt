@@ -9,28 +9,28 @@ use Rattle.wac_component.specs.Key.{Each, AllStand, item_keys}
 use Rattle.wac_component.specs.Tree.{item_tree}
 use Rattle.wac_component.specs.declared.items.ItemKind.{ItemKind}
 use Rattle.wac_names.specs.Class.{class_of}
-use Rattle.wac_narrowing.specs.Identified.{IsCovered, IsUnstopped}
-use Rattle.wac_narrowing.specs.Taking.{IsTakenItem}
-use Rattle.wac_call_lists.specs.Attempt.{Attempt, single_attempt}
-use Rattle.wac_call_lists.specs.Call.{Call, IsSoundCall, call_track, call_tree}
-use Rattle.wac_call_lists.specs.PlainList.{IsPlain}
-use Rattle.wac_call_lists.specs.TreeSets.{HaveNoLowerBound}
-use Rattle.wac_imports.specs.Import.{ImportContent, ImportsContent, import_of, PutsImport, IsNoted}
-use Rattle.wac_reasons.specs.Sharing.{AreHeld}
-use Rattle.wac_reasons.specs.Split.{AreSplit}
-use Rattle.wac_reasons.specs.Trial.{IsTrial, IsAccounted, IsOpenSource}
-use Rattle.wac_refusals.specs.declared.error.AggregateError.{AggregateError}
-use Rattle.wac_refusals.specs.declared.error.AggregateError.TheVariants.{Memory}
-use Rattle.wac_taking.specs.Growing.{StepsOn, IsMetWith, with_own}
-use Rattle.wac_taking.specs.Refused.{HasReason}
-use Rattle.wac_taking.specs.Takes.{shared_keys, state_of, Takes}
-use Rattle.wac_taking.specs.declared.state.Merging.{Merging}
+use Rattle.wac_aggregator_narrowing.specs.Identified.{IsCovered, IsUnstopped}
+use Rattle.wac_aggregator_narrowing.specs.Taking.{IsTakenItem}
+use Rattle.wac_aggregator_promises.specs.Attempt.{Attempt, single_attempt}
+use Rattle.wac_aggregator_promises.specs.Call.{Call, IsSoundCall, call_track, call_tree}
+use Rattle.wac_aggregator_promises.specs.PlainList.{IsPlain}
+use Rattle.wac_aggregator_promises.specs.TreeSets.{HaveNoLowerBound}
+use Rattle.wac_aggregator_imports.specs.Import.{ImportContent, ImportsContent, import_of, PutsImport, IsImportNoted}
+use Rattle.wac_aggregator_reasons.specs.Sharing.{AreHeld}
+use Rattle.wac_aggregator_reasons.specs.Split.{AreSplit}
+use Rattle.wac_aggregator_reasons.specs.Trial.{IsTrial, IsAccounted, IsOpenSource}
+use Rattle.wac_aggregator_errors.specs.declared.error.AggregateError.{AggregateError}
+use Rattle.wac_aggregator_errors.specs.declared.error.AggregateError.TheVariants.{Memory}
+use Rattle.wac_aggregator_taking.specs.Growing.{StepsOn, IsOwnMeet, with_own}
+use Rattle.wac_aggregator_taking.specs.Refused.{HasReason}
+use Rattle.wac_aggregator_taking.specs.Takes.{shared_keys, state_of, Takes}
+use Rattle.wac_aggregator_taking.specs.declared.state.Merging.{Merging}
 
 -- what is imported on the name's track is this item now: under the name where there was no import
 -- before the call and none came with the item, else as the import that stood there is noted
-pub data IsPlaced (before taken now : ImportsContent) (name : Text) (k : ItemKind) : Type 0 where
-  added : import_of before (class_of name) ≡ None → import_of taken (class_of name) ≡ None → PutsImport taken now (class_of name) (name, k) → now.led ≡ taken.led → IsPlaced before taken now name k
-  noted : (i : ImportContent) → import_of before (class_of name) ≡ Some i → IsNoted taken now (class_of name) i.0 name k → IsPlaced before taken now name k
+pub data IsImportPlaced (before taken now : ImportsContent) (name : Text) (k : ItemKind) : Type 0 where
+  added : import_of before (class_of name) ≡ None → import_of taken (class_of name) ≡ None → PutsImport taken now (class_of name) (name, k) → now.led ≡ taken.led → IsImportPlaced before taken now name k
+  noted : (i : ImportContent) → import_of before (class_of name) ≡ Some i → IsImportNoted taken now (class_of name) i.0 name k → IsImportPlaced before taken now name k
 
 -- the item is taken in; then an import is placed on the track of the name, which fits where the
 -- item is asked for, and where the import was that stood there
@@ -54,14 +54,14 @@ pub record Advances (call : Call) (a b : Merging) : Type 0 where
   -- none does from what it is met of
   pub unstopped : (i : ImportContent) → import_of a.imports (call_track call) ≡ Some i → Each (IsUnstopped taken.types) (item_keys i.1) → Each (IsUnstopped taken.types) (item_keys own) → Each (IsUnstopped b.types) (item_keys import)
   pub greatest : (i : ImportContent) → import_of a.imports (call_track call) ≡ Some i → (t : ItemTree) → Fits t (item_tree taken.types i.1) → Fits t (item_tree taken.types own) → Fits t (item_tree b.types import)
-  pub placed : IsPlaced a.imports taken.imports b.imports call.name import
+  pub placed : IsImportPlaced a.imports taken.imports b.imports call.name import
   -- while a call is tried whose item openly reaches this one's, all stays accounted for, and the
   -- import is open and comes from sources
   pub accounts : (at : Attempt) → IsTrial at call.types (item_keys call.kind) → IsAccounted at (state_of a) → IsAccounted at (with_own (state_of taken) b.types) × Each (IsOpenSource at (with_own (state_of taken) b.types)) (item_keys import)
 
 -- an import stands on the track of the name, and no item fits where
 -- either that or the item is asked for
-pub record HasNoMeet (call : Call) (a : Merging) : Type 0 where
+pub record CallHasNoMeet (call : Call) (a : Merging) : Type 0 where
   pub import : ImportContent
   pub stood : import_of a.imports (call_track call) ≡ Some import
   pub no_bound : HaveNoLowerBound (item_tree a.types import.1) (call_tree call)
@@ -80,7 +80,7 @@ pub record MayTry (call : Call) (a : Merging) : Type 0 where
 -- why a call is refused: a plain item since it has no meet with the import on
 -- its track; and there is reason
 pub record IsCallRefusal (call : Call) (a : Merging) (e : AggregateError) : Type 0 where
-  pub plain : IsPlain call.types call.kind → HasNoMeet call a
+  pub plain : IsPlain call.types call.kind → CallHasNoMeet call a
   pub reason : MayTry call a → HasReason (attempt_at call a) e
 
 -- that is so unless an allocation fails
@@ -88,7 +88,7 @@ abbrev pub IsRefusedCall : Call → Merging → AggregateError → Type 0
 IsRefusedCall call a e = e ≢ Memory → IsCallRefusal call a e
 
 -- an import under the name is put last, where none stood on its track
-pub record IsAdded (a b : Merging) (name : Text) (k : ItemKind) : Type 0 where
+pub record PutsLast (a b : Merging) (name : Text) (k : ItemKind) : Type 0 where
   pub same : b ≡ record a { imports = b.imports }
   pub none : import_of a.imports (class_of name) ≡ None
   pub puts : PutsImport a.imports b.imports (class_of name) (name, k)
@@ -98,5 +98,5 @@ pub record IsAdded (a b : Merging) (name : Text) (k : ItemKind) : Type 0 where
 pub record IsMerged (a b : Merging) (name : Text) (existing own : ItemKind) : Type 0 where
   pub same : b ≡ record a { types = b.types; imports = b.imports }
   pub import : ItemKind
-  pub met : IsMetWith a.types b.types existing own import
-  pub noted : (i : ImportContent) → import_of a.imports (class_of name) ≡ Some i → IsNoted a.imports b.imports (class_of name) i.0 name import
+  pub met : IsOwnMeet a.types b.types existing own import
+  pub noted : (i : ImportContent) → import_of a.imports (class_of name) ≡ Some i → IsImportNoted a.imports b.imports (class_of name) i.0 name import

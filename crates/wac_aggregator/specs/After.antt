@@ -1,11 +1,11 @@
 -- Why a call is refused that comes after others.
 use Rattle.std.specs.Prelude.{◌≡◌, ℕ, List}
-use Rattle.wac_call_lists.specs.Aggregated.{Aggregated, IsAggregated, IsByTrack, track_imports}
-use Rattle.wac_call_lists.specs.Attempt.{single_attempt}
-use Rattle.wac_call_lists.specs.Call.{Call, call_track}
-use Rattle.wac_call_lists.specs.Holding.{HoldsReached}
-use Rattle.wac_refusals.specs.declared.error.AggregateError.{AggregateError}
-use Rattle.wac_taking.specs.Refused.{HasReason}
+use Rattle.wac_aggregator_promises.specs.Aggregated.{Aggregated, IsAggregated, IsByTrack, track_imports}
+use Rattle.wac_aggregator_promises.specs.Attempt.{single_attempt}
+use Rattle.wac_aggregator_promises.specs.Call.{Call, call_track}
+use Rattle.wac_aggregator_promises.specs.Holding.{HoldsReached}
+use Rattle.wac_aggregator_errors.specs.declared.error.AggregateError.{AggregateError}
+use Rattle.wac_aggregator_taking.specs.Refused.{HasReason}
 
 -- there is reason to refuse the call, with some collection of this number, and imports
 -- that serve the calls before it; the collection holds no interface on another track than those

@@ -6,13 +6,13 @@ use Rattle.wac_component.specs.Id.{Id}
 use Rattle.wac_component.specs.Key.{Key, Sort, defined_sort, resource_sort, func_sort, interface_sort, world_sort, module_sort, defined_key, resource_key, func_key, interface_key, world_key, module_key}
 use Rattle.wac_component.specs.Memo.{Remembered, own_of}
 use Rattle.wac_names.specs.Class.{Class}
-use Rattle.wac_call_lists.specs.Aggregated.{Aggregated}
-use Rattle.wac_narrowing.specs.State.{State}
+use Rattle.wac_aggregator_promises.specs.Aggregated.{Aggregated}
+use Rattle.wac_aggregator_narrowing.specs.State.{State}
 use Rattle.wac_component.specs.declared.memo.Memo.{Memo}
-use Rattle.wac_imports.specs.Import.{ImportsContent, canonical, import_at}
-use Rattle.wac_imports.specs.Left.{listed}
-use Rattle.wac_taking.specs.Takes.{shared_keys}
-use Rattle.wac_taking.specs.declared.state.Merging.{Merging}
+use Rattle.wac_aggregator_imports.specs.Import.{ImportsContent, canonical, import_at}
+use Rattle.wac_aggregator_imports.specs.Left.{listed_imports}
+use Rattle.wac_aggregator_taking.specs.Takes.{shared_keys}
+use Rattle.wac_aggregator_taking.specs.declared.state.Merging.{Merging}
 
 -- ids of other collections, each with the own id that stands for it, sort by sort
 pub record Pairs : Type 0 where
@@ -34,7 +34,7 @@ pub record AggregatorContent : Type 0 where
 
 -- its collection, its imports, and where names lead
 abbrev pub shown : AggregatorContent → Aggregated
-shown a = record { types = a.types; imports = listed a.imports; canonical = canonical a.imports }
+shown a = record { types = a.types; imports = listed_imports a.imports; canonical = canonical a.imports }
 
 -- what stands for an id of a sort, if anything does
 abbrev pub own_in : Pairs → Sort → Id → Option Key
@@ -53,8 +53,8 @@ abbrev pub state_in : AggregatorContent → State
 state_in a = record { own = a.types; shared = shared_keys a.shared; imports = import_at a.imports; taken = remembered_in a.taken; copies = remembered_in a.copies }
 
 -- what the state of merging holds of that
-abbrev pub pairs_of : Memo → Pairs
-pairs_of m = record { defined = m.defined.entries; resources = m.resources.entries; funcs = m.funcs.entries; interfaces = m.interfaces.entries; worlds = m.worlds.entries; modules = m.modules.entries }
+abbrev pub memo_pairs : Memo → Pairs
+memo_pairs m = record { defined = m.defined.entries; resources = m.resources.entries; funcs = m.funcs.entries; interfaces = m.interfaces.entries; worlds = m.worlds.entries; modules = m.modules.entries }
 
 abbrev pub content_of : Merging → AggregatorContent
-content_of a = record { types = a.types; imports = a.imports; shared = a.shared.entries; taken = pairs_of a.taken; copies = pairs_of a.copies }
+content_of a = record { types = a.types; imports = a.imports; shared = a.shared.entries; taken = memo_pairs a.taken; copies = memo_pairs a.copies }

@@ -1,8 +1,8 @@
 -- What is handed in.
 use Rattle.std.specs.Prelude.{List, Contains, map}
 use Rattle.wac_component.specs.Collection.{Collection}
-use Rattle.wac_narrowing.specs.State.{IsOneWith}
-use Rattle.wac_call_lists.specs.Call as listed
+use Rattle.wac_aggregator_narrowing.specs.State.{IsOneWith}
+use Rattle.wac_aggregator_promises.specs.Call as listed
 use Rattle.wac_aggregator.specs.declared.all.Call.{Call}
 
 -- a call, with what its references refer to

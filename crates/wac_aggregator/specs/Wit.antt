@@ -8,21 +8,21 @@ use Rattle.wac_component.specs.Key.{Each, item_keys}
 use Rattle.wac_component.specs.Tree.{item_tree}
 use Rattle.wac_component.specs.declared.items.ItemKind.TheVariants.{Instance}
 use Rattle.wac_names.specs.Class.{Class}
-use Rattle.wac_call_lists.specs.Answer.{Imports}
-use Rattle.wac_call_lists.specs.Call.{Call, call_track}
-use Rattle.wac_call_lists.specs.Shared.{Taken}
-use Rattle.wac_call_lists.specs.TreeSets.{IsMeetOf}
-use Rattle.wac_call_lists.specs.WitList.{IsNamedInstance, IsPlainTree}
-use Rattle.wac_call_lists.specs.WitRun.{AreMembers}
-use Rattle.wac_imports.specs.Import.{ImportContent, import_of}
-use Rattle.wac_narrowing.specs.Identified.{IsUnstopped}
-use Rattle.wac_taking.specs.Members.{HasTakenIn, HasAllOf}
-use Rattle.wac_taking.specs.Takes.{shared_in}
-use Rattle.wac_taking.specs.declared.state.Merging.{Merging}
+use Rattle.wac_aggregator_promises.specs.Answer.{ImportTrees}
+use Rattle.wac_aggregator_promises.specs.Call.{Call, call_track}
+use Rattle.wac_aggregator_promises.specs.Shared.{TakenIds}
+use Rattle.wac_aggregator_promises.specs.TreeSets.{IsMeetOf}
+use Rattle.wac_aggregator_promises.specs.WitList.{IsNamedInstance, IsPlainTree}
+use Rattle.wac_aggregator_promises.specs.WitRun.{AreMembers}
+use Rattle.wac_aggregator_imports.specs.Import.{ImportContent, import_of}
+use Rattle.wac_aggregator_narrowing.specs.Identified.{IsUnstopped}
+use Rattle.wac_aggregator_taking.specs.Members.{HasTakenIn, HasAllOf}
+use Rattle.wac_aggregator_taking.specs.Takes.{shared_in}
+use Rattle.wac_aggregator_taking.specs.declared.state.Merging.{Merging}
 use Rattle.wac_aggregator.specs.HandedIn.{IsOneOf}
 
 -- the trees of the imports
-abbrev pub trees_of : Merging → Imports
+abbrev pub trees_of : Merging → ImportTrees
 trees_of a t = option_map (λ (i : ImportContent). item_tree a.types i.1) (import_of a.imports t)
 
 -- an import on the track of a shared entry is an instance of that
@@ -37,7 +37,7 @@ AreUnstopped a = (t : Class) (i : ImportContent) → import_of a.imports t ≡ S
 -- import is an instance of the shared entry on its track, or the meet of the plain items there,
 -- which openly leads to no interface with an identifier
 pub record IsWitAfter (calls front : List Call) (a : Merging) : Type 0 where
-  pub taken : Taken
+  pub taken : TakenIds
   pub has : HasTakenIn a taken
   pub members : AreMembers front taken
   pub all : (g : Collection) → IsOneOf calls g → HasAllOf g a taken

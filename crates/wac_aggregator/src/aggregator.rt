@@ -7,32 +7,32 @@ ghost use Rattle.wac_component.specs.Key.{AllStand, item_keys};
 ghost use Rattle.wac_component.specs.declared.items.ItemKind.{ItemKind};
 ghost use Rattle.wac_checker.specs.Cache.{without_number};
 ghost use Rattle.wac_checker.specs.Checker.{direction, depth, remembered};
-ghost use Rattle.wac_call_lists.specs.Aggregated.{IsByTrack, IsStep, track_imports};
-ghost use Rattle.wac_call_lists.specs.Attempt.{single_attempt};
-ghost use Rattle.wac_call_lists.specs.Due.{OwnsOn};
-ghost use Rattle.wac_call_lists.specs.Holding.{HoldsNoOthers};
-ghost use Rattle.wac_call_lists.specs.Imported.{track_names, ImportsAfter};
-ghost use Rattle.wac_call_lists.specs.PlainList.{IsPlain};
-ghost use Rattle.wac_call_lists.specs.PlainRun.{IsPlainStep, IsPlainRefusal};
-ghost use Rattle.wac_refusals.specs.declared.error.AggregateError.TheVariants.{Memory};
-ghost use Rattle.wac_imports.specs.Left.{imports_left};
+ghost use Rattle.wac_aggregator_promises.specs.Aggregated.{IsByTrack, IsCallStep, track_imports};
+ghost use Rattle.wac_aggregator_promises.specs.Attempt.{single_attempt};
+ghost use Rattle.wac_aggregator_promises.specs.Due.{OwnsOn};
+ghost use Rattle.wac_aggregator_promises.specs.Holding.{HoldsNoOthers};
+ghost use Rattle.wac_aggregator_promises.specs.Imported.{track_names, ImportsAfter};
+ghost use Rattle.wac_aggregator_promises.specs.PlainList.{IsPlain};
+ghost use Rattle.wac_aggregator_promises.specs.PlainRun.{IsPlainStep, IsPlainRefusal};
+ghost use Rattle.wac_aggregator_errors.specs.declared.error.AggregateError.TheVariants.{Memory};
+ghost use Rattle.wac_aggregator_imports.specs.Left.{imports_left};
 ghost use Rattle.wac_names.specs.Class.{Class, class_of};
-ghost use Rattle.wac_narrowing.specs.Remembers.{RemembersTruly};
-ghost use Rattle.wac_narrowing.specs.State.{IsOneWith};
-ghost use Rattle.wac_taking.specs.Refused.{HasReason};
-ghost use Rattle.wac_taking.specs.Takes.{OwnersImported};
+ghost use Rattle.wac_aggregator_narrowing.specs.Remembers.{RemembersTruly};
+ghost use Rattle.wac_aggregator_narrowing.specs.State.{IsOneWith};
+ghost use Rattle.wac_aggregator_taking.specs.Refused.{HasReason};
+ghost use Rattle.wac_aggregator_taking.specs.Takes.{OwnersImported};
 ghost use Rattle.wac_aggregator.specs.Content.{shown, state_in};
 
 use super::importing::advance;
 use super::start::no_imports;
 use std::alloc::Global;
 use std::marker::Model;
+use wac_aggregator_errors::AggregateError;
+use wac_aggregator_imports::Imports;
+use wac_aggregator_taking::Merging;
 use wac_checker::SubtypeChecker;
 use wac_component::{ItemKind, Types};
-use wac_imports::Imports;
 use wac_mismatch::SubtypeCheck;
-use wac_refusals::AggregateError;
-use wac_taking::Merging;
 
 /// Aggregates items of different collections into imports: items that are handed in under
 /// compatible names become one import, which fits where each of them is asked for.
@@ -43,13 +43,13 @@ pub struct TypeAggregator {
 
 impl Model for TypeAggregator {
     ghost use Rattle.wac_aggregator.specs.Content.{AggregatorContent, content_of};
-    ghost use Rattle.wac_aggregator.specs.InOrder.{IsInOrder};
+    ghost use Rattle.wac_aggregator.specs.InOrder.{IsMergingInOrder};
 
     ghost Value = { AggregatorContent };
 
     ghost view = { λ a. content_of a.state };
 
-    ghost invariant = { λ a. IsInOrder a.state };
+    ghost invariant = { λ a. IsMergingInOrder a.state };
 }
 
 impl TypeAggregator {
@@ -124,7 +124,7 @@ impl TypeAggregator {
         requires source { AllStand types.now (item_keys kind) }
         requires apart { types.now.number ≢ self.types.number }
         requires remembered { RemembersTruly class_of types.now (state_in self) }
-        ensures step { IfOk result (λ a. IsStep (shown self) (shown a) (record { name = name.now; types = types.now; kind = kind })) }
+        ensures step { IfOk result (λ a. IsCallStep (shown self) (shown a) (record { name = name.now; types = types.now; kind = kind })) }
         ensures plain { MatchResult result (λ a. IsPlain types.now kind → IsPlainStep (track_imports (shown self)) (track_imports (shown a)) (record { name = name.now; types = types.now; kind = kind })) (λ e. IsPlain types.now kind → e ≢ Memory → IsPlainRefusal (track_imports (shown self)) (record { name = name.now; types = types.now; kind = kind })) }
         ensures reason { IfErr result (HasReason (single_attempt self.types (track_imports (shown self) (class_of name.now)) (record { name = name.now; types = types.now; kind = kind }))) }
         ensures by_track { IfOk result (λ a. IsByTrack (shown a)) }

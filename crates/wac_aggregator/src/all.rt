@@ -5,15 +5,15 @@ ghost use Rattle.wac_component.specs.Collection.{Collection};
 ghost use Rattle.wac_component.specs.Key.{AllStand, item_keys};
 ghost use Rattle.wac_checker.specs.Cache.{without_number};
 ghost use Rattle.wac_checker.specs.Checker.{direction, depth, remembered};
-ghost use Rattle.wac_call_lists.specs.Aggregated.{IsAggregated, IsByTrack, track_imports};
-ghost use Rattle.wac_call_lists.specs.Answer.{accepted, refused, IsPlainAnswer, IsWitAnswer};
-ghost use Rattle.wac_call_lists.specs.PlainList.{IsPlainList};
-ghost use Rattle.wac_call_lists.specs.WitList.{IsWitList};
+ghost use Rattle.wac_aggregator_promises.specs.Aggregated.{IsAggregated, IsByTrack, track_imports};
+ghost use Rattle.wac_aggregator_promises.specs.Answer.{accepted, refused, IsPlainAnswer, IsWitAnswer};
+ghost use Rattle.wac_aggregator_promises.specs.PlainList.{IsPlainList};
+ghost use Rattle.wac_aggregator_promises.specs.WitList.{IsWitList};
 ghost use Rattle.wac_names.specs.Class.{class_of};
-ghost use Rattle.wac_narrowing.specs.Remembers.{RemembersTruly};
-ghost use Rattle.wac_refusals.specs.declared.error.AggregateError.TheVariants.{Memory};
-ghost use Rattle.wac_taking.specs.Takes.{OwnersImported};
-ghost use Rattle.wac_call_lists.specs.Call as listed;
+ghost use Rattle.wac_aggregator_narrowing.specs.Remembers.{RemembersTruly};
+ghost use Rattle.wac_aggregator_errors.specs.declared.error.AggregateError.TheVariants.{Memory};
+ghost use Rattle.wac_aggregator_taking.specs.Takes.{OwnersImported};
+ghost use Rattle.wac_aggregator_promises.specs.Call as listed;
 ghost use Rattle.wac_aggregator.specs.HandedIn.{handed_in, IsOneOf};
 ghost use Rattle.wac_aggregator.specs.After.{HasReasonAfter};
 ghost use Rattle.wac_aggregator.specs.Content.{shown, state_in};
@@ -22,9 +22,9 @@ use super::aggregator::TypeAggregator;
 use super::importing::advance;
 use super::start::no_imports;
 use std::alloc::Global;
+use wac_aggregator_errors::AggregateAllError;
 use wac_checker::SubtypeChecker;
 use wac_component::{ItemKind, Types};
-use wac_refusals::AggregateAllError;
 
 /// What is handed to an aggregator.
 #[derive(Clone, Copy)]

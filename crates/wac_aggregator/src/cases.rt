@@ -6,12 +6,12 @@ ghost use Rattle.wac_component.specs.Id.{Id};
 ghost use Rattle.wac_component.specs.Key.{item_keys, interface_key};
 ghost use Rattle.wac_component.specs.Tree.{item_tree};
 ghost use Rattle.wac_component.specs.declared.items.ItemKind.TheVariants.{«Type» as OfType, Instance};
-ghost use Rattle.wac_call_lists.specs.Case.{case_of};
+ghost use Rattle.wac_aggregator_promises.specs.Case.{case_of};
 
 use wac_component::{InterfaceId, ItemKind, Type};
 
 /// The interface that an item is an instance of, or that it is as a type.
-pub(crate) fn interface_of(kind: &ItemKind) -> Option<InterfaceId>
+pub(crate) fn as_interface(kind: &ItemKind) -> Option<InterfaceId>
     ensures { IfSome result (λ i. item_keys kind.now ≡ interface_key i ∷ []) }
 {
     match kind {

@@ -6,25 +6,25 @@ ghost use Rattle.wac_model.specs.Desc.{item_desc};
 ghost use Rattle.wac_component.specs.Id.{Id};
 ghost use Rattle.wac_component.specs.Key.{AllStand, item_keys};
 ghost use Rattle.wac_component.specs.Tree.{item_tree};
-ghost use Rattle.wac_call_lists.specs.Case.{case_of};
-ghost use Rattle.wac_call_lists.specs.Entries.{ReachesByUses};
-ghost use Rattle.wac_call_lists.specs.Reason.{kinds, taken};
-ghost use Rattle.wac_imports.specs.Import.{import_of};
+ghost use Rattle.wac_aggregator_promises.specs.Case.{case_of};
+ghost use Rattle.wac_aggregator_promises.specs.Entries.{ReachesByUses};
+ghost use Rattle.wac_aggregator_promises.specs.Reason.{kinds, taken};
+ghost use Rattle.wac_aggregator_imports.specs.Import.{import_of};
 ghost use Rattle.wac_names.specs.Class.{class_of};
-ghost use Rattle.wac_refusals.specs.declared.error.AggregateError.TheVariants.{Memory};
-ghost use Rattle.wac_taking.specs.Members.{AnswersMembers};
-ghost use Rattle.wac_refusals.specs.Said.{said};
-ghost use Rattle.wac_taking.specs.Takes.{MayTake};
-ghost use Rattle.wac_aggregator.specs.Advances.{Advances, IsAdded, IsRefusedCall};
+ghost use Rattle.wac_aggregator_errors.specs.declared.error.AggregateError.TheVariants.{Memory};
+ghost use Rattle.wac_aggregator_taking.specs.Members.{AnswersMembers};
+ghost use Rattle.wac_aggregator_errors.specs.Said.{said};
+ghost use Rattle.wac_aggregator_taking.specs.Takes.{MayTake};
+ghost use Rattle.wac_aggregator.specs.Advances.{Advances, PutsLast, IsRefusedCall};
 ghost use Rattle.wac_aggregator.specs.Wit.{MayHandIn};
 
-use super::cases::{interface_of, same_case};
+use super::cases::{as_interface, same_case};
 use super::noting::note_import;
 use std::alloc::AllocError;
+use wac_aggregator_errors::AggregateError;
+use wac_aggregator_taking::{Merging, take_item};
 use wac_component::{ItemKind, Type, Types};
 use wac_names::NameClass;
-use wac_refusals::AggregateError;
-use wac_taking::{Merging, take_item};
 
 /// Imports an item under a name, and notes what is told of a mismatch.
 pub(crate) fn advance(
@@ -111,7 +111,7 @@ fn put_import(
     own: ItemKind,
 ) -> Result<(), AggregateError>
     requires of { class ≡ class_of name.now }
-    ensures { MatchResult result (λ u. IsAdded state.old state.new name.now own) (λ e. (e ≡ Memory) ⊎ (IsSome (import_of state.old.imports (class_of name.now)) × (said e ≡ Some (taken name.now)))) }
+    ensures { MatchResult result (λ u. PutsLast state.old state.new name.now own) (λ e. (e ≡ Memory) ⊎ (IsSome (import_of state.old.imports (class_of name.now)) × (said e ≡ Some (taken name.now)))) }
 {
     let name = String::from_str(state.alloc(), name)?;
     if state.imports.kind_of(&class).is_some() {
@@ -159,7 +159,7 @@ fn merge_taken(
     ensures advances { MatchResult result (λ u. Advances (record { name = name.now; types = types.now; kind = kind }) state.old state.new) (IsRefusedCall (record { name = name.now; types = types.now; kind = kind }) state.old) }
     ensures members { (i : Id) → MayHandIn (record { name = name.now; types = types.now; kind = kind }) state.old i → AnswersMembers result types.now state.old state.new (ReachesByUses types.now i) }
 {
-    let near = interface_of(&existing);
+    let near = as_interface(&existing);
     match take_item(state, types, kind, near) {
         Ok(own) => note_import(state, class, name, existing, own),
         Err(error) => Err(error),

@@ -11,5 +11,5 @@ mod start;
 
 pub use aggregator::TypeAggregator;
 pub use all::{Call, aggregate_all};
-pub use wac_imports::Imports;
-pub use wac_refusals::{AggregateAllError, AggregateError, MergeFrame};
+pub use wac_aggregator_errors::{AggregateAllError, AggregateError, MergeFrame};
+pub use wac_aggregator_imports::Imports;

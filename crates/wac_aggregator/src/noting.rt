@@ -4,19 +4,19 @@ ghost use Rattle.std.specs.Prelude.{◌≡◌, Some, IsSome, IfErr, IfOk, MatchR
 ghost use Rattle.wac_component.specs.Id.{Id};
 ghost use Rattle.wac_component.specs.Key.{AllStand, item_keys};
 ghost use Rattle.wac_component.specs.declared.items.ItemKind.TheVariants.{Instance};
-ghost use Rattle.wac_imports.specs.Import.{ImportContent, import_of, IsNoted};
+ghost use Rattle.wac_aggregator_imports.specs.Import.{ImportContent, import_of, IsImportNoted};
 ghost use Rattle.wac_names.specs.Class.{class_of};
-ghost use Rattle.wac_refusals.specs.declared.error.AggregateError.TheVariants.{Memory};
-ghost use Rattle.wac_taking.specs.Growing.{IsMetWith};
-ghost use Rattle.wac_taking.specs.Refused.{IsMergeRefusal};
+ghost use Rattle.wac_aggregator_errors.specs.declared.error.AggregateError.TheVariants.{Memory};
+ghost use Rattle.wac_aggregator_taking.specs.Growing.{IsOwnMeet};
+ghost use Rattle.wac_aggregator_taking.specs.Refused.{IsMergeRefusal};
 ghost use Rattle.wac_aggregator.specs.Advances.{IsMerged};
 
 use super::cases::is_one_instance;
 use std::alloc::AllocError;
+use wac_aggregator_errors::{AggregateError, check_uses_of, mismatch};
+use wac_aggregator_taking::{Merging, meet_own};
 use wac_component::ItemKind;
 use wac_names::NameClass;
-use wac_refusals::{AggregateError, check_uses_of, mismatch};
-use wac_taking::{Merging, meet_own};
 
 /// Merges an item that was taken in into the import of a class.
 pub(crate) fn note_import(
@@ -49,7 +49,7 @@ fn merge_items(
     requires existing { AllStand state.old.types (item_keys existing) }
     requires own { AllStand state.old.types (item_keys own) }
     ensures same { state.new ≡ record state.old { types = state.new.types } }
-    ensures met { MatchResult result (IsMetWith state.old.types state.new.types existing own) (IsMergeRefusal state.old.types existing own) }
+    ensures met { MatchResult result (IsOwnMeet state.old.types state.new.types existing own) (IsMergeRefusal state.old.types existing own) }
     ensures itself { (i : Id) → existing ≡ Instance i → own ≡ Instance i → IfErr result (λ e. e ≡ Memory) }
 {
     if is_one_instance(existing, own) {
@@ -72,7 +72,7 @@ fn note(state: &mut Merging, class: NameClass, name: &str, met: ItemKind) -> Res
     requires of { class ≡ class_of name.now }
     requires found { IsSome (import_of state.old.imports class) }
     ensures same { state.new ≡ record state.old { imports = state.new.imports } }
-    ensures noted { IfOk result (λ u. (i : ImportContent) → import_of state.old.imports class ≡ Some i → IsNoted state.old.imports state.new.imports class i.0 name.now met) }
+    ensures noted { IfOk result (λ u. (i : ImportContent) → import_of state.old.imports class ≡ Some i → IsImportNoted state.old.imports state.new.imports class i.0 name.now met) }
 {
     let alloc = state.alloc();
     let name = String::from_str(alloc, name)?;

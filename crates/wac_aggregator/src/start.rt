@@ -4,10 +4,10 @@ ghost use Rattle.wac_aggregator.specs.InOrder.{IsStart};
 
 use indexmap::IndexMap;
 use std::alloc::Global;
+use wac_aggregator_imports::ImportList;
+use wac_aggregator_taking::Merging;
 use wac_component::{Memo, Types};
-use wac_imports::ImportList;
 use wac_mismatch::SubtypeCheck;
-use wac_taking::Merging;
 
 /// No imports, and nothing that was taken in. The own collection has this number.
 pub(crate) fn no_imports(alloc: Global, number: u64, check: SubtypeCheck) -> Merging

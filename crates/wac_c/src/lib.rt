@@ -6,7 +6,7 @@
 ghost use Rattle.std.specs.Prelude.{◌≡◌};
 ghost use denote.RawPtr.{null_ptr};
 ghost use Rattle.std.specs.declared.option.Option.TheVariants.{None};
-ghost use Rattle.wac_c_calls.specs.Sessions.{IsBegun, IsKept};
+ghost use Rattle.wac_c_calls.specs.Sessions.{IsSessionBegun, IsSessionKept};
 
 use std::alloc::Global;
 use wac_c_calls::{
@@ -32,7 +32,7 @@ pub extern "C" fn wac_answer_script(alloc: Global, script: &[u8], out: &mut [u8]
 /// Begins a session; one that is there is ended. Gives 0, or `WAC_NO_MEMORY`.
 #[unsafe(no_mangle)]
 pub extern "C" fn wac_session_new(alloc: Global, session: &mut Handle) -> isize
-    ensures { IsBegun session.old.value session.new.value result }
+    ensures { IsSessionBegun session.old.value session.new.value result }
 {
     session_new(alloc, session)
 }
@@ -40,7 +40,7 @@ pub extern "C" fn wac_session_new(alloc: Global, session: &mut Handle) -> isize
 /// Carries out lines of a session, and gives the length of what they answer.
 #[unsafe(no_mangle)]
 pub extern "C" fn wac_session_feed(alloc: Global, session: &mut Handle, script: &[u8]) -> isize
-    ensures kept { IsKept session.old.value session.new.value result }
+    ensures kept { IsSessionKept session.old.value session.new.value result }
     ensures same_pointer { session.new.at ≡ session.old.at }
 {
     session_feed(alloc, session, script)
@@ -54,7 +54,7 @@ pub extern "C" fn wac_session_ask(
     script: &[u8],
     out: &mut [u8],
 ) -> isize
-    ensures kept { IsKept session.old.value session.new.value result }
+    ensures kept { IsSessionKept session.old.value session.new.value result }
     ensures same_pointer { session.new.at ≡ session.old.at }
 {
     session_ask(alloc, session, script, out)

@@ -10,11 +10,11 @@ IsThere None = ⊥
 IsThere (Some d) = Unit {0}
 
 -- 0: a session has begun;  else nothing has changed
-abbrev pub IsBegun : Option Dialogue → Option Dialogue → ℤ → Type 0
-IsBegun old new (pos n) = (n ≡ 0) × IsThere new
-IsBegun old new (negsuc n) = new ≡ old
+abbrev pub IsSessionBegun : Option Dialogue → Option Dialogue → ℤ → Type 0
+IsSessionBegun old new (pos n) = (n ≡ 0) × IsThere new
+IsSessionBegun old new (negsuc n) = new ≡ old
 
 -- a session that is there stays, and where there is none, the number says so
-abbrev pub IsKept : Option Dialogue → Option Dialogue → ℤ → Type 0
-IsKept None new r = (new ≡ None) × (r ≡ negsuc 2)
-IsKept (Some d) new r = IsThere new
+abbrev pub IsSessionKept : Option Dialogue → Option Dialogue → ℤ → Type 0
+IsSessionKept None new r = (new ≡ None) × (r ≡ negsuc 2)
+IsSessionKept (Some d) new r = IsThere new

@@ -3,7 +3,7 @@
 ghost use Rattle.std.specs.Prelude.{◌≡◌};
 ghost use denote.RawPtr.{null_ptr};
 ghost use Rattle.std.specs.declared.option.Option.TheVariants.{None};
-ghost use Rattle.wac_c_calls.specs.Sessions.{IsBegun, IsKept};
+ghost use Rattle.wac_c_calls.specs.Sessions.{IsSessionBegun, IsSessionKept};
 
 use super::answer::{NO_MEMORY, NO_SESSION};
 use super::handle::Handle;
@@ -15,7 +15,7 @@ use wac_script_program::Dialogue;
 
 /// Begins a session; one that is there is ended. Gives 0, or the number for want of memory.
 pub fn session_new(alloc: Global, session: &mut Handle) -> isize
-    ensures { IsBegun session.old.value session.new.value result }
+    ensures { IsSessionBegun session.old.value session.new.value result }
 {
     match Box::new(alloc, Dialogue::new(alloc)) {
         Ok(dialogue) => {
@@ -29,7 +29,7 @@ pub fn session_new(alloc: Global, session: &mut Handle) -> isize
 /// Carries out lines, after all that were carried out before, and keeps what they answer. Gives the
 /// length of that.
 pub fn session_feed(alloc: Global, session: &mut Handle, script: &[u8]) -> isize
-    ensures kept { IsKept session.old.value session.new.value result }
+    ensures kept { IsSessionKept session.old.value session.new.value result }
     ensures same_pointer { session.new.at ≡ session.old.at }
 {
     let Some(mut dialogue) = replace(session, Handle::empty(alloc)).into_raw_box() else {
@@ -42,7 +42,7 @@ pub fn session_feed(alloc: Global, session: &mut Handle, script: &[u8]) -> isize
 
 /// The same, with the answer; of no lines, the answer that is kept.
 pub fn session_ask(alloc: Global, session: &mut Handle, script: &[u8], out: &mut [u8]) -> isize
-    ensures kept { IsKept session.old.value session.new.value result }
+    ensures kept { IsSessionKept session.old.value session.new.value result }
     ensures same_pointer { session.new.at ≡ session.old.at }
 {
     let Some(mut dialogue) = replace(session, Handle::empty(alloc)).into_raw_box() else {

@@ -2,7 +2,7 @@
 
 ghost use Rattle.std.specs.Prelude.{◌↔◌, IfOk, IsTrue};
 ghost use Rattle.wac_types.specs.Key.{Stands, world_key};
-ghost use Rattle.wac_types.specs.Report.{IsClean, IsReport, world_at};
+ghost use Rattle.wac_types.specs.Report.{IsClean, IsReport, world_content_of};
 ghost use Rattle.wac_types.specs.declared.TargetValidationReport.{TargetValidationReport};
 
 use std::alloc::Global;
@@ -18,7 +18,7 @@ pub fn can_run(
 ) -> Result<bool, TargetError>
     requires host { Stands types.now (world_key host) }
     requires component { Stands types.now (world_key component) }
-    ensures { IfOk result (λ yes. (r : TargetValidationReport) × IsReport types.now (world_at types.now host) (world_at types.now component) r × (IsTrue yes ↔ IsClean r)) }
+    ensures { IfOk result (λ yes. (r : TargetValidationReport) × IsReport types.now (world_content_of types.now host) (world_content_of types.now component) r × (IsTrue yes ↔ IsClean r)) }
 {
     match validate_target(alloc, types, host, component) {
         Ok(Ok(())) => Ok(true),

@@ -2,7 +2,7 @@
 use Rattle.std.proofs.Common.{◌≡◌, ◌≢◌, ◌⊎◌, inl, inr, refl, subst, List, [], ◌∷◌, ◌++◌, Contains, IfOk, MatchResult, Result, Ok, Err}
 use Rattle.std.specs.Prelude.{IsPermutation}
 use Rattle.std.proofs.lemmas.List.Elements.{Contains-push_cases}
-use Rattle.wac_types.specs.Aggregated.{LeadsBelow, IsAggregated, IsStep, track_imports}
+use Rattle.wac_types.specs.Aggregated.{LeadsBelow, IsAggregated, IsCallStep, track_imports}
 use Rattle.wac_types.specs.Aggregator.{AggregatorContent, shown}
 use Rattle.wac_types.specs.Answer.{accepted, refused, IsWitAnswer}
 use Rattle.wac_types.specs.Call.{Call, call_tree}
@@ -14,7 +14,7 @@ use Rattle.wac_types.specs.WitList.{IsWitList}
 use Rattle.wac_types.specs.declared.AggregateAllError.{AggregateAllError}
 use Rattle.wac_types.specs.declared.AggregateError.{AggregateError}
 use Rattle.wac_types.specs.declared.AggregateError.TheVariants.{Memory, Kinds, Mismatch, UsedInterface, UsedName, NoIdentifier, OwnerWithoutIdentifier, Taken, Cycle}
-use Rattle.wac_composition.specs.Answered.{AreAnsweredAlike, AreServed}
+use Rattle.wac_composition.specs.Answered.{AreAnsweredAlike, AreNamesServed}
 
 -- an error that isn't another is a failed allocation
 only_memory : (e : AggregateError) → (e ≢ Memory → ⊥) → e ≡ Memory
@@ -41,18 +41,18 @@ module _ (law : ImportsAreGreatestBounds) (calls others : List Call) (permuted :
 
 module _ (transitive : IsTransitive) (calls : List Call) (last : Call) (a : AggregatorContent) (all : IsAggregated calls (shown a)) where
   -- what served a call does so after the next
-  served_still : (b : AggregatorContent) → IsStep (shown a) (shown b) last → (c : Call) → Contains calls c → LeadsBelow (shown b) c.name (call_tree c)
+  served_still : (b : AggregatorContent) → IsCallStep (shown a) (shown b) last → (c : Call) → Contains calls c → LeadsBelow (shown b) c.name (call_tree c)
   served_still b step c among =
       let before = all.served c c among among refl in
       let now = step.kept c.name before.import before.is_import in
       record { import = now.import; is_import = now.is_import; fits = transitive (item_tree b.types now.import) (item_tree a.types before.import) (call_tree c) now.fits before.fits }
 
-  served_now : (b : AggregatorContent) → IsStep (shown a) (shown b) last → AreServed (calls ++ last ∷ []) b
+  served_now : (b : AggregatorContent) → IsCallStep (shown a) (shown b) last → AreNamesServed (calls ++ last ∷ []) b
   served_now b step c among = elim (Contains-push_cases calls last c among) [
     | inl old ↦ served_still b step c old
     | inr same ↦ subst (λ d. LeadsBelow (shown b) d.name (call_tree d)) same step.served
   ]
 
-  pub served_on : (r : Result AggregatorContent AggregateError) → IfOk r (λ b. IsStep (shown a) (shown b) last) → IfOk r (AreServed (calls ++ last ∷ []))
+  pub served_on : (r : Result AggregatorContent AggregateError) → IfOk r (λ b. IsCallStep (shown a) (shown b) last) → IfOk r (AreNamesServed (calls ++ last ∷ []))
   served_on (Ok b) step = served_now b step
   served_on (Err e) step = tt

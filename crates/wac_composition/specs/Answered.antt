@@ -17,5 +17,5 @@ AreAnsweredAlike (Err e) (Ok b) = e.error ≡ Memory
 AreAnsweredAlike (Err e) (Err f) = Unit {0}
 
 -- the name of each call leads to an import that fits where its item is asked for
-abbrev pub AreServed : List Call → AggregatorContent → Type 0
-AreServed calls a = (c : Call) → Contains calls c → LeadsBelow (shown a) c.name (call_tree c)
+abbrev pub AreNamesServed : List Call → AggregatorContent → Type 0
+AreNamesServed calls a = (c : Call) → Contains calls c → LeadsBelow (shown a) c.name (call_tree c)

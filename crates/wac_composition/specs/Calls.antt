@@ -6,12 +6,12 @@ use Rattle.wac_types.specs.Call.{Call}
 use Rattle.wac_composition.specs.declared.graph.Graph.{Graph}
 
 -- the collection of a component, by its number
-abbrev pub collection_at : Graph → ℕ → Option Collection
-collection_at g n = cond (nat_eq n 1) (Some g.middleware.types) (cond (nat_eq n 2) (Some g.handler.types) (cond (nat_eq n 3) (Some g.client.types) None))
+abbrev pub component_types : Graph → ℕ → Option Collection
+component_types g n = cond (nat_eq n 1) (Some g.middleware.types) (cond (nat_eq n 2) (Some g.handler.types) (cond (nat_eq n 3) (Some g.client.types) None))
 
 -- the call is of the collection of a component, and its item stands there
 pub record IsCallOf (g : Graph) (c : Call) : Type 0 where
-  pub found : collection_at g c.types.number ≡ Some c.types
+  pub found : component_types g c.types.number ≡ Some c.types
   pub stands : AllStand c.types (item_keys c.kind)
 
 abbrev pub AreCallsOf : Graph → List Call → Type 0

@@ -2,7 +2,7 @@
 
 ghost use Rattle.std.specs.Prelude.{◌≡◌};
 
-use super::failure::Failure;
+use super::failure::CompositionFailure;
 use indexmap::IndexMap;
 use std::alloc::Global;
 use wac_types::{
@@ -16,7 +16,7 @@ pub(crate) fn add_func(
     types: &mut Types,
     param: (&str, ValueType),
     result_type: Option<ValueType>,
-) -> Result<ItemKind, Failure>
+) -> Result<ItemKind, CompositionFailure>
     ensures { types.new.number ≡ types.old.number }
 {
     let (name, ty) = param;
@@ -28,7 +28,7 @@ pub(crate) fn add_func(
         is_async: false,
     };
     if !types.can_add_func_type(&func) {
-        return Err(Failure::Missing);
+        return Err(CompositionFailure::Missing);
     }
     Ok(ItemKind::Func(types.add_func_type(func)?))
 }
@@ -39,13 +39,13 @@ pub(crate) fn add_resource(
     types: &mut Types,
     name: &str,
     alias: Option<ResourceAlias>,
-) -> Result<ResourceId, Failure>
+) -> Result<ResourceId, CompositionFailure>
     ensures { types.new.number ≡ types.old.number }
 {
     let name = String::from_str(alloc, name)?;
     let resource = Resource { name, alias };
     if !types.can_add_resource(&resource) {
-        return Err(Failure::Missing);
+        return Err(CompositionFailure::Missing);
     }
     Ok(types.add_resource(resource)?)
 }
@@ -57,7 +57,7 @@ pub(crate) fn add_interface(
     id: &str,
     uses: &[(&str, InterfaceId)],
     exports: &[(&str, ItemKind)],
-) -> Result<InterfaceId, Failure>
+) -> Result<InterfaceId, CompositionFailure>
     ensures { types.new.number ≡ types.old.number }
 {
     let mut interface = Interface::new(alloc);
@@ -75,7 +75,7 @@ pub(crate) fn add_interface(
             .insert(String::from_str(alloc, name)?, *item)?;
     }
     if !types.can_add_interface(&interface) {
-        return Err(Failure::Missing);
+        return Err(CompositionFailure::Missing);
     }
     Ok(types.add_interface(interface)?)
 }

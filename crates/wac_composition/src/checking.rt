@@ -1,6 +1,6 @@
 //! Whether one item fits where another is asked for.
 
-use super::failure::Failure;
+use super::failure::CompositionFailure;
 use std::alloc::Global;
 use std::collections::HashSet;
 use wac_types::{ItemKind, SubtypeChecker, SubtypeError, Types};
@@ -14,14 +14,14 @@ pub(crate) fn push_answer(
     at: &Types,
     b: &ItemKind,
     bt: &Types,
-) -> Result<(), Failure> {
+) -> Result<(), CompositionFailure> {
     if at.number() == bt.number() || !at.contains_item(*a) || !bt.contains_item(*b) {
-        return Err(Failure::Missing);
+        return Err(CompositionFailure::Missing);
     }
     let mut cache = HashSet::new(alloc);
     match SubtypeChecker::new(&mut cache).is_subtype(alloc, *a, at, *b, bt) {
         Ok(()) => text.push_str("fits\n")?,
-        Err(SubtypeError::Memory) => return Err(Failure::Memory),
+        Err(SubtypeError::Memory) => return Err(CompositionFailure::Memory),
         Err(error) => {
             let path = error.path();
             writeln!(text, "doesn't fit: {path}")?;

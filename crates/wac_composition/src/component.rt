@@ -3,7 +3,7 @@
 ghost use Rattle.std.specs.Prelude.{◌≡◌, IfOk};
 ghost use Rattle.wac_types.specs.Key.{Stands, interface_key, world_key};
 
-use super::failure::Failure;
+use super::failure::CompositionFailure;
 use indexmap::IndexMap;
 use std::alloc::Global;
 use wac_types::{Interface, InterfaceId, ItemKind, Types, World, WorldId};
@@ -25,7 +25,7 @@ impl Component {
         mut types: Types,
         imports: &[&str],
         exports: &[&str],
-    ) -> Result<Component, Failure>
+    ) -> Result<Component, CompositionFailure>
         ensures { IfOk result (λ c. c.types.number ≡ types.number) }
     {
         let world = add_world(alloc, &mut types, imports, exports)?;
@@ -49,7 +49,7 @@ pub(crate) fn add_world(
     types: &mut Types,
     imports: &[&str],
     exports: &[&str],
-) -> Result<WorldId, Failure>
+) -> Result<WorldId, CompositionFailure>
     ensures stands { IfOk result (λ id. Stands types.new (world_key id)) }
     ensures number { types.new.number ≡ types.old.number }
 {
@@ -60,7 +60,7 @@ pub(crate) fn add_world(
         exports: instances(alloc, types, exports)?,
     };
     if !types.can_add_world(&world) {
-        return Err(Failure::Missing);
+        return Err(CompositionFailure::Missing);
     }
     Ok(types.add_world(world)?)
 }
@@ -69,7 +69,7 @@ fn instances(
     alloc: Global,
     types: &Types,
     names: &[&str],
-) -> Result<IndexMap<String, ItemKind>, Failure> {
+) -> Result<IndexMap<String, ItemKind>, CompositionFailure> {
     let mut map = IndexMap::new(alloc);
     for name in names {
         let id = interface_named(types, name)?;
@@ -79,18 +79,18 @@ fn instances(
 }
 
 /// The interface with this identifier.
-pub(crate) fn interface_named(types: &Types, name: &str) -> Result<InterfaceId, Failure>
+pub(crate) fn interface_named(types: &Types, name: &str) -> Result<InterfaceId, CompositionFailure>
     ensures { IfOk result (λ id. Stands types.now (interface_key id)) }
 {
     for index in 0..types.interfaces().len() {
         let Some(id) = types.interface_at(index) else {
-            return Err(Failure::Missing);
+            return Err(CompositionFailure::Missing);
         };
         if is_named(&types[id], name) {
             return Ok(id);
         }
     }
-    Err(Failure::Missing)
+    Err(CompositionFailure::Missing)
 }
 
 fn is_named(interface: &Interface, name: &str) -> bool {

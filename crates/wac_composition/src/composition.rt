@@ -2,7 +2,7 @@
 
 use super::checking::push_answer;
 use super::component::Component;
-use super::failure::Failure;
+use super::failure::CompositionFailure;
 use super::graph::Graph;
 use super::merging::{import_named, remaining};
 use super::orders::push_other_orders;
@@ -19,7 +19,7 @@ pub(crate) fn compose(
     alloc: Global,
     text: &mut String,
     client_text: PrimitiveType,
-) -> Result<(), Failure> {
+) -> Result<(), CompositionFailure> {
     let graph = Graph::new(alloc, client_text)?;
     push_links(alloc, text, &graph.handler, &graph.middleware)?;
     push_links(alloc, text, &graph.client, &graph.handler)?;
@@ -27,7 +27,7 @@ pub(crate) fn compose(
 }
 
 // Merges what remains to be imported.
-fn merge(alloc: Global, text: &mut String, graph: &Graph) -> Result<(), Failure> {
+fn merge(alloc: Global, text: &mut String, graph: &Graph) -> Result<(), CompositionFailure> {
     let calls = remaining(alloc, graph)?;
     let mut cache = HashSet::new(alloc);
     let mut checker = SubtypeChecker::new(&mut cache);
@@ -46,7 +46,7 @@ fn push_merged(
     text: &mut String,
     merged: &TypeAggregator,
     graph: &Graph,
-) -> Result<(), Failure> {
+) -> Result<(), CompositionFailure> {
     for (name, kind) in merged.imports() {
         push_import(text, merged.types(), name, kind)?;
     }
@@ -62,7 +62,7 @@ fn push_links(
     text: &mut String,
     giver: &Component,
     asker: &Component,
-) -> Result<(), Failure> {
+) -> Result<(), CompositionFailure> {
     let (from, to) = (giver.name, asker.name);
     for (export, given) in giver.exports() {
         for (import, wanted) in asker.imports() {
@@ -77,10 +77,14 @@ fn push_links(
 
 // Which call was refused, the steps to the two items that have no common lower
 // bound, and the path from there. A failed allocation says nothing of the call.
-fn push_refusal(text: &mut String, name: &str, refusal: &AggregateAllError) -> Result<(), Failure> {
+fn push_refusal(
+    text: &mut String,
+    name: &str,
+    refusal: &AggregateAllError,
+) -> Result<(), CompositionFailure> {
     let at = refusal.at;
     if matches!(&refusal.error, AggregateError::Memory) {
-        return Err(Failure::Memory);
+        return Err(CompositionFailure::Memory);
     }
     write!(text, "  call {at}, {name}, isn't merged: ")?;
     match &refusal.error {
@@ -102,12 +106,12 @@ fn push_import(
     types: &Types,
     name: &str,
     kind: ItemKind,
-) -> Result<(), Failure> {
+) -> Result<(), CompositionFailure> {
     let ItemKind::Instance(id) = kind else {
-        return Err(Failure::Missing);
+        return Err(CompositionFailure::Missing);
     };
     if !types.contains(Type::Interface(id)) {
-        return Err(Failure::Missing);
+        return Err(CompositionFailure::Missing);
     }
     write!(text, "  merged import {name} exports:")?;
     for export in types[id].exports.keys() {
@@ -124,7 +128,7 @@ fn push_served(
     text: &mut String,
     merged: &TypeAggregator,
     component: &Component,
-) -> Result<(), Failure> {
+) -> Result<(), CompositionFailure> {
     let to = component.name;
     for (import, wanted) in component.imports() {
         let name = merged.canonical_import_name(import);

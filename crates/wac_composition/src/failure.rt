@@ -4,21 +4,21 @@ use std::alloc::{AllocError, AllocFailed};
 
 /// Why a composition wasn't made.
 #[derive(Clone, Copy)]
-pub(crate) enum Failure {
+pub(crate) enum CompositionFailure {
     /// Something is named that isn't there.
     Missing,
     /// An allocation failed.
     Memory,
 }
 
-impl From<AllocError> for Failure {
-    fn from(_error: AllocError) -> Failure {
-        Failure::Memory
+impl From<AllocError> for CompositionFailure {
+    fn from(_error: AllocError) -> CompositionFailure {
+        CompositionFailure::Memory
     }
 }
 
-impl<T: Drop> From<AllocFailed<T>> for Failure {
-    fn from(_error: AllocFailed<T>) -> Failure {
-        Failure::Memory
+impl<T: Drop> From<AllocFailed<T>> for CompositionFailure {
+    fn from(_error: AllocFailed<T>) -> CompositionFailure {
+        CompositionFailure::Memory
     }
 }

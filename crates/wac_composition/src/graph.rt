@@ -1,10 +1,10 @@
 //! The three components. The handler gives the middleware what it hands requests on to, and the
 //! client gives the handler its store.
 
-ghost use Rattle.wac_composition.specs.Numbers.{AreNumbered};
+ghost use Rattle.wac_composition.specs.Numbers.{HaveNumbers};
 
 use super::component::Component;
-use super::failure::Failure;
+use super::failure::CompositionFailure;
 use super::packages::packages;
 use std::alloc::Global;
 use wac_types::PrimitiveType;
@@ -18,12 +18,12 @@ pub(crate) struct Graph {
     pub(crate) handler: Component,
     // Has a store, which it reaches over sockets.
     pub(crate) client: Component,
-    ghost numbered: { AreNumbered middleware.types handler.types client.types },
+    ghost numbered: { HaveNumbers middleware.types handler.types client.types },
 }
 
 impl Graph {
     /// The graph whose client has texts of this type.
-    pub(crate) fn new(alloc: Global, text: PrimitiveType) -> Result<Graph, Failure> {
+    pub(crate) fn new(alloc: Global, text: PrimitiveType) -> Result<Graph, CompositionFailure> {
         Ok(Graph {
             middleware: Component::new(
                 alloc,

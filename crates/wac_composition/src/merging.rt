@@ -3,16 +3,20 @@
 
 ghost use Rattle.std.specs.Prelude.{◌≡◌, [], ◌∷◌, ◌++◌, Some, IfOk, OnOk};
 ghost use Rattle.wac_types.specs.HandedIn.{handed_in};
-ghost use Rattle.wac_composition.specs.Calls.{AreCallsOf, collection_at};
+ghost use Rattle.wac_composition.specs.Calls.{AreCallsOf, component_types};
 
 use super::component::Component;
-use super::failure::Failure;
+use super::failure::CompositionFailure;
 use super::graph::Graph;
 use std::alloc::{AllocError, Global};
 use wac_types::{Call, ItemKind, TypeAggregator, Types, are_semver_compatible};
 
 // Whether a component gives another what it imports: exports something on the track of that name.
-fn is_given(alloc: Global, giver: Option<&Component>, import: &str) -> Result<bool, Failure> {
+fn is_given(
+    alloc: Global,
+    giver: Option<&Component>,
+    import: &str,
+) -> Result<bool, CompositionFailure> {
     let Some(giver) = giver else {
         return Ok(false);
     };
@@ -31,15 +35,15 @@ fn push_remaining<'a>(
     graph: &Graph,
     component: &'a Component,
     giver: Option<&Component>,
-) -> Result<(), Failure>
-    requires component { collection_at graph.now component.now.types.number ≡ Some component.now.types }
+) -> Result<(), CompositionFailure>
+    requires component { component_types graph.now component.now.types.number ≡ Some component.now.types }
     requires calls { AreCallsOf graph.now (handed_in calls.old.items) }
     ensures { OnOk result (AreCallsOf graph.now (handed_in calls.new.items)) }
 {
     let types = &component.types;
     for (name, kind) in component.imports() {
         if !types.contains_item(*kind) {
-            return Err(Failure::Missing);
+            return Err(CompositionFailure::Missing);
         }
         if !is_given(alloc, giver, name)? {
             push_call(calls, name, types, *kind)?;
@@ -63,7 +67,7 @@ fn push_call<'a>(
 }
 
 /// What remains to be imported by the components of a graph.
-pub(crate) fn remaining(alloc: Global, graph: &Graph) -> Result<Vec<Call<'_>>, Failure>
+pub(crate) fn remaining(alloc: Global, graph: &Graph) -> Result<Vec<Call<'_>>, CompositionFailure>
     ensures { IfOk result (λ calls. AreCallsOf graph.now (handed_in calls.items)) }
 {
     let mut calls = Vec::new(alloc);

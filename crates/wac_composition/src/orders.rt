@@ -4,10 +4,10 @@ ghost use Rattle.std.specs.Prelude.{◌⊎◌, [], ◌∷◌, ◌++◌, IfOk, Is
 ghost use Rattle.wac_types.specs.HandedIn.{called, handed_in};
 ghost use Rattle.wac_types.specs.PlainList.{IsPlainList};
 ghost use Rattle.wac_types.specs.WitList.{IsWitList};
-ghost use Rattle.wac_composition.specs.Answered.{AreAnsweredAlike, AreServed};
+ghost use Rattle.wac_composition.specs.Answered.{AreAnsweredAlike, AreNamesServed};
 ghost use Rattle.wac_composition.specs.Calls.{MayBeAggregated};
 
-use super::failure::Failure;
+use super::failure::CompositionFailure;
 use std::alloc::{AllocError, Global};
 use std::collections::HashSet;
 use wac_types::laws::{lists, trees};
@@ -47,7 +47,7 @@ fn aggregate_all_and_one(
     checker: &mut SubtypeChecker<'_>,
 ) -> Result<TypeAggregator, AggregateError>
     requires { MayBeAggregated number (handed_in calls.now ++ called last.now ∷ []) }
-    ensures { IfOk result (AreServed (handed_in calls.now ++ called last.now ∷ [])) }
+    ensures { IfOk result (AreNamesServed (handed_in calls.now ++ called last.now ∷ [])) }
 {
     trees::order_is_transitive();
     match aggregate_all(alloc, number, calls, checker) {
@@ -62,7 +62,7 @@ pub(crate) fn push_other_orders(
     alloc: Global,
     text: &mut String,
     calls: &[Call<'_>],
-) -> Result<(), Failure>
+) -> Result<(), CompositionFailure>
     requires { MayBeAggregated 4 (handed_in calls.now) }
 {
     push_reversed(alloc, text, calls)?;
@@ -73,7 +73,11 @@ pub(crate) fn push_other_orders(
 }
 
 // Says whether calls are answered alike in reverse order.
-fn push_reversed(alloc: Global, text: &mut String, calls: &[Call<'_>]) -> Result<(), Failure>
+fn push_reversed(
+    alloc: Global,
+    text: &mut String,
+    calls: &[Call<'_>],
+) -> Result<(), CompositionFailure>
     requires { MayBeAggregated 4 (handed_in calls.now) }
 {
     let reversed = reversed(alloc, calls)?;
@@ -90,10 +94,14 @@ fn push_reversed(alloc: Global, text: &mut String, calls: &[Call<'_>]) -> Result
 }
 
 // Whether calls were merged. A failed allocation says nothing of them.
-fn is_merged(answer: &Result<TypeAggregator, AggregateAllError>) -> Result<bool, Failure> {
+fn is_merged(
+    answer: &Result<TypeAggregator, AggregateAllError>,
+) -> Result<bool, CompositionFailure> {
     match answer {
         Ok(_) => Ok(true),
-        Err(refusal) if matches!(&refusal.error, AggregateError::Memory) => Err(Failure::Memory),
+        Err(refusal) if matches!(&refusal.error, AggregateError::Memory) => Err(
+            CompositionFailure::Memory,
+        ),
         Err(_) => Ok(false),
     }
 }
@@ -114,7 +122,7 @@ fn push_last(
     text: &mut String,
     calls: &[Call<'_>],
     last: &Call<'_>,
-) -> Result<(), Failure>
+) -> Result<(), CompositionFailure>
     requires { MayBeAggregated 4 (handed_in calls.now ++ called last.now ∷ []) }
 {
     let mut cache = HashSet::new(alloc);
@@ -122,7 +130,7 @@ fn push_last(
     let name = last.name;
     let said = match aggregate_all_and_one(alloc, 4, calls, last, &mut checker) {
         Ok(_) => "merged",
-        Err(AggregateError::Memory) => return Err(Failure::Memory),
+        Err(AggregateError::Memory) => return Err(CompositionFailure::Memory),
         Err(_) => "refused",
     };
     writeln!(

@@ -3,14 +3,18 @@
 ghost use Rattle.std.specs.Prelude.{◌≡◌, IfOk};
 
 use super::building::{add_func, add_interface, add_resource};
-use super::failure::Failure;
+use super::failure::CompositionFailure;
 use std::alloc::Global;
 use wac_types::{
     InterfaceId, ItemKind, PrimitiveType, ResourceAlias, ResourceId, Type, Types, ValueType,
 };
 
 /// A collection of these interfaces, in which texts are values of this type.
-pub(crate) fn packages(alloc: Global, number: u64, text: PrimitiveType) -> Result<Types, Failure>
+pub(crate) fn packages(
+    alloc: Global,
+    number: u64,
+    text: PrimitiveType,
+) -> Result<Types, CompositionFailure>
     ensures { IfOk result (λ types. types.number ≡ number) }
 {
     let mut types = Types::new(alloc, number);
@@ -28,7 +32,7 @@ fn add_requests(
     alloc: Global,
     types: &mut Types,
     id: &str,
-) -> Result<(InterfaceId, ResourceId), Failure>
+) -> Result<(InterfaceId, ResourceId), CompositionFailure>
     ensures { types.new.number ≡ types.old.number }
 {
     let request = add_resource(alloc, types, "request", None)?;
@@ -49,7 +53,7 @@ fn add_handler(
     id: &str,
     owner: InterfaceId,
     source: ResourceId,
-) -> Result<(), Failure>
+) -> Result<(), CompositionFailure>
     ensures { types.new.number ≡ types.old.number }
 {
     let alias = ResourceAlias {
@@ -68,7 +72,11 @@ fn add_handler(
 }
 
 // Logging; the newer version also warns.
-fn add_logging(alloc: Global, types: &mut Types, text: PrimitiveType) -> Result<(), Failure>
+fn add_logging(
+    alloc: Global,
+    types: &mut Types,
+    text: PrimitiveType,
+) -> Result<(), CompositionFailure>
     ensures { types.new.number ≡ types.old.number }
 {
     let log = add_func(alloc, types, ("message", ValueType::Primitive(text)), None)?;
@@ -90,7 +98,7 @@ fn add_store_and_sockets(
     alloc: Global,
     types: &mut Types,
     text: PrimitiveType,
-) -> Result<(), Failure>
+) -> Result<(), CompositionFailure>
     ensures { types.new.number ≡ types.old.number }
 {
     let key = ("key", ValueType::Primitive(PrimitiveType::String));

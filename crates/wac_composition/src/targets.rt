@@ -8,7 +8,7 @@
 
 use super::checking::push_answer;
 use super::component::{Component, add_world, interface_named};
-use super::failure::Failure;
+use super::failure::CompositionFailure;
 use super::packages::packages;
 use std::alloc::Global;
 use wac_types::{
@@ -22,7 +22,7 @@ pub(crate) fn push_targets(
     text: &mut String,
     merged: &TypeAggregator,
     middleware: &Component,
-) -> Result<(), Failure> {
+) -> Result<(), CompositionFailure> {
     let mut types = packages(alloc, 5, PrimitiveType::String)?;
     let world = add_composed(alloc, text, &mut types, merged, middleware)?;
     push_target(alloc, text, &mut types, world, "wasi:logging/logging@0.2.1")?;
@@ -36,7 +36,7 @@ fn add_composed(
     types: &mut Types,
     merged: &TypeAggregator,
     middleware: &Component,
-) -> Result<WorldId, Failure> {
+) -> Result<WorldId, CompositionFailure> {
     let mut imports = Vec::new(alloc);
     for (name, wanted) in merged.imports() {
         push_imported(alloc, text, types, name, &wanted, merged)?;
@@ -58,7 +58,7 @@ fn push_imported(
     name: &str,
     wanted: &ItemKind,
     merged: &TypeAggregator,
-) -> Result<(), Failure> {
+) -> Result<(), CompositionFailure> {
     let given = ItemKind::Instance(interface_named(types, name)?);
     write!(
         text,
@@ -76,7 +76,7 @@ fn push_exported(
     name: &str,
     given: &ItemKind,
     middleware: &Component,
-) -> Result<(), Failure> {
+) -> Result<(), CompositionFailure> {
     let wanted = ItemKind::Instance(interface_named(types, name)?);
     write!(
         text,
@@ -92,18 +92,18 @@ fn push_target(
     types: &mut Types,
     component: WorldId,
     logging: &str,
-) -> Result<(), Failure> {
+) -> Result<(), CompositionFailure> {
     let imports = ["wasi:http/types@0.2.1", logging, "wasi:sockets/tcp@0.2.0"];
     let target = add_world(alloc, types, &imports, &["wasi:http/handler@0.2.0"])?;
     if !types.contains(Type::World(component)) {
-        return Err(Failure::Missing);
+        return Err(CompositionFailure::Missing);
     }
     write!(text, "  composed component in a world with {logging}: ")?;
     match validate_target(alloc, types, target, component) {
         Ok(Ok(())) => text.push_str("fits\n")?,
         Ok(Err(report)) => write!(text, "doesn't fit\n{report}")?,
-        Err(TargetError::NoIdentifier { interface: _ }) => return Err(Failure::Missing),
-        Err(TargetError::Memory) => return Err(Failure::Memory),
+        Err(TargetError::NoIdentifier { interface: _ }) => return Err(CompositionFailure::Missing),
+        Err(TargetError::Memory) => return Err(CompositionFailure::Memory),
     }
     Ok(())
 }

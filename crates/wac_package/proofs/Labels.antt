@@ -5,15 +5,15 @@ use Rattle.std.proofs.lemmas.List.Folds.{list_all-append}
 use Rattle.std.proofs.lemmas.List.Splits.{join_with_byte-slice_split, slice_split_at, slice_split_none}
 use Rattle.std.specs.Cmp.{first_so, second_so}
 use Rattle.std.specs.List.{All, join_with_byte, list_all, slice_split}
-use Rattle.wac_package.specs.InterfaceName.{IsLabel, begins_with_letter, is_acronym_byte, is_fragment, is_word_byte}
+use Rattle.wac_package.specs.InterfaceName.{IsLabel, begins_with_letter, is_acronym_byte, is_fragment, is_lowercase_or_digit}
 
 -- a byte that a label may have
 abbrev pub is_label_byte : ℕ → Bool
-is_label_byte b = is_word_byte b || (is_acronym_byte b || (b == 45))
+is_label_byte b = is_lowercase_or_digit b || (is_acronym_byte b || (b == 45))
 
 -- a byte that a fragment may have
 abbrev pub is_fragment_byte : ℕ → Bool
-is_fragment_byte b = is_word_byte b || is_acronym_byte b
+is_fragment_byte b = is_lowercase_or_digit b || is_acronym_byte b
 
 or_right : (a b : Bool) → b ≡ true → (a || b) ≡ true
 or_right true b h = refl
@@ -39,15 +39,15 @@ absent p c n (x ∷ xs) h (suc i) b e = absent p c n xs (second_so (p x) (list_a
 fragment_bytes : (part : List ℕ) → is_fragment part ≡ true → list_all is_fragment_byte part ≡ true
 fragment_bytes part h =
     let two = second_so (nat_lt 0 (length part)) _ h in
-    elim (cases_Bool (list_all is_word_byte part)) [
-      | inl w ↦ all_mono is_word_byte is_fragment_byte (λ b k. or_left (is_word_byte b) (is_acronym_byte b) k) part w
-      | inr w ↦ all_mono is_acronym_byte is_fragment_byte (λ b k. or_right (is_word_byte b) (is_acronym_byte b) k) part (rw w at two)
+    elim (cases_Bool (list_all is_lowercase_or_digit part)) [
+      | inl w ↦ all_mono is_lowercase_or_digit is_fragment_byte (λ b k. or_left (is_lowercase_or_digit b) (is_acronym_byte b) k) part w
+      | inr w ↦ all_mono is_acronym_byte is_fragment_byte (λ b k. or_right (is_lowercase_or_digit b) (is_acronym_byte b) k) part (rw w at two)
     ]
 
 label_byte : (b : ℕ) → is_fragment_byte b ≡ true → is_label_byte b ≡ true
-label_byte b h = elim (cases_Bool (is_word_byte b)) [
-  | inl w ↦ or_left (is_word_byte b) _ w
-  | inr w ↦ or_right (is_word_byte b) _ (or_left (is_acronym_byte b) _ (rw w at h))
+label_byte b h = elim (cases_Bool (is_lowercase_or_digit b)) [
+  | inl w ↦ or_left (is_lowercase_or_digit b) _ w
+  | inr w ↦ or_right (is_lowercase_or_digit b) _ (or_left (is_acronym_byte b) _ (rw w at h))
 ]
 
 fragment_label_bytes : (part : List ℕ) → is_fragment part ≡ true → list_all is_label_byte part ≡ true

@@ -9,8 +9,8 @@ use Rattle.wac_model.specs.Text.{Text}
 use Rattle.wac_names.specs.Track.{IsVersioned}
 
 -- a byte of a word: a lower-case letter or a digit
-abbrev pub is_word_byte : ℕ → Bool
-is_word_byte b = is_ascii_lowercase b || is_ascii_digit b
+abbrev pub is_lowercase_or_digit : ℕ → Bool
+is_lowercase_or_digit b = is_ascii_lowercase b || is_ascii_digit b
 
 -- a byte of an acronym: an upper-case letter or a digit
 abbrev pub is_acronym_byte : ℕ → Bool
@@ -18,7 +18,7 @@ is_acronym_byte b = is_ascii_uppercase b || is_ascii_digit b
 
 -- a part of a label (`fragment`): a word or an acronym, of one byte or more
 abbrev pub is_fragment : Text → Bool
-is_fragment part = nat_lt 0 (length part) && (list_all is_word_byte part || list_all is_acronym_byte part)
+is_fragment part = nat_lt 0 (length part) && (list_all is_lowercase_or_digit part || list_all is_acronym_byte part)
 
 abbrev pub begins_with_letter : Text → Bool
 begins_with_letter [] = false

@@ -4,7 +4,7 @@ ghost use Rattle.std.specs.Prelude.{◌≡◌, ◌↔◌, IfOk, IsTrue};
 ghost use Rattle.std.specs.List.{list_all};
 ghost use Rattle.semver.specs.Parse.{Parts};
 ghost use Rattle.wac_names.specs.Reading.{IsVersionText};
-ghost use Rattle.wac_package.specs.InterfaceName.{IsInterfaceName, IsInterfacePath, IsLabel, begins_with_letter, is_acronym_byte, is_fragment, is_word_byte};
+ghost use Rattle.wac_package.specs.InterfaceName.{IsInterfaceName, IsInterfacePath, IsLabel, begins_with_letter, is_acronym_byte, is_fragment, is_lowercase_or_digit};
 
 use std::alloc::{AllocError, Global};
 use wac_names::read_version;
@@ -70,7 +70,7 @@ fn is_fragment(part: &str) -> bool
 }
 
 fn is_word(bytes: &[u8]) -> bool
-    ensures { result ≡ list_all is_word_byte bytes.now }
+    ensures { result ≡ list_all is_lowercase_or_digit bytes.now }
 {
     bytes
         .iter()

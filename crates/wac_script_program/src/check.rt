@@ -3,7 +3,7 @@
 mod outcome;
 mod progress;
 
-use super::failure::Failure;
+use super::failure::ScriptFailure;
 use super::status::{DIFFERING, DONE, FAILED, MALFORMED, status_of};
 use progress::{Line, Progress};
 use std::alloc::Global;
@@ -17,7 +17,7 @@ fn check_lines<'a, W: Write>(
     progress: &mut Progress<'a>,
     script: &'a str,
     out: &mut W,
-) -> Result<(), Failure<'a>> {
+) -> Result<(), ScriptFailure<'a>> {
     for (i, text) in script.lines().enumerate() {
         let number = i.saturating_add(1);
         progress.take(alloc, Line { number, text }, out)?;
@@ -45,9 +45,9 @@ fn end<W: Write>(name: &str, progress: &Progress<'_>, out: &mut W) -> u8 {
 }
 
 // Says why a script was not read beyond a line, and answers the status.
-fn refuse<E: Write>(err: &mut E, name: &str, line: usize, failure: &Failure<'_>) -> u8 {
+fn refuse<E: Write>(err: &mut E, name: &str, line: usize, failure: &ScriptFailure<'_>) -> u8 {
     match failure {
-        Failure::Other => FAILED,
+        ScriptFailure::Other => FAILED,
         failure => status_of(MALFORMED, writeln!(err, "{name}:{line}: {failure}")),
     }
 }

@@ -6,7 +6,7 @@ use wac_script_syntax::ScriptError;
 
 /// Why a script was not read to its end.
 #[derive(Clone, Copy)]
-pub(crate) enum Failure<'a> {
+pub(crate) enum ScriptFailure<'a> {
     /// A line is no text in UTF-8.
     NoText,
     /// A line is no command that can be carried out.
@@ -21,36 +21,36 @@ pub(crate) enum Failure<'a> {
     Other,
 }
 
-impl From<AllocError> for Failure<'_> {
+impl From<AllocError> for ScriptFailure<'_> {
     fn from(_error: AllocError) -> Self {
-        Failure::Other
+        ScriptFailure::Other
     }
 }
 
-impl From<io::Error> for Failure<'_> {
+impl From<io::Error> for ScriptFailure<'_> {
     fn from(_error: io::Error) -> Self {
-        Failure::Other
+        ScriptFailure::Other
     }
 }
 
-impl<'a> From<ScriptError<'a>> for Failure<'a> {
+impl<'a> From<ScriptError<'a>> for ScriptFailure<'a> {
     fn from(error: ScriptError<'a>) -> Self {
         match error {
-            ScriptError::Memory => Failure::Other,
-            error => Failure::Refused(error),
+            ScriptError::Memory => ScriptFailure::Other,
+            error => ScriptFailure::Refused(error),
         }
     }
 }
 
-impl fmt::Display for Failure<'_> {
+impl fmt::Display for ScriptFailure<'_> {
     fn fmt<W: fmt::Write>(&self, f: &mut fmt::Formatter<W>) -> fmt::Result {
         match self {
-            Failure::NoText => write!(f, "expected text in UTF-8"),
-            Failure::Refused(error) => write!(f, "{error}"),
-            Failure::NoQuestion => write!(f, "expected a question before an answer"),
-            Failure::NoAnswer => write!(f, "expected an answer after the question"),
-            Failure::NoCommand => write!(f, "expected a command before a refusal"),
-            Failure::Other => write!(f, "an allocation, a read or a write failed"),
+            ScriptFailure::NoText => write!(f, "expected text in UTF-8"),
+            ScriptFailure::Refused(error) => write!(f, "{error}"),
+            ScriptFailure::NoQuestion => write!(f, "expected a question before an answer"),
+            ScriptFailure::NoAnswer => write!(f, "expected an answer after the question"),
+            ScriptFailure::NoCommand => write!(f, "expected a command before a refusal"),
+            ScriptFailure::Other => write!(f, "an allocation, a read or a write failed"),
         }
     }
 }

@@ -1,6 +1,6 @@
 //! Reads a script, and prints its answers.
 
-use super::failure::Failure;
+use super::failure::ScriptFailure;
 use super::status::{DONE, FAILED, MALFORMED, status_of};
 use std::alloc::Global;
 use std::io;
@@ -52,12 +52,12 @@ fn take<W: Write, E: Write>(
 ) -> u8 {
     let outcome = match line {
         Ok(line) => carry_out(alloc, session, line.as_str(), out),
-        Err(e) if e.kind() == io::ErrorKind::InvalidData => Err(Failure::NoText),
-        Err(_) => Err(Failure::Other),
+        Err(e) if e.kind() == io::ErrorKind::InvalidData => Err(ScriptFailure::NoText),
+        Err(_) => Err(ScriptFailure::Other),
     };
     match outcome {
         Ok(()) => DONE,
-        Err(Failure::Other) => FAILED,
+        Err(ScriptFailure::Other) => FAILED,
         Err(failure) => refuse(err, index, &failure),
     }
 }
@@ -68,7 +68,7 @@ fn carry_out<'a, W: Write>(
     session: &mut Session,
     line: &'a str,
     out: &mut W,
-) -> Result<(), Failure<'a>> {
+) -> Result<(), ScriptFailure<'a>> {
     let Some(command) = read_line(alloc, line)? else {
         return Ok(());
     };
@@ -79,7 +79,7 @@ fn carry_out<'a, W: Write>(
 }
 
 // Says what is wrong with the line at this index, and answers the status.
-fn refuse<E: Write>(err: &mut E, index: usize, failure: &Failure<'_>) -> u8 {
+fn refuse<E: Write>(err: &mut E, index: usize, failure: &ScriptFailure<'_>) -> u8 {
     let number = index.saturating_add(1);
     status_of(MALFORMED, writeln!(err, "line {number}: {failure}"))
 }

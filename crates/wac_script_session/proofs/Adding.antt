@@ -8,7 +8,7 @@ use Rattle.std.specs.List.{list_any, position, position_or_len}
 use Rattle.std.specs.String.{string_eq}
 use Rattle.std.specs.Prelude.{nat_lt, not, string_bytes}
 use Rattle.std.specs.Str.{bytes_eq}
-use Rattle.wac_script_session.specs.Places.{AddsAt, place_of}
+use Rattle.wac_script_session.specs.Places.{AddsAt, text_place}
 
 module _ {X : Type 0} (p : X → Bool) (xs : List X) (x : X) where
   longer : length (xs ++ x ∷ []) ≡ length xs + 1
@@ -53,21 +53,21 @@ module _ {X : Type 0} (p : X → Bool) (xs : List X) (x : X) where
   ]
 
 module _ (texts : List (String Global)) (s : String Global) (text : List ℕ) (same : string_bytes s ≡ text) where
-  pub place_new : place_of texts text ≡ None → place_of (texts ++ s ∷ []) text ≡ Some (length texts)
+  pub place_new : text_place texts text ≡ None → text_place (texts ++ s ∷ []) text ≡ Some (length texts)
   place_new none = position_new (λ t. bytes_eq text (string_bytes t)) texts s ((bytes_decides text (string_bytes s)).1 (sym same)) none
 
-  place_kept : (other : List ℕ) → (other ≡ text → ⊥) → place_of (texts ++ s ∷ []) other ≡ place_of texts other
+  place_kept : (other : List ℕ) → (other ≡ text → ⊥) → text_place (texts ++ s ∷ []) other ≡ text_place texts other
   place_kept other ne = position_kept (λ t. bytes_eq other (string_bytes t)) texts s (elim (cases_Bool (bytes_eq other (string_bytes s))) [
     | inl e ↦ absurd (ne ((bytes_decides other (string_bytes s)).0 e ∙ same))
     | inr f ↦ f
   ])
 
-  pub adds_new : place_of texts text ≡ None → AddsAt texts (texts ++ s ∷ []) text
+  pub adds_new : text_place texts text ≡ None → AddsAt texts (texts ++ s ∷ []) text
   adds_new none = record {
     kept = λ other place e. elim (cases_Bool (bytes_eq other text)) [
       | inl b ↦
           let one : other ≡ text = (bytes_decides other text).0 b in
-          cc (none, e, ap (λ (t : List ℕ). place_of texts t) one)
+          cc (none, e, ap (λ (t : List ℕ). text_place texts t) one)
       | inr f ↦ place_kept other (λ o. cc (f, (bytes_decides other text).1 o)) ∙ e
     ];
     only_here = place_kept;

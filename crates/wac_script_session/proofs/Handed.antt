@@ -4,7 +4,7 @@ use Rattle.std.specs.Iterator.{Yields, YieldsFirstBy}
 use Rattle.std.proofs.lemmas.Iterator.Consumers.{YieldsList-from_first, YieldsList-turn}
 use Rattle.std.proofs.lemmas.List.Elements.{Contains-append_cases, Contains-get_or}
 use Rattle.wac_component.proofs.Among.{Contains-cases}
-use Rattle.wac_call_lists.specs.Call.{Call}
+use Rattle.wac_aggregator_promises.specs.Call.{Call}
 use Rattle.wac_script_session.specs.Calls.{IsCallIn, AreCallsIn, AreAsked}
 use Rattle.wac_script_session.specs.Collections.{Numbered, collection_at}
 

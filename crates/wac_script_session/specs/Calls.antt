@@ -1,7 +1,7 @@
 -- Calls of items of the collections that a session has.
 use Rattle.std.specs.Prelude.{◌≡◌, ℕ, List, Some, Contains}
 use Rattle.wac_component.specs.Key.{AllStand, item_keys}
-use Rattle.wac_call_lists.specs.Call.{Call}
+use Rattle.wac_aggregator_promises.specs.Call.{Call}
 use Rattle.wac_script_session.specs.Collections.{Numbered, collection_at}
 
 -- the call is of the collection of its number, and its item stands there

@@ -5,8 +5,8 @@ use Rattle.std.specs.Str.{bytes_eq}
 use Rattle.wac_model.specs.Text.{Text}
 
 -- the first place of a text
-abbrev pub place_of : List (String Global) → Text → Option ℕ
-place_of texts text = position (λ s. bytes_eq text (string_bytes s)) texts
+abbrev pub text_place : List (String Global) → Text → Option ℕ
+text_place texts text = position (λ s. bytes_eq text (string_bytes s)) texts
 
 -- whether the place is this one
 abbrev pub is_place : Option ℕ → ℕ → Bool
@@ -20,5 +20,5 @@ counts_down_to (Some place) key = place + key == 1000
 
 -- a place is kept, and none is new but that of the text
 pub record AddsAt (old new : List (String Global)) (text : Text) : Type 0 where
-  pub kept : (other : Text) (place : ℕ) → place_of old other ≡ Some place → place_of new other ≡ Some place
-  pub only_here : (other : Text) → (other ≡ text → ⊥) → place_of new other ≡ place_of old other
+  pub kept : (other : Text) (place : ℕ) → text_place old other ≡ Some place → text_place new other ≡ Some place
+  pub only_here : (other : Text) → (other ≡ text → ⊥) → text_place new other ≡ text_place old other

@@ -4,8 +4,8 @@ ghost use Rattle.std.specs.Prelude.{◌≡◌, [], ◌∷◌, ◌++◌, IfOk, On
 ghost use Rattle.wac_component.specs.Collection.{Collection};
 ghost use Rattle.wac_component.specs.Key.{AllStand, item_keys};
 ghost use Rattle.wac_names.specs.Class.{class_of};
-ghost use Rattle.wac_narrowing.specs.Remembers.{RemembersTruly};
-ghost use Rattle.wac_narrowing.specs.State.{IsOneWith};
+ghost use Rattle.wac_aggregator_narrowing.specs.Remembers.{RemembersTruly};
+ghost use Rattle.wac_aggregator_narrowing.specs.State.{IsOneWith};
 ghost use Rattle.wac_aggregator.specs.Content.{state_in};
 ghost use Rattle.wac_aggregator.specs.HandedIn.{called, handed_in};
 ghost use Rattle.wac_script_session.specs.Calls.{IsCallIn, AreCallsIn, AreAsked};

@@ -6,7 +6,7 @@ use super::kinds::kinds;
 use super::name_maps::name_map;
 use super::names::{compatible, track};
 use super::packages::packages;
-use super::questions::{Asked, about, contains, count};
+use super::questions::{ItemQuery, about, contains, count};
 use super::targets::{implicit_imports, validate};
 use super::visits::visit;
 use std::alloc::Global;
@@ -28,13 +28,13 @@ pub(crate) fn answer<'a>(
         "namemap" => name_map(alloc, text, words),
         "pkg" => packages(alloc, text, words),
         "kinds" => kinds(text, words),
-        "tree" => about(alloc, text, collections, Asked::Tree, words),
-        "desc" => about(alloc, text, collections, Asked::Desc, words),
-        "promote" => about(alloc, text, collections, Asked::Promoted, words),
-        "ty" => about(alloc, text, collections, Asked::Type, words),
-        "entry" => about(alloc, text, collections, Asked::Entry, words),
-        "borrows" => about(alloc, text, collections, Asked::Borrows, words),
-        "resolve" => about(alloc, text, collections, Asked::Root, words),
+        "tree" => about(alloc, text, collections, ItemQuery::Tree, words),
+        "desc" => about(alloc, text, collections, ItemQuery::Desc, words),
+        "promote" => about(alloc, text, collections, ItemQuery::Promoted, words),
+        "ty" => about(alloc, text, collections, ItemQuery::Type, words),
+        "entry" => about(alloc, text, collections, ItemQuery::Entry, words),
+        "borrows" => about(alloc, text, collections, ItemQuery::Borrows, words),
+        "resolve" => about(alloc, text, collections, ItemQuery::Root, words),
         "visit" => visit(alloc, text, collections, words),
         "contains" => contains(text, collections, words),
         "validate" => validate(alloc, text, collections, words),

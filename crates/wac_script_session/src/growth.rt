@@ -14,7 +14,7 @@ use wac_script_syntax::{Item, ScriptError, read_item, read_number, read_world};
 
 /// Whether a bound is the greatest below two items or the least above them.
 #[derive(Clone, Copy)]
-pub(crate) enum Bound {
+pub(crate) enum BoundKind {
     /// The greatest below.
     Meet,
     /// The least above.
@@ -25,14 +25,14 @@ pub(crate) enum Bound {
 #[derive(Clone, Copy)]
 pub(crate) enum Growth {
     /// A bound of two items.
-    Bound(Bound, Item, Item),
+    Bound(BoundKind, Item, Item),
     /// A package of a world.
     Package(usize),
 }
 
 // Reads two items of which a bound is made, and before them the number of their collection.
 fn read_bound<'a>(
-    bound: Bound,
+    bound: BoundKind,
     form: &'static str,
     words: &[&'a str],
 ) -> Result<(u64, Growth), ScriptError<'a>> {
@@ -60,8 +60,8 @@ pub(crate) fn read_growth<'a>(
     words: &[&'a str],
 ) -> Result<(u64, Growth), ScriptError<'a>> {
     match command {
-        "meet" => read_bound(Bound::Meet, "meet COLL ITEM ITEM", words),
-        "join" => read_bound(Bound::Join, "join COLL ITEM ITEM", words),
+        "meet" => read_bound(BoundKind::Meet, "meet COLL ITEM ITEM", words),
+        "join" => read_bound(BoundKind::Join, "join COLL ITEM ITEM", words),
         _ => read_package(words),
     }
 }
@@ -103,7 +103,7 @@ fn add_bound<'a>(
     alloc: Global,
     text: &mut String,
     types: &mut Types,
-    bound: Bound,
+    bound: BoundKind,
     left: Item,
     right: Item,
 ) -> Result<(), ScriptError<'a>>
@@ -126,7 +126,7 @@ fn push_bound(
     alloc: Global,
     text: &mut String,
     types: &mut Types,
-    bound: Bound,
+    bound: BoundKind,
     a: ItemKind,
     b: ItemKind,
 ) -> Result<(), AllocError>
@@ -159,7 +159,7 @@ fn push_standing(
 fn bound_of(
     alloc: Global,
     types: &mut Types,
-    bound: Bound,
+    bound: BoundKind,
     a: ItemKind,
     b: ItemKind,
 ) -> Result<Option<ItemKind>, AllocError>
@@ -169,8 +169,8 @@ fn bound_of(
     ensures number { types.new.number ≡ types.old.number }
 {
     match bound {
-        Bound::Meet => meet(alloc, types, a, b),
-        Bound::Join => join(alloc, types, a, b),
+        BoundKind::Meet => meet(alloc, types, a, b),
+        BoundKind::Join => join(alloc, types, a, b),
     }
 }
 

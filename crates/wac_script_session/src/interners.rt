@@ -4,7 +4,7 @@ ghost use Rattle.std.specs.Prelude.{◌≡◌, ℕ, false, [], Some, IfOk, is_so
 ghost use Rattle.std.specs.List.{list_any};
 ghost use Rattle.std.specs.Str.{bytes_eq};
 ghost use Rattle.wac_model.specs.Text.{Text};
-ghost use Rattle.wac_script_session.specs.Places.{AddsAt, counts_down_to, is_place, place_of};
+ghost use Rattle.wac_script_session.specs.Places.{AddsAt, counts_down_to, is_place, text_place};
 ghost use Rattle.wac_script_session.specs.PlaceLaws.{countdown_lawful, numbers_lawful};
 
 use indexmap::IndexSet;
@@ -28,7 +28,7 @@ impl Texts {
 
     // The place of a text, where it is there.
     fn place(&self, text: &str) -> Option<usize>
-        ensures place { result ≡ place_of self.now.texts.keys text.now }
+        ensures place { result ≡ text_place self.now.texts.keys text.now }
         ensures found { is_some result ≡ list_any (λ s. bytes_eq text.now (string_bytes s)) self.now.texts.keys }
     {
         self.texts.get_index_of(text)
@@ -36,7 +36,7 @@ impl Texts {
 
     // The place of a text, which goes last if it was not there.
     fn place_or_add(&mut self, alloc: Global, text: &str) -> Result<usize, AllocError>
-        ensures place { IfOk result (λ n. place_of self.new.texts.keys text.now ≡ Some n) }
+        ensures place { IfOk result (λ n. text_place self.new.texts.keys text.now ≡ Some n) }
         ensures others { AddsAt self.old.texts.keys self.new.texts.keys text.now }
     {
         if let Some(place) = self.place(text) {
@@ -68,7 +68,7 @@ impl Numbers {
 impl NameMapIntern for Numbers {
     type Key = usize;
 
-    ghost is_key = { λ it text key. is_place (place_of it.texts.texts.keys text) key };
+    ghost is_key = { λ it text key. is_place (text_place it.texts.texts.keys text) key };
 
     ghost lawful = { λ it. numbers_lawful it.texts.texts.keys };
 
@@ -101,7 +101,7 @@ impl Countdown {
 impl NameMapIntern for Countdown {
     type Key = usize;
 
-    ghost is_key = { λ it text key. counts_down_to (place_of it.texts.texts.keys text) key };
+    ghost is_key = { λ it text key. counts_down_to (text_place it.texts.texts.keys text) key };
 
     ghost lawful = { λ it. countdown_lawful it.texts.texts.keys };
 

@@ -15,7 +15,7 @@ use wac_script_syntax::{
 
 /// What is asked of an item or a type.
 #[derive(Clone, Copy)]
-pub(crate) enum Asked {
+pub(crate) enum ItemQuery {
     /// The canonical text of an item's tree.
     Tree,
     /// The text of an item's kind.
@@ -32,26 +32,26 @@ pub(crate) enum Asked {
     Root,
 }
 
-impl Asked {
+impl ItemQuery {
     // The form of the query.
     fn form(self) -> &'static str {
         match self {
-            Asked::Tree => "tree COLL ITEM",
-            Asked::Desc => "desc COLL ITEM",
-            Asked::Promoted => "promote COLL ITEM",
-            Asked::Type => "ty COLL ITEM",
-            Asked::Entry => "entry COLL ENTRY",
-            Asked::Borrows => "borrows COLL VALUE",
-            Asked::Root => "resolve COLL VALUE|rN",
+            ItemQuery::Tree => "tree COLL ITEM",
+            ItemQuery::Desc => "desc COLL ITEM",
+            ItemQuery::Promoted => "promote COLL ITEM",
+            ItemQuery::Type => "ty COLL ITEM",
+            ItemQuery::Entry => "entry COLL ENTRY",
+            ItemQuery::Borrows => "borrows COLL VALUE",
+            ItemQuery::Root => "resolve COLL VALUE|rN",
         }
     }
 
     // Reads what is asked about; a type stands for the item that it is.
     fn read(self, word: &str) -> Result<Item, ScriptError<'_>> {
         match self {
-            Asked::Entry => Ok(Item::Type(TypeWord::Entry(read_entry(word)?))),
-            Asked::Borrows => Ok(Item::Value(read_value(word)?)),
-            Asked::Root => Ok(Item::Type(read_resolvable(word)?)),
+            ItemQuery::Entry => Ok(Item::Type(TypeWord::Entry(read_entry(word)?))),
+            ItemQuery::Borrows => Ok(Item::Value(read_value(word)?)),
+            ItemQuery::Root => Ok(Item::Type(read_resolvable(word)?)),
             _ => read_item(word),
         }
     }
@@ -62,7 +62,7 @@ pub(crate) fn about<'a>(
     alloc: Global,
     text: &mut String,
     collections: &Collections,
-    asked: Asked,
+    asked: ItemQuery,
     words: &[&'a str],
 ) -> Result<(), ScriptError<'a>> {
     let [collection, item] = *words else {
@@ -80,19 +80,19 @@ fn push_asked(
     alloc: Global,
     text: &mut String,
     types: &Types,
-    asked: Asked,
+    asked: ItemQuery,
     item: ItemKind,
 ) -> Result<(), AllocError>
     requires { AllStand types.now (item_keys item) }
 {
     match asked {
-        Asked::Tree => push_item_text(alloc, text, types, item),
-        Asked::Desc => text.push_str(item.desc(types)),
-        Asked::Promoted => push_item(text, item.promote()),
-        Asked::Type => push_type(text, item.ty()),
-        Asked::Entry => push_entry(text, types, item.ty()),
-        Asked::Borrows => push_yes_or_no(text, contains_borrow(types, item)),
-        Asked::Root => push_root(text, types, item.ty()),
+        ItemQuery::Tree => push_item_text(alloc, text, types, item),
+        ItemQuery::Desc => text.push_str(item.desc(types)),
+        ItemQuery::Promoted => push_item(text, item.promote()),
+        ItemQuery::Type => push_type(text, item.ty()),
+        ItemQuery::Entry => push_entry(text, types, item.ty()),
+        ItemQuery::Borrows => push_yes_or_no(text, contains_borrow(types, item)),
+        ItemQuery::Root => push_root(text, types, item.ty()),
     }
 }
 

@@ -15,9 +15,9 @@ use Rattle.wac_component.specs.declared.worlds.ExternKind.{ExternKind}
 use Rattle.wac_component.specs.declared.worlds.ExternKind.TheVariants.{Import, Export}
 use Rattle.wac_names.specs.Pairs.{HasDistinctTexts, IsFound, IsGreatest, NoneCompatible, value_at, with_pair}
 use Rattle.wac_names.proofs.PairFacts.{bytes_refl, value_put}
-use Rattle.wac_targets.specs.Wanted.{Items, Lacks, wanted, given, FitsAs}
+use Rattle.wac_targets.specs.Wanted.{NamedItems, Lacks, wanted, given, FitsAs}
 use Rattle.wac_targets.specs.Parts.{not_in_target, missing, mismatched}
-use Rattle.wac_targets.specs.Report.{AreMeantAsTheyStand, Misfits, IsMismatch, IsReport, IsClean, IsAnswer}
+use Rattle.wac_targets.specs.Report.{AreMeantAsTheyStand, Misfits, IsMismatched, IsReport, IsClean, IsAnswer}
 use Rattle.wac_targets.specs.declared.report.TargetValidationReport.{TargetValidationReport}
 use Rattle.wac_targets.proofs.Distinct.{value_at-apart}
 use Rattle.wac_model.proofs.ItemOrder.{Fits-refl}
@@ -58,7 +58,7 @@ no-names (x ∷ xs) none = absurd (none x (zero, omega arith, refl))
 module _ (c : Collection) (w : WorldContent) (meant : AreMeantAsTheyStand w) (distinct : HasDistinctTexts w.imports) where
   -- what is found is what is wanted
   given-there : (k : ExternKind) (n : Text) (b : ItemKind) → value_at (wanted c w w k) n ≡ Some b → value_at (given c w w k) n ≡ Some b
-  given-there Import n b at = rw (fold-append (λ (done : Items) (p : Text × ItemKind). insert_entry bytes_eq done p.0 p.1) [] (implicit_imports c w) w.imports) (put-here w.imports (insert_all bytes_eq [] (implicit_imports c w)) n b distinct at)
+  given-there Import n b at = rw (fold-append (λ (done : NamedItems) (p : Text × ItemKind). insert_entry bytes_eq done p.0 p.1) [] (implicit_imports c w) w.imports) (put-here w.imports (insert_all bytes_eq [] (implicit_imports c w)) n b distinct at)
   given-there Export n b at = at
 
   nothing-lacks : (k : ExternKind) (n : Text) (b : ItemKind) → Lacks (given c w w k) (wanted c w w k) n b → ⊥
@@ -74,7 +74,7 @@ module _ (c : Collection) (w : WorldContent) (meant : AreMeantAsTheyStand w) (di
       let same : m.a ≡ m.b = cc (found) in
       m.no (subst (λ x. FitsAs c k x m.b) (sym same) (fits-itself k n m.b m.has.asked))
 
-  nothing-told : (k : ExternKind) (n : Text) → IsMismatch c w w k n → ⊥
+  nothing-told : (k : ExternKind) (n : Text) → IsMismatched c w w k n → ⊥
   nothing-told Export n m = nothing-misfits Export n m
   nothing-told Import n m = nothing-misfits Import n m.0
 

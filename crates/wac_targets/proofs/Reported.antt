@@ -15,16 +15,16 @@ use Rattle.wac_component.specs.declared.worlds.ExternKind.{ExternKind}
 use Rattle.wac_component.specs.declared.worlds.ExternKind.TheVariants.{Import, Export}
 use Rattle.wac_mismatch.specs.declared.error.SubtypeError.{SubtypeError}
 use Rattle.wac_names.specs.Pairs.{value_at}
-use Rattle.wac_targets.specs.Wanted.{Items, Lacks, wanted, given}
+use Rattle.wac_targets.specs.Wanted.{NamedItems, Lacks, wanted, given}
 use Rattle.wac_targets.specs.Parts.{not_in_target, missing, mismatched}
-use Rattle.wac_targets.specs.Report.{world_at, Misfits, IsMismatch, IsReason, IsReport, IsClean}
+use Rattle.wac_targets.specs.Report.{world_content_of, Misfits, IsMismatched, IsMismatchReason, IsReport, IsClean}
 use Rattle.wac_targets.specs.Noting.{note_of, AreNoted}
 use Rattle.wac_targets.specs.declared.report.TargetValidationReport.{TargetValidationReport}
 use Rattle.wac_targets.proofs.Reports.{LacksAt, MisfitsAt, ReasonAt, MismatchAt, ErrorAt, absent_here, missing_here, mismatch_here, reason_here}
 
 -- the world of an id, by its entry
-pub world_at-entry : (c : Collection) (i : Id) (w : WorldContent) → slice_get c.worlds i.index ≡ Some w → world_at c i ≡ w
-world_at-entry c i w at = ap (λ o. unwrap_or o (record { id = None; uses = []; imports = []; exports = [] })) at
+pub world_content_of-entry : (c : Collection) (i : Id) (w : WorldContent) → slice_get c.worlds i.index ≡ Some w → world_content_of c i ≡ w
+world_content_of-entry c i w at = ap (λ o. unwrap_or o (record { id = None; uses = []; imports = []; exports = [] })) at
 
 -- a set of names as a list
 any-contains : (ks : List (String Global)) (n : Text) → list_any (λ k. is_eq (slice_cmp nat_cmp n (string_bytes k))) ks ≡ true → Contains (map string_bytes ks) n
@@ -68,7 +68,7 @@ module _ (c : Collection) (target component : WorldContent) (n : Text) where
   misfits-at : (k : ExternKind) → Misfits c target component k n ↔ MisfitsAt c k (given c target component k) n (value_at (wanted c target component k) n)
   misfits-at k = ((λ m. (m.a, m.b, m.has.asked, m.has.found, m.no)), λ m. record { a = m.0; b = m.1; has = record { asked = m.2; found = m.3 }; no = m.4 })
 
-  reason-at : (k : ExternKind) (e : SubtypeError) → ReasonAt c k (given c target component k) n (value_at (wanted c target component k) n) e → IsReason c target component k n e
+  reason-at : (k : ExternKind) (e : SubtypeError) → ReasonAt c k (given c target component k) n (value_at (wanted c target component k) n) e → IsMismatchReason c target component k n e
   reason-at k e r = record { a = r.2.0; b = r.0; has = record { asked = r.1; found = r.2.1 }; mismatch = r.2.3; path = r.2.4 }
 
 -- a clean report, after what imports and then exports come to is noted
@@ -82,10 +82,10 @@ report-noted c target component r s t clean p q = record {
   mismatched_types = λ n k. of_types n k (mismatch_here c gi ge n (oi n) (oe n) (note_of r n) (note_of s n) (note_of t n) (p n) (q n) (clean-mismatch r clean n) k);
   reasons = λ n k e h. of_reason n k e (reason_here c gi ge n (oi n) (oe n) (note_of r n) (note_of s n) (note_of t n) (p n) (q n) (clean-mismatch r clean n) k e (text-value t.mismatched_types.entries n ∙ h));
 } where
-  gi : Items
+  gi : NamedItems
   gi = given c target component Import
 
-  ge : Items
+  ge : NamedItems
   ge = given c target component Export
 
   oi : Text → Option ItemKind
@@ -106,19 +106,19 @@ report-noted c target component r s t clean p q = record {
     λ h. sym (text-value t.missing_exports.entries n) ∙ x.1 (h.asked, h.found),
   )
 
-  told : (n : Text) (k : ExternKind) → MismatchAt c gi ge n (oi n) (oe n) (note_of r n) (note_of s n) (note_of t n) (p n) (q n) k ↔ IsMismatch c target component k n
+  told : (n : Text) (k : ExternKind) → MismatchAt c gi ge n (oi n) (oe n) (note_of r n) (note_of s n) (note_of t n) (p n) (q n) k ↔ IsMismatched c target component k n
   told n Export = ((misfits-at c target component n Export).1, (misfits-at c target component n Export).0)
   told n Import = (
     (λ m. ((misfits-at c target component n Import).1 m.0, λ e. m.1 ((misfits-at c target component n Export).0 e))),
     λ m. ((misfits-at c target component n Import).0 m.0, λ e. m.1 ((misfits-at c target component n Export).1 e)),
   )
 
-  of_types : (n : Text) (k : ExternKind) → ((e : SubtypeError) × ((note_of t n).mismatch ≡ Some (k, e))) ↔ MismatchAt c gi ge n (oi n) (oe n) (note_of r n) (note_of s n) (note_of t n) (p n) (q n) k → ((e : SubtypeError) × (value_at (mismatched t) n ≡ Some (k, e))) ↔ IsMismatch c target component k n
+  of_types : (n : Text) (k : ExternKind) → ((e : SubtypeError) × ((note_of t n).mismatch ≡ Some (k, e))) ↔ MismatchAt c gi ge n (oi n) (oe n) (note_of r n) (note_of s n) (note_of t n) (p n) (q n) k → ((e : SubtypeError) × (value_at (mismatched t) n ≡ Some (k, e))) ↔ IsMismatched c target component k n
   of_types n k x = (
     (λ h. (told n k).0 (x.0 (h.0, text-value t.mismatched_types.entries n ∙ h.1))),
     λ h. let y = x.1 ((told n k).1 h) in (y.0, sym (text-value t.mismatched_types.entries n) ∙ y.1),
   )
 
-  of_reason : (n : Text) (k : ExternKind) (e : SubtypeError) → ErrorAt c gi ge n (oi n) (oe n) (note_of r n) (note_of s n) (note_of t n) (p n) (q n) k e → IsReason c target component k n e
+  of_reason : (n : Text) (k : ExternKind) (e : SubtypeError) → ErrorAt c gi ge n (oi n) (oe n) (note_of r n) (note_of s n) (note_of t n) (p n) (q n) k e → IsMismatchReason c target component k n e
   of_reason n Export e x = reason-at c target component n Export e x
   of_reason n Import e x = reason-at c target component n Import e x

@@ -8,8 +8,8 @@ use Rattle.wac_component.specs.declared.worlds.ExternKind.TheVariants.{Import, E
 use Rattle.wac_mismatch.specs.declared.error.SubtypeError.{SubtypeError}
 use Rattle.wac_names.specs.Pairs.{IsFound}
 use Rattle.wac_names.proofs.Finding.{finds_one}
-use Rattle.wac_targets.specs.Wanted.{Items, FitsAs}
-use Rattle.wac_targets.specs.Noting.{Note, with_lack, IsVerdict, IsNoted}
+use Rattle.wac_targets.specs.Wanted.{NamedItems, FitsAs}
+use Rattle.wac_targets.specs.Noting.{Note, with_lack, IsVerdict, IsNameNoted}
 use Rattle.wac_targets.specs.declared.checks.Verdict.TheVariants.{Lacking, Fitting, Failing}
 
 -- an export is no import
@@ -31,7 +31,7 @@ same-error : (k l : ExternKind) (d e : SubtypeError) → ◌≡◌ {A = Option (
 same-error k l d e h = ap (error_or d) h
 
 -- of one name under which o is wanted
-module _ (c : Collection) (k : ExternKind) (given : Items) (n : Text) where
+module _ (c : Collection) (k : ExternKind) (given : NamedItems) (n : Text) where
   -- something is wanted, and nothing is found for it
   abbrev pub LacksAt : Option ItemKind → ItemKind → Type 0
   LacksAt o b = (o ≡ Some b) × IsFound given n None
@@ -48,7 +48,7 @@ module _ (c : Collection) (k : ExternKind) (given : Items) (n : Text) where
   one r q = finds_one ItemKind given n r q
 
   -- whether nothing is found for what is wanted
-  lack-decided : (o : Option ItemKind) (s t : Note) → IsNoted c k given n o s t → ((b : ItemKind) × LacksAt o b × (t ≡ with_lack k b s)) ⊎ (((b : ItemKind) → LacksAt o b → ⊥) × (t.absent ≡ s.absent) × (t.missing ≡ s.missing))
+  lack-decided : (o : Option ItemKind) (s t : Note) → IsNameNoted c k given n o s t → ((b : ItemKind) × LacksAt o b × (t ≡ with_lack k b s)) ⊎ (((b : ItemKind) → LacksAt o b → ⊥) × (t.absent ≡ s.absent) × (t.missing ≡ s.missing))
   lack-decided None s t p = inr ((λ b l. absurd (cc (l.0))), ap (λ x. x.absent) p, ap (λ x. x.missing) p)
   lack-decided (Some b) s t (Lacking, verdict, same) = inl (b, (refl, verdict), same)
   lack-decided (Some b) s t (Fitting, verdict, same) = inr ((λ d l. absurd (cc (one None (Some verdict.0) l.1 verdict.1))), ap (λ x. x.absent) same, ap (λ x. x.missing) same)
@@ -61,7 +61,7 @@ module _ (c : Collection) (k : ExternKind) (given : Items) (n : Text) where
     of Export = refl
 
   -- whether what is found doesn't fit
-  misfit-decided : (o : Option ItemKind) (s t : Note) → IsNoted c k given n o s t → ((e : SubtypeError) × ReasonAt o e × (t.mismatch ≡ Some (k, e))) ⊎ ((MisfitsAt o → ⊥) × (t.mismatch ≡ s.mismatch))
+  misfit-decided : (o : Option ItemKind) (s t : Note) → IsNameNoted c k given n o s t → ((e : SubtypeError) × ReasonAt o e × (t.mismatch ≡ Some (k, e))) ⊎ ((MisfitsAt o → ⊥) × (t.mismatch ≡ s.mismatch))
   misfit-decided None s t p = inr ((λ m. absurd (cc (m.2))), ap (λ x. x.mismatch) p)
   misfit-decided (Some b) s t (Lacking, verdict, same) = inr ((λ m. absurd (cc (one None (Some m.0) verdict m.3))), ap (λ x. x.mismatch) same ∙ lack_keeps-mismatch b s)
   misfit-decided (Some b) s t (Fitting, verdict, same) = inr ((λ m. m.4 (fits m.0 m.1 m.2 (one (Some verdict.0) (Some m.0) verdict.1 m.3))), ap (λ x. x.mismatch) same) where
@@ -74,7 +74,7 @@ module _ (c : Collection) (k : ExternKind) (given : Items) (n : Text) where
   reason_misfits o e r = (r.2.0, r.0, r.1, r.2.1, r.2.2)
 
 -- of one name, once imports and then exports are looked through
-module _ (c : Collection) (gi ge : Items) (n : Text) (oi oe : Option ItemKind) (s t u : Note) (p : IsNoted c Import gi n oi s t) (q : IsNoted c Export ge n oe t u) where
+module _ (c : Collection) (gi ge : NamedItems) (n : Text) (oi oe : Option ItemKind) (s t u : Note) (p : IsNameNoted c Import gi n oi s t) (q : IsNameNoted c Export ge n oe t u) where
   absent_kept : u.absent ≡ t.absent
   absent_kept = of (lack-decided c Export ge n oe t u q) where
     of : ((b : ItemKind) × LacksAt c Export ge n oe b × (u ≡ with_lack Export b t)) ⊎ (((b : ItemKind) → LacksAt c Export ge n oe b → ⊥) × (u.absent ≡ t.absent) × (u.missing ≡ t.missing)) → u.absent ≡ t.absent

@@ -15,17 +15,17 @@ use Rattle.wac_component.specs.declared.worlds.ExternKind.TheVariants.{Import, E
 use Rattle.wac_component.proofs.ImplicitLemmas.{insert-stands}
 use Rattle.wac_component.proofs.Keys.{Each-left, Each-right, Each-flat_map_at}
 use Rattle.wac_names.specs.Pairs.{IsFound, IsGreatest, value_at}
-use Rattle.wac_targets.specs.Wanted.{Items, left_item, right_item}
+use Rattle.wac_targets.specs.Wanted.{NamedItems, left_item, right_item}
 
 module _ (c : Collection) where
-  pub value-stands : (ps : Items) (n : Text) (k : ItemKind) → AllStand c (named_keys item_keys ps) → value_at ps n ≡ Some k → AllStand c (item_keys k)
+  pub value-stands : (ps : NamedItems) (n : Text) (k : ItemKind) → AllStand c (named_keys item_keys ps) → value_at ps n ≡ Some k → AllStand c (item_keys k)
   value-stands [] n k h at = absurd (cc (at))
   value-stands (p ∷ ps) n k h at = of (bytes_eq n p.0) at (value-stands ps n k (Each-right (Stands c) (item_keys p.1) (named_keys item_keys ps) h)) where
     of : (b : Bool) → cond b (Some p.1) (value_at ps n) ≡ Some k → (value_at ps n ≡ Some k → AllStand c (item_keys k)) → AllStand c (item_keys k)
     of true e rest = let same : p.1 ≡ k = cc (e) in rw (← same) (Each-left (Stands c) (item_keys p.1) (named_keys item_keys ps) h)
     of false e rest = rest e
 
-  pub found-stands : (ps : Items) (n : Text) (k : ItemKind) → AllStand c (named_keys item_keys ps) → IsFound ps n (Some k) → AllStand c (item_keys k)
+  pub found-stands : (ps : NamedItems) (n : Text) (k : ItemKind) → AllStand c (named_keys item_keys ps) → IsFound ps n (Some k) → AllStand c (item_keys k)
   found-stands ps n k h f = of (value_at ps n) refl f where
     of : (o : Option ItemKind) → value_at ps n ≡ o → MatchOption o (IsGreatest ps n k) (λ v. Some k ≡ Some v) → AllStand c (item_keys k)
     of None e g = value-stands ps g.text k h g.there
@@ -64,9 +64,9 @@ module _ (c : Collection) where
   alone-apart d e f g same = alone d f ∙ sym (alone e g)
 
   -- items that are put among others
-  pub insert_all-stands : (ps qs : Items) → AllStand c (named_keys item_keys ps) → AllStand c (named_keys item_keys qs) → AllStand c (named_keys item_keys (insert_all bytes_eq ps qs))
+  pub insert_all-stands : (ps qs : NamedItems) → AllStand c (named_keys item_keys ps) → AllStand c (named_keys item_keys qs) → AllStand c (named_keys item_keys (insert_all bytes_eq ps qs))
   insert_all-stands ps [] h g = h
   insert_all-stands ps (q ∷ qs) h g = insert_all-stands (insert_entry bytes_eq ps q.0 q.1) qs (insert-stands c ps q.0 q.1 h (Each-left (Stands c) (item_keys q.1) (named_keys item_keys qs) g)) (Each-right (Stands c) (item_keys q.1) (named_keys item_keys qs) g)
 
-  pub item-stands : (ps : Items) (i : ℕ) (n : Text) (k : ItemKind) → slice_get ps i ≡ Some (n, k) → AllStand c (named_keys item_keys ps) → AllStand c (item_keys k)
+  pub item-stands : (ps : NamedItems) (i : ℕ) (n : Text) (k : ItemKind) → slice_get ps i ≡ Some (n, k) → AllStand c (named_keys item_keys ps) → AllStand c (item_keys k)
   item-stands ps i n k at h = Each-flat_map_at (Stands c) (λ (e : Text × ItemKind). item_keys e.1) ps i (n, k) at h

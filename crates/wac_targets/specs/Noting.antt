@@ -14,8 +14,8 @@ use Rattle.wac_mismatch.specs.Path.{Explains}
 use Rattle.wac_mismatch.specs.Place.{item_side}
 use Rattle.wac_mismatch.specs.declared.error.SubtypeError.{SubtypeError}
 use Rattle.wac_names.specs.Pairs.{IsFound, value_at}
-use Rattle.wac_targets.specs.Wanted.{Items, left_item, right_item, FitsAs}
-use Rattle.wac_targets.specs.Report.{check_of}
+use Rattle.wac_targets.specs.Wanted.{NamedItems, left_item, right_item, FitsAs}
+use Rattle.wac_targets.specs.Report.{extern_check}
 use Rattle.wac_targets.specs.declared.checks.Verdict.{Verdict}
 use Rattle.wac_targets.specs.declared.checks.Verdict.TheVariants.{Lacking, Fitting, Failing}
 use Rattle.wac_targets.specs.declared.report.TargetValidationReport.{TargetValidationReport}
@@ -48,24 +48,24 @@ noted k b (Failing e) s = with_mismatch k e s
 abbrev pub Changes : (Note → Note) → Text → (Text → Note) → (Text → Note) → Type 0
 Changes change name before after = (n : Text) → after n ≡ (if bytes_eq name n then change (before n) else before n)
 
-module _ (c : Collection) (k : ExternKind) (given : Items) (name : Text) where
+module _ (c : Collection) (k : ExternKind) (given : NamedItems) (name : Text) where
   -- the verdict on what is wanted under the name
   abbrev pub IsVerdict : ItemKind → Verdict → Type 0
   IsVerdict b Lacking = IsFound given name None
   IsVerdict b Fitting = (a : ItemKind) × IsFound given name (Some a) × FitsAs c k a b
   IsVerdict b (Failing e) = (a : ItemKind) × IsFound given name (Some a) × (FitsAs c k a b → ⊥) × IsSome (fault_of e)
-      × Explains e (check_of k) (item_side (item_tree c (left_item k a))) (item_side (item_tree c (right_item k b)))
+      × Explains e (extern_check k) (item_side (item_tree c (left_item k a))) (item_side (item_tree c (right_item k b)))
 
   -- what is noted of the name once what is wanted under it, if anything is, is looked for
-  abbrev pub IsNoted : Option ItemKind → Note → Note → Type 0
-  IsNoted None s t = t ≡ s
-  IsNoted (Some b) s t = (v : Verdict) × IsVerdict b v × (t ≡ noted k b v s)
+  abbrev pub IsNameNoted : Option ItemKind → Note → Note → Type 0
+  IsNameNoted None s t = t ≡ s
+  IsNameNoted (Some b) s t = (v : Verdict) × IsVerdict b v × (t ≡ noted k b v s)
 
-module _ (c : Collection) (k : ExternKind) (given : Items) where
+module _ (c : Collection) (k : ExternKind) (given : NamedItems) where
   -- the verdict on what is wanted under one name is noted
   abbrev pub NotesAt : Text → ItemKind → (Text → Note) → (Text → Note) → Type 0
   NotesAt name b before after = (v : Verdict) × IsVerdict c k given name b v × Changes (noted k b v) name before after
 
   -- that on each name
-  abbrev pub AreNoted : Items → (Text → Note) → (Text → Note) → Type 0
-  AreNoted wanted before after = (name : Text) → IsNoted c k given name (value_at wanted name) (before name) (after name)
+  abbrev pub AreNoted : NamedItems → (Text → Note) → (Text → Note) → Type 0
+  AreNoted wanted before after = (name : Text) → IsNameNoted c k given name (value_at wanted name) (before name) (after name)

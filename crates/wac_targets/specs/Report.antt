@@ -21,13 +21,13 @@ use Rattle.wac_targets.specs.Parts.{not_in_target, missing, mismatched}
 use Rattle.wac_targets.specs.declared.report.TargetValidationReport.{TargetValidationReport}
 
 -- the world of an id
-abbrev pub world_at : Collection → Id → WorldContent
-world_at c w = unwrap_or (slice_get c.worlds w.index) (record { id = None; uses = []; imports = []; exports = [] })
+abbrev pub world_content_of : Collection → Id → WorldContent
+world_content_of c w = unwrap_or (slice_get c.worlds w.index) (record { id = None; uses = []; imports = []; exports = [] })
 
 -- imports are checked contravariantly, and exports covariantly
-abbrev pub check_of : ExternKind → SubtypeCheck
-check_of Import = Contravariant
-check_of Export = Covariant
+abbrev pub extern_check : ExternKind → SubtypeCheck
+extern_check Import = Contravariant
+extern_check Export = Covariant
 
 module _ (c : Collection) (target component : WorldContent) where
   -- what is wanted under the name is there and doesn't fit
@@ -38,17 +38,17 @@ module _ (c : Collection) (target component : WorldContent) where
     pub no : FitsAs c k a b → ⊥
 
   -- it is told of the name: an export that doesn't fit stands in place of an import
-  abbrev pub IsMismatch : ExternKind → Text → Type 0
-  IsMismatch Export name = Misfits Export name
-  IsMismatch Import name = Misfits Import name × (Misfits Export name → ⊥)
+  abbrev pub IsMismatched : ExternKind → Text → Type 0
+  IsMismatched Export name = Misfits Export name
+  IsMismatched Import name = Misfits Import name × (Misfits Export name → ⊥)
 
   -- the error leads from what is there and what is wanted to where they disagree
-  pub record IsReason (k : ExternKind) (name : Text) (e : SubtypeError) : Type 0 where
+  pub record IsMismatchReason (k : ExternKind) (name : Text) (e : SubtypeError) : Type 0 where
     pub a : ItemKind
     pub b : ItemKind
     pub has : Has (given c target component k) (wanted c target component k) name a b
     pub mismatch : IsSome (fault_of e)
-    pub path : Explains e (check_of k) (item_side (item_tree c (left_item k a))) (item_side (item_tree c (right_item k b)))
+    pub path : Explains e (extern_check k) (item_side (item_tree c (left_item k a))) (item_side (item_tree c (right_item k b)))
 
   -- the three parts: what the component imports and the target world doesn't have, what the
   -- target world exports and the component doesn't have, with the item as it stands there, and
@@ -56,8 +56,8 @@ module _ (c : Collection) (target component : WorldContent) where
   pub record IsReport (r : TargetValidationReport) : Type 0 where
     pub imports_not_in_target : (name : Text) → Contains (not_in_target r) name ↔ ((b : ItemKind) × Lacks (given c target component Import) (wanted c target component Import) name b)
     pub missing_exports : (name : Text) (b : ItemKind) → (value_at (missing r) name ≡ Some b) ↔ Lacks (given c target component Export) (wanted c target component Export) name b
-    pub mismatched_types : (name : Text) (k : ExternKind) → ((e : SubtypeError) × (value_at (mismatched r) name ≡ Some (k, e))) ↔ IsMismatch k name
-    pub reasons : (name : Text) (k : ExternKind) (e : SubtypeError) → value_at (mismatched r) name ≡ Some (k, e) → IsReason k name e
+    pub mismatched_types : (name : Text) (k : ExternKind) → ((e : SubtypeError) × (value_at (mismatched r) name ≡ Some (k, e))) ↔ IsMismatched k name
+    pub reasons : (name : Text) (k : ExternKind) (e : SubtypeError) → value_at (mismatched r) name ≡ Some (k, e) → IsMismatchReason k name e
 
 -- nothing is reported
 pub record IsClean (r : TargetValidationReport) : Type 0 where

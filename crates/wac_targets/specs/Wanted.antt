@@ -14,32 +14,32 @@ use Rattle.wac_component.specs.declared.worlds.ExternKind.TheVariants.{Import, E
 use Rattle.wac_names.specs.Pairs.{IsFound, value_at}
 
 -- items under their names
-abbrev pub Items : Type 0
-Items = List (Text × ItemKind)
+abbrev pub NamedItems : Type 0
+NamedItems = List (Text × ItemKind)
 
 -- b is wanted under the name, and nothing is found for it
-pub record Lacks (given wanted : Items) (name : Text) (b : ItemKind) : Type 0 where
+pub record Lacks (given wanted : NamedItems) (name : Text) (b : ItemKind) : Type 0 where
   pub asked : value_at wanted name ≡ Some b
   pub found : IsFound given name None
 
 -- b is wanted under the name, and a is found for it
-pub record Has (given wanted : Items) (name : Text) (a b : ItemKind) : Type 0 where
+pub record Has (given wanted : NamedItems) (name : Text) (a b : ItemKind) : Type 0 where
   pub asked : value_at wanted name ≡ Some b
   pub found : IsFound given name (Some a)
 
 -- all imports of a world: the implicit ones and then its own, where a later one
 -- replaces an earlier one of its name
-abbrev pub all_imports : Collection → WorldContent → Items
+abbrev pub all_imports : Collection → WorldContent → NamedItems
 all_imports c w = insert_all bytes_eq [] (implicit_imports c w ++ w.imports)
 
 module _ (c : Collection) (target component : WorldContent) where
   -- what each kind wants: the component its imports, and the target world its exports
-  abbrev pub wanted : ExternKind → Items
+  abbrev pub wanted : ExternKind → NamedItems
   wanted Import = component.imports
   wanted Export = target.exports
 
   -- and what there is for them: the imports of the target world, and the exports of the component
-  abbrev pub given : ExternKind → Items
+  abbrev pub given : ExternKind → NamedItems
   given Import = all_imports c target
   given Export = component.exports
 

@@ -10,10 +10,10 @@ ghost use Rattle.wac_component.specs.declared.items.ItemKind.{ItemKind};
 ghost use Rattle.wac_component.specs.declared.worlds.ExternKind.TheVariants.{Import, Export};
 ghost use Rattle.wac_model.specs.Text.{Text};
 ghost use Rattle.wac_names.specs.Pairs.{IsFound};
-ghost use Rattle.wac_targets.specs.Given.{items_in, IsLawful};
+ghost use Rattle.wac_targets.specs.Given.{items_in, IsGivenLawful};
 ghost use Rattle.wac_targets.specs.Noting.{AreNoted, NotesAt, IsVerdict, Changes, note_of, with_lack, with_mismatch};
-ghost use Rattle.wac_targets.specs.Report.{check_of};
-ghost use Rattle.wac_targets.specs.Wanted.{Items, left_item, right_item};
+ghost use Rattle.wac_targets.specs.Report.{extern_check};
+ghost use Rattle.wac_targets.specs.Wanted.{NamedItems, left_item, right_item};
 
 use crate::given::Given;
 use crate::maps::named_at;
@@ -45,10 +45,10 @@ pub(crate) fn check_all(
     given: &mut Given<'_>,
     wanted: &IndexMap<String, ItemKind>,
 ) -> Result<(), TargetError>
-    requires given { IsLawful given.old }
+    requires given { IsGivenLawful given.old }
     requires standing { AllStand types.now (named_keys item_keys (items_in given.old)) }
     requires wanted { AllStand types.now (named_keys item_keys (named (λ k. k) wanted.now.entries)) }
-    requires direction { direction checker.old ≡ check_of kind }
+    requires direction { direction checker.old ≡ extern_check kind }
     requires remembered { IsSoundCache (types.now ∷ types.now ∷ []) (remembered checker.old) }
     ensures direction { direction checker.new ≡ direction checker.old }
     ensures depth { depth checker.new ≡ depth checker.old }
@@ -74,15 +74,15 @@ fn check_one(
     name: &str,
     wanted: &ItemKind,
 ) -> Result<(), TargetError>
-    requires given { IsLawful given.old }
+    requires given { IsGivenLawful given.old }
     requires standing { AllStand types.now (named_keys item_keys (items_in given.old)) }
     requires wanted { AllStand types.now (item_keys wanted.now) }
-    requires direction { direction checker.old ≡ check_of kind }
+    requires direction { direction checker.old ≡ extern_check kind }
     requires remembered { IsSoundCache (types.now ∷ types.now ∷ []) (remembered checker.old) }
     ensures direction { direction checker.new ≡ direction checker.old }
     ensures depth { depth checker.new ≡ depth checker.old }
     ensures remembered { IsSoundCache (types.now ∷ types.now ∷ []) (remembered checker.new) }
-    ensures lawful { IsLawful given.new }
+    ensures lawful { IsGivenLawful given.new }
     ensures same { items_in given.new ≡ items_in given.old }
     ensures noted { OnOk result (NotesAt types.now kind (items_in given.old) name.now wanted.now (note_of report.old) (note_of report.new)) }
     ensures err { IfErr result (λ e. e ≡ Memory) }
@@ -104,15 +104,15 @@ fn judge(
     name: &str,
     wanted: &ItemKind,
 ) -> Result<Verdict, TargetError>
-    requires given { IsLawful given.old }
+    requires given { IsGivenLawful given.old }
     requires standing { AllStand types.now (named_keys item_keys (items_in given.old)) }
     requires wanted { AllStand types.now (item_keys wanted.now) }
-    requires direction { direction checker.old ≡ check_of kind }
+    requires direction { direction checker.old ≡ extern_check kind }
     requires remembered { IsSoundCache (types.now ∷ types.now ∷ []) (remembered checker.old) }
     ensures direction { direction checker.new ≡ direction checker.old }
     ensures depth { depth checker.new ≡ depth checker.old }
     ensures remembered { IsSoundCache (types.now ∷ types.now ∷ []) (remembered checker.new) }
-    ensures lawful { IsLawful given.new }
+    ensures lawful { IsGivenLawful given.new }
     ensures same { items_in given.new ≡ items_in given.old }
     ensures verdict { IfOk result (IsVerdict types.now kind (items_in given.old) name.now wanted.now) }
     ensures err { IfErr result (λ e. e ≡ Memory) }
@@ -139,12 +139,12 @@ fn judge_found(
 ) -> Result<Verdict, TargetError>
     requires found { AllStand types.now (item_keys found.now) }
     requires wanted { AllStand types.now (item_keys wanted.now) }
-    requires direction { direction checker.old ≡ check_of kind }
+    requires direction { direction checker.old ≡ extern_check kind }
     requires remembered { IsSoundCache (types.now ∷ types.now ∷ []) (remembered checker.old) }
     ensures direction { direction checker.new ≡ direction checker.old }
     ensures depth { depth checker.new ≡ depth checker.old }
     ensures remembered { IsSoundCache (types.now ∷ types.now ∷ []) (remembered checker.new) }
-    ensures verdict { (items : Items) (name : Text) → IsFound items name (Some found.now) → IfOk result (IsVerdict types.now kind items name wanted.now) }
+    ensures verdict { (items : NamedItems) (name : Text) → IsFound items name (Some found.now) → IfOk result (IsVerdict types.now kind items name wanted.now) }
     ensures err { IfErr result (λ e. e ≡ Memory) }
 {
     let left = left_item(kind, found);

@@ -7,7 +7,7 @@ ghost use Rattle.indexmap.specs.IndexMap.{insert_all};
 ghost use Rattle.wac_component.specs.Content.{named};
 ghost use Rattle.wac_component.specs.declared.implicit.TargetError.TheVariants.{Memory};
 ghost use Rattle.wac_names.specs.Pairs.{HasDistinctTexts, IsFound, value_at};
-ghost use Rattle.wac_targets.specs.Given.{own_items, items_in, IsLawful};
+ghost use Rattle.wac_targets.specs.Given.{own_items, items_in, IsGivenLawful};
 ghost use Rattle.wac_targets.specs.Named.{IsMapOf, borrowed};
 
 use crate::maps::{insert_borrowed, insert_named};
@@ -45,7 +45,7 @@ impl<'a> Given<'a> {
     ) -> Given<'a>
         ensures items { items_in result ≡ insert_all bytes_eq [] (borrowed implicit.entry.entries ++ named (λ k. k) own.now.entries) }
         ensures distinct { HasDistinctTexts (named (λ k. k) own.now.entries) }
-        ensures lawful { IsLawful result }
+        ensures lawful { IsGivenLawful result }
     {
         // A name stands once in a map.
         let _ = own.len();
@@ -77,8 +77,8 @@ impl<'a> Given<'a> {
 
     // Makes the map that is read by track, unless it is made.
     pub(crate) fn index(&mut self, alloc: Global) -> Result<(), TargetError>
-        requires lawful { IsLawful self.old }
-        ensures lawful { IsLawful self.new }
+        requires lawful { IsGivenLawful self.old }
+        ensures lawful { IsGivenLawful self.new }
         ensures same { items_in self.new ≡ items_in self.old }
         ensures made { OnOk result (IsSome self.new.by_track) }
         ensures err { IfErr result (λ e. e ≡ Memory) }
@@ -92,7 +92,7 @@ impl<'a> Given<'a> {
 
     // What is found at a name, once the map is made.
     pub(crate) fn get(&self, name: &str) -> Result<Option<&ItemKind>, TargetError>
-        requires lawful { IsLawful self.now }
+        requires lawful { IsGivenLawful self.now }
         requires made { IsSome self.now.by_track }
         ensures found { IfOk result (λ r. IsFound (items_in self.now) name.now (option_copied r)) }
         ensures err { IfErr result (λ e. e ≡ Memory) }

@@ -13,7 +13,7 @@ ghost use Rattle.wac_targets.specs.Noting.{AreNoted, note_of};
 ghost use Rattle.wac_targets.specs.Wanted.{all_imports};
 ghost use Rattle.wac_component.specs.declared.worlds.ExternKind.TheVariants.{Import, Export};
 ghost use Rattle.wac_mismatch.specs.declared.check.SubtypeCheck.TheVariants.{Covariant};
-ghost use Rattle.wac_targets.specs.Report.{IsAnswer, AreMeantAsTheyStand, world_at};
+ghost use Rattle.wac_targets.specs.Report.{IsAnswer, AreMeantAsTheyStand, world_content_of};
 
 use crate::checks::check_all;
 use crate::given::Given;
@@ -39,10 +39,10 @@ pub fn validate_target(
 ) -> Result<TargetValidationResult, TargetError>
     requires target { Stands types.now (world_key wit_world_id) }
     requires component { Stands types.now (world_key component_world_id) }
-    ensures answer { IfOk result (IsAnswer types.now (world_at types.now wit_world_id) (world_at types.now component_world_id)) }
-    ensures itself { wit_world_id ≡ component_world_id → AreMeantAsTheyStand (world_at types.now wit_world_id) → IfOk result (λ a. a ≡ Ok tt) }
-    ensures identified { OnOk result (All (HasIdentifier types.now) (used_interfaces types.now (world_at types.now wit_world_id))) }
-    ensures err { IfErr result (IsUntold types.now (used_interfaces types.now (world_at types.now wit_world_id))) }
+    ensures answer { IfOk result (IsAnswer types.now (world_content_of types.now wit_world_id) (world_content_of types.now component_world_id)) }
+    ensures itself { wit_world_id ≡ component_world_id → AreMeantAsTheyStand (world_content_of types.now wit_world_id) → IfOk result (λ a. a ≡ Ok tt) }
+    ensures identified { OnOk result (All (HasIdentifier types.now) (used_interfaces types.now (world_content_of types.now wit_world_id))) }
+    ensures err { IfErr result (IsUntold types.now (used_interfaces types.now (world_content_of types.now wit_world_id))) }
 {
     let target = &types[wit_world_id];
     let component = &types[component_world_id];

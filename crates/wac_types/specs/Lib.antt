@@ -77,47 +77,47 @@ pub use Rattle.wac_names.specs.Placing
 pub use Rattle.wac_names.specs.Lends
 pub use Rattle.wac_names.specs.NameErrorText
 -- lists of calls
-pub use Rattle.wac_call_lists.specs.Call
-pub use Rattle.wac_call_lists.specs.Entries as CalledEntries
-pub use Rattle.wac_call_lists.specs.OpenReach
-pub use Rattle.wac_call_lists.specs.TreeSets
-pub use Rattle.wac_call_lists.specs.Due
-pub use Rattle.wac_call_lists.specs.PlainList
-pub use Rattle.wac_call_lists.specs.WitList
-pub use Rattle.wac_call_lists.specs.Compatible
-pub use Rattle.wac_call_lists.specs.Answer
-pub use Rattle.wac_call_lists.specs.Aggregated
-pub use Rattle.wac_call_lists.specs.Holding
-pub use Rattle.wac_call_lists.specs.Imported
-pub use Rattle.wac_call_lists.specs.Attempt
-pub use Rattle.wac_call_lists.specs.Reason
-pub use Rattle.wac_call_lists.specs.Case
-pub use Rattle.wac_call_lists.specs.Clash
-pub use Rattle.wac_call_lists.specs.Leaves
-pub use Rattle.wac_call_lists.specs.Shared
-pub use Rattle.wac_call_lists.specs.TakingIn
-pub use Rattle.wac_call_lists.specs.PlainRun
-pub use Rattle.wac_call_lists.specs.WitRun
-pub use Rattle.wac_call_lists.specs.WitReason
-pub use Rattle.wac_call_lists.specs.Laws as ListLaws
+pub use Rattle.wac_aggregator_promises.specs.Call
+pub use Rattle.wac_aggregator_promises.specs.Entries as CalledEntries
+pub use Rattle.wac_aggregator_promises.specs.OpenReach
+pub use Rattle.wac_aggregator_promises.specs.TreeSets
+pub use Rattle.wac_aggregator_promises.specs.Due
+pub use Rattle.wac_aggregator_promises.specs.PlainList
+pub use Rattle.wac_aggregator_promises.specs.WitList
+pub use Rattle.wac_aggregator_promises.specs.Compatible
+pub use Rattle.wac_aggregator_promises.specs.Answer
+pub use Rattle.wac_aggregator_promises.specs.Aggregated
+pub use Rattle.wac_aggregator_promises.specs.Holding
+pub use Rattle.wac_aggregator_promises.specs.Imported
+pub use Rattle.wac_aggregator_promises.specs.Attempt
+pub use Rattle.wac_aggregator_promises.specs.Reason
+pub use Rattle.wac_aggregator_promises.specs.Case
+pub use Rattle.wac_aggregator_promises.specs.Clash
+pub use Rattle.wac_aggregator_promises.specs.Leaves
+pub use Rattle.wac_aggregator_promises.specs.Shared
+pub use Rattle.wac_aggregator_promises.specs.TakingIn
+pub use Rattle.wac_aggregator_promises.specs.PlainRun
+pub use Rattle.wac_aggregator_promises.specs.WitRun
+pub use Rattle.wac_aggregator_promises.specs.WitReason
+pub use Rattle.wac_aggregator_promises.specs.Laws as ListLaws
 -- what an aggregator remembers, shows, and refuses
-pub use Rattle.wac_narrowing.specs.State
-pub use Rattle.wac_narrowing.specs.Remembers
-pub use Rattle.wac_narrowing.specs.Standing
-pub use Rattle.wac_narrowing.specs.Identified
-pub use Rattle.wac_narrowing.specs.Apart
-pub use Rattle.wac_narrowing.specs.Imports
-pub use Rattle.wac_narrowing.specs.Narrows
-pub use Rattle.wac_narrowing.specs.Taking
-pub use Rattle.wac_narrowing.specs.Traced
-pub use Rattle.wac_narrowing.specs.Laws as NarrowingLaws
-pub use Rattle.wac_imports.specs.Import
-pub use Rattle.wac_imports.specs.Left
-pub use Rattle.wac_imports.specs.Places
-pub use Rattle.wac_refusals.specs.Texts as RefusalTexts
-pub use Rattle.wac_refusals.specs.Said
-pub use Rattle.wac_taking.specs.Refused
-pub use Rattle.wac_taking.specs.Takes
+pub use Rattle.wac_aggregator_narrowing.specs.State
+pub use Rattle.wac_aggregator_narrowing.specs.Remembers
+pub use Rattle.wac_aggregator_narrowing.specs.Standing
+pub use Rattle.wac_aggregator_narrowing.specs.Identified
+pub use Rattle.wac_aggregator_narrowing.specs.Apart
+pub use Rattle.wac_aggregator_narrowing.specs.Imports
+pub use Rattle.wac_aggregator_narrowing.specs.Narrows
+pub use Rattle.wac_aggregator_narrowing.specs.Taking
+pub use Rattle.wac_aggregator_narrowing.specs.Traced
+pub use Rattle.wac_aggregator_narrowing.specs.Laws as NarrowingLaws
+pub use Rattle.wac_aggregator_imports.specs.Import
+pub use Rattle.wac_aggregator_imports.specs.Left
+pub use Rattle.wac_aggregator_imports.specs.Places
+pub use Rattle.wac_aggregator_errors.specs.Texts as RefusalTexts
+pub use Rattle.wac_aggregator_errors.specs.Said
+pub use Rattle.wac_aggregator_taking.specs.Refused
+pub use Rattle.wac_aggregator_taking.specs.Takes
 pub use Rattle.wac_aggregator.specs.Content as Aggregator
 pub use Rattle.wac_aggregator.specs.HandedIn
 pub use Rattle.wac_aggregator.specs.After

@@ -1,6 +1,6 @@
 //! The built-in rows: questions whether one item fits where another is asked for.
 
-use super::sides::{Side, add_side};
+use super::sides::{RowSide, add_side};
 use std::alloc::{AllocError, Global};
 use std::collections::HashSet;
 use std::io;
@@ -11,41 +11,47 @@ use wac_mismatch::SubtypeError;
 use wac_model::PrimitiveType;
 
 // Which item is asked about, and which is asked for.
-static ROWS: [(Side, Side); 17] = [
+static ROWS: [(RowSide, RowSide); 17] = [
     (
-        Side::Value(PrimitiveType::U8),
-        Side::Value(PrimitiveType::U8),
+        RowSide::Value(PrimitiveType::U8),
+        RowSide::Value(PrimitiveType::U8),
     ),
     (
-        Side::Value(PrimitiveType::U8),
-        Side::Value(PrimitiveType::S8),
-    ),
-    (Side::List(PrimitiveType::U8), Side::List(PrimitiveType::U8)),
-    (Side::Stream(None), Side::Stream(Some(PrimitiveType::U8))),
-    (Side::Func(Some("a")), Side::Func(Some("b"))),
-    (Side::FuncGiving(PrimitiveType::U8), Side::Func(None)),
-    (Side::Resource("file"), Side::Resource("dir")),
-    (
-        Side::Alias(PrimitiveType::U8),
-        Side::Type(PrimitiveType::U8),
-    ),
-    (Side::Instance(&["f", "g"]), Side::Instance(&["f"])),
-    (Side::Instance(&["f"]), Side::Instance(&["f", "g"])),
-    (Side::Component(&["x"]), Side::Component(&[])),
-    (Side::Module(2, Some(5)), Side::Module(1, None)),
-    (Side::Module(1, None), Side::Module(2, Some(5))),
-    (Side::Value(PrimitiveType::U8), Side::Func(None)),
-    (
-        Side::Map(PrimitiveType::String, PrimitiveType::U8),
-        Side::Map(PrimitiveType::String, PrimitiveType::U8),
+        RowSide::Value(PrimitiveType::U8),
+        RowSide::Value(PrimitiveType::S8),
     ),
     (
-        Side::Map(PrimitiveType::String, PrimitiveType::U8),
-        Side::Map(PrimitiveType::String, PrimitiveType::S8),
+        RowSide::List(PrimitiveType::U8),
+        RowSide::List(PrimitiveType::U8),
     ),
     (
-        Side::Map(PrimitiveType::String, PrimitiveType::U8),
-        Side::List(PrimitiveType::U8),
+        RowSide::Stream(None),
+        RowSide::Stream(Some(PrimitiveType::U8)),
+    ),
+    (RowSide::Func(Some("a")), RowSide::Func(Some("b"))),
+    (RowSide::FuncGiving(PrimitiveType::U8), RowSide::Func(None)),
+    (RowSide::Resource("file"), RowSide::Resource("dir")),
+    (
+        RowSide::Alias(PrimitiveType::U8),
+        RowSide::Type(PrimitiveType::U8),
+    ),
+    (RowSide::Instance(&["f", "g"]), RowSide::Instance(&["f"])),
+    (RowSide::Instance(&["f"]), RowSide::Instance(&["f", "g"])),
+    (RowSide::Component(&["x"]), RowSide::Component(&[])),
+    (RowSide::Module(2, Some(5)), RowSide::Module(1, None)),
+    (RowSide::Module(1, None), RowSide::Module(2, Some(5))),
+    (RowSide::Value(PrimitiveType::U8), RowSide::Func(None)),
+    (
+        RowSide::Map(PrimitiveType::String, PrimitiveType::U8),
+        RowSide::Map(PrimitiveType::String, PrimitiveType::U8),
+    ),
+    (
+        RowSide::Map(PrimitiveType::String, PrimitiveType::U8),
+        RowSide::Map(PrimitiveType::String, PrimitiveType::S8),
+    ),
+    (
+        RowSide::Map(PrimitiveType::String, PrimitiveType::U8),
+        RowSide::List(PrimitiveType::U8),
     ),
 ];
 
@@ -62,8 +68,8 @@ pub fn print_rows<W: Write>(alloc: Global, out: &mut W) -> io::Result<()> {
 fn print_row<W: Write>(
     alloc: Global,
     number: usize,
-    left: Side,
-    right: Side,
+    left: RowSide,
+    right: RowSide,
     out: &mut W,
 ) -> io::Result<()> {
     let mut at = Types::new(alloc, 1);

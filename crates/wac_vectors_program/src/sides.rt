@@ -16,7 +16,7 @@ use wac_model::PrimitiveType;
 
 // What stands on one side of a row.
 #[derive(Clone, Copy)]
-pub(crate) enum Side {
+pub(crate) enum RowSide {
     // A value of a primitive type.
     Value(PrimitiveType),
     // A value of a list.
@@ -45,37 +45,37 @@ pub(crate) enum Side {
 
 // Adds what a side needs to a collection, and gives its item: an error of the kind `InvalidInput`
 // for a module whose memory starts above its maximum.
-pub(crate) fn add_side(alloc: Global, types: &mut Types, side: Side) -> io::Result<ItemKind>
+pub(crate) fn add_side(alloc: Global, types: &mut Types, side: RowSide) -> io::Result<ItemKind>
     ensures stands { IfOk result (λ item. AllStand types.new (item_keys item)) }
     ensures number { types.new.number ≡ types.old.number }
 {
     match side {
-        Side::Value(ty) => Ok(ItemKind::Value(ValueType::Primitive(ty))),
-        Side::List(ty) => add_value(types, DefinedType::List(ValueType::Primitive(ty))),
-        Side::Map(key, value) => {
+        RowSide::Value(ty) => Ok(ItemKind::Value(ValueType::Primitive(ty))),
+        RowSide::List(ty) => add_value(types, DefinedType::List(ValueType::Primitive(ty))),
+        RowSide::Map(key, value) => {
             let key = ValueType::Primitive(key);
             add_value(types, DefinedType::Map(key, ValueType::Primitive(value)))
         }
-        Side::Stream(None) => add_value(types, DefinedType::Stream(None)),
-        Side::Stream(Some(ty)) => {
+        RowSide::Stream(None) => add_value(types, DefinedType::Stream(None)),
+        RowSide::Stream(Some(ty)) => {
             add_value(types, DefinedType::Stream(Some(ValueType::Primitive(ty))))
         }
-        Side::Func(None) => add_func(types, FuncType::new(alloc)),
-        Side::Func(Some(name)) => add_func(types, func_taking(alloc, name)?),
-        Side::FuncGiving(ty) => add_func(types, func_giving(alloc, ty)),
-        Side::Resource(name) => {
+        RowSide::Func(None) => add_func(types, FuncType::new(alloc)),
+        RowSide::Func(Some(name)) => add_func(types, func_taking(alloc, name)?),
+        RowSide::FuncGiving(ty) => add_func(types, func_giving(alloc, ty)),
+        RowSide::Resource(name) => {
             let name = String::from_str(alloc, name)?;
             let id = types.add_resource(Resource { name, alias: None })?;
             Ok(ItemKind::Type(Type::Resource(id)))
         }
-        Side::Type(ty) => Ok(ItemKind::Type(Type::Value(ValueType::Primitive(ty)))),
-        Side::Alias(ty) => {
+        RowSide::Type(ty) => Ok(ItemKind::Type(Type::Value(ValueType::Primitive(ty)))),
+        RowSide::Alias(ty) => {
             let id = types.add_defined_type(DefinedType::Alias(ValueType::Primitive(ty)))?;
             Ok(ItemKind::Type(Type::Value(ValueType::Defined(id))))
         }
-        Side::Instance(names) => add_instance(alloc, types, names),
-        Side::Component(names) => add_component(alloc, types, names),
-        Side::Module(initial, maximum) => {
+        RowSide::Instance(names) => add_instance(alloc, types, names),
+        RowSide::Component(names) => add_component(alloc, types, names),
+        RowSide::Module(initial, maximum) => {
             let id = add_module(types, exporting_memory(alloc, initial, maximum)?)?;
             Ok(ItemKind::Module(id))
         }

@@ -1,8 +1,8 @@
 //! What is known so far of an interface or a world that is being made.
 
 use super::adding::{add_defined, add_func};
-use super::made::{Known, NamedType, TypeNames};
-use super::shapes::{FuncShape, Shape, Shapes};
+use super::made::{KnownEntries, NamedType, TypeNames};
+use super::shapes::{FuncShape, Shapes, TypeShape};
 use indexmap::IndexMap;
 use std::alloc::{AllocError, Global};
 use wac_component::{DefinedType, DefinedTypeId, FuncTypeId, ItemKind, Types, UsedType, ValueType};
@@ -14,7 +14,7 @@ use wac_wit_syntax::{Gates, Ident, Span};
 pub(crate) struct Site<'b> {
     pub(crate) alloc: Global,
     pub(crate) catalog: &'b Catalog<'b>,
-    pub(crate) known: Known<'b>,
+    pub(crate) known: KnownEntries<'b>,
     /// The interface or the world, or that which an interface without identifier stands in.
     pub(crate) node: &'b Node<'b>,
     /// The names of its file.
@@ -173,7 +173,7 @@ impl<'b> Builder<'b> {
     }
 
     /// The entry of a type that has no name.
-    pub(crate) fn shaped(&mut self, shape: Shape) -> Result<ValueType, Fault> {
+    pub(crate) fn shaped(&mut self, shape: TypeShape) -> Result<ValueType, Fault> {
         if let Some(known) = self.shapes.types.get(&shape) {
             return Ok(*known);
         }

@@ -1,7 +1,7 @@
 //! All that a world imports and exports, in the order in which `wit-component` encodes it.
 
 use super::builder::Builder;
-use super::made::{Exported, Known, Member, Sides, Sort, What};
+use super::made::{Exported, ImportSort, KnownEntries, What, WorldExterns, WorldImport};
 use indexmap::{IndexMap, IndexSet};
 use std::alloc::{AllocError, Global};
 use wac_wit_names::Fault;
@@ -24,12 +24,12 @@ enum Thing {
 
 /// What is elaborated so far.
 struct Elaboration<'e> {
-    known: Known<'e>,
+    known: KnownEntries<'e>,
     /// The exports, in the order in which they are written.
     written: Vec<Exported>,
     /// The exports of interfaces of packages, by these.
     exports_of: IndexMap<usize, usize>,
-    imports: Vec<Member>,
+    imports: Vec<WorldImport>,
     /// The interfaces of packages among the imports.
     imported: IndexSet<usize>,
     /// The interfaces that exports need as imports.
@@ -60,16 +60,20 @@ impl Builder<'_> {
     /// the exported ones that it uses.
     pub(crate) fn elaborated(
         &self,
-        imports: Vec<Member>,
+        imports: Vec<WorldImport>,
         exports: Vec<Exported>,
-    ) -> Result<Sides, Fault> {
+    ) -> Result<WorldExterns, Fault> {
         let mut all = Elaboration::of(self.alloc, self.site.known, exports)?;
         self.push_imports(&mut all, sorted(imports)?)?;
         self.order_exports(&mut all)?;
         Ok(all.sides(self.alloc)?)
     }
 
-    fn push_imports(&self, all: &mut Elaboration<'_>, imports: Vec<Member>) -> Result<(), Fault> {
+    fn push_imports(
+        &self,
+        all: &mut Elaboration<'_>,
+        imports: Vec<WorldImport>,
+    ) -> Result<(), Fault> {
         for member in imports {
             self.push_behind(all, member)?;
         }
@@ -77,10 +81,10 @@ impl Builder<'_> {
     }
 
     // Puts an import last, behind the interfaces that it uses.
-    fn push_behind(&self, all: &mut Elaboration<'_>, member: Member) -> Result<(), Fault> {
+    fn push_behind(&self, all: &mut Elaboration<'_>, member: WorldImport) -> Result<(), Fault> {
         match member.sort {
-            Sort::Interface(node) => return self.import_behind(all, node),
-            Sort::UsedType(node) => self.import_behind(all, node)?,
+            ImportSort::Interface(node) => return self.import_behind(all, node),
+            ImportSort::UsedType(node) => self.import_behind(all, node)?,
             _ => {}
         }
         for node in &member.needs {
@@ -207,7 +211,7 @@ impl<'e> Elaboration<'e> {
     // Nothing yet of these exports.
     fn of(
         alloc: Global,
-        known: Known<'e>,
+        known: KnownEntries<'e>,
         written: Vec<Exported>,
     ) -> Result<Elaboration<'e>, AllocError> {
         let exports_of = exports_of(alloc, &written)?;
@@ -223,7 +227,7 @@ impl<'e> Elaboration<'e> {
     }
 
     // What came out.
-    fn sides(self, alloc: Global) -> Result<Sides, AllocError> {
+    fn sides(self, alloc: Global) -> Result<WorldExterns, AllocError> {
         let Elaboration {
             known: _,
             written,
@@ -235,7 +239,7 @@ impl<'e> Elaboration<'e> {
         } = self;
         let exports = in_order(alloc, written, &exported)?;
         let imports = sorted(imports)?;
-        Ok(Sides { imports, exports })
+        Ok(WorldExterns { imports, exports })
     }
 
     // The next interface that something uses.
@@ -333,18 +337,18 @@ fn in_order(
 }
 
 // The place of a sort among the others.
-fn rank_of(sort: &Sort) -> usize {
+fn rank_of(sort: &ImportSort) -> usize {
     match sort {
-        Sort::Interface(_) | Sort::Inline => 0,
-        Sort::UsedType(_) => 1,
-        Sort::Type => 2,
-        Sort::Func => 3,
-        Sort::Method => 4,
+        ImportSort::Interface(_) | ImportSort::Inline => 0,
+        ImportSort::UsedType(_) => 1,
+        ImportSort::Type => 2,
+        ImportSort::Func => 3,
+        ImportSort::Method => 4,
     }
 }
 
 // Imports in the order of their sorts, and else as they stand.
-fn sorted(imports: Vec<Member>) -> Result<Vec<Member>, AllocError> {
+fn sorted(imports: Vec<WorldImport>) -> Result<Vec<WorldImport>, AllocError> {
     let mut sorted = imports;
     sorted.sort_by_key(|it| rank_of(&it.sort))?;
     Ok(sorted)

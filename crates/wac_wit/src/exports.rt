@@ -2,7 +2,7 @@
 
 use super::builder::{Builder, Site};
 use super::interfaces::make_interface;
-use super::made::{Exported, Known, MadeInterface, Member, Sort, What};
+use super::made::{Exported, ImportSort, KnownEntries, MadeInterface, What, WorldImport};
 use super::worlds::Draft;
 use indexmap::{IndexMap, IndexSet};
 use std::alloc::AllocError;
@@ -140,7 +140,7 @@ impl<'b> Builder<'b> {
     /// with resources of its own; else it is the entry that all worlds share.
     pub(crate) fn made_exports(
         &mut self,
-        imports: &[Member],
+        imports: &[WorldImport],
         exports: &[Exported],
     ) -> Result<IndexMap<String, ItemKind>, Fault> {
         let imported = imported_in(self, imports)?;
@@ -236,7 +236,7 @@ impl<'b> Builder<'b> {
         Ok(Site {
             alloc: self.alloc,
             catalog: self.site.catalog,
-            known: Known {
+            known: KnownEntries {
                 made: self.site.known.made,
                 exported: Some(own),
             },
@@ -257,10 +257,13 @@ fn uses_any(own: &IndexMap<usize, MadeInterface>, needs: &[usize]) -> bool {
 }
 
 // The interfaces of packages among imports.
-fn imported_in(builder: &Builder<'_>, imports: &[Member]) -> Result<IndexSet<usize>, AllocError> {
+fn imported_in(
+    builder: &Builder<'_>,
+    imports: &[WorldImport],
+) -> Result<IndexSet<usize>, AllocError> {
     let mut imported = IndexSet::new(builder.alloc);
     for member in imports {
-        if let Sort::Interface(node) = member.sort {
+        if let ImportSort::Interface(node) = member.sort {
             imported.insert(node)?;
         }
     }

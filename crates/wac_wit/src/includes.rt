@@ -1,7 +1,7 @@
 //! Worlds that are included in others.
 
 use super::builder::Builder;
-use super::made::{Exported, MadeWorld, Member, NamedType, Sides, Sort, What};
+use super::made::{Exported, ImportSort, MadeWorld, NamedType, What, WorldExterns, WorldImport};
 use super::renaming::Renaming;
 use super::worlds::Draft;
 use indexmap::IndexSet;
@@ -37,7 +37,7 @@ impl<'b> Builder<'b> {
     ) -> Result<(), Fault> {
         for member in &world.sides.imports {
             let done = match member.sort {
-                Sort::Interface(node) => self.import_interface(draft, node, span),
+                ImportSort::Interface(node) => self.import_interface(draft, node, span),
                 _ => self.include_import(draft, renaming, world, member, span),
             };
             self.refusals.go_on(done)?;
@@ -93,11 +93,11 @@ impl<'b> Builder<'b> {
         draft: &mut Draft,
         renaming: &mut Renaming,
         world: &MadeWorld,
-        member: &Member,
+        member: &WorldImport,
         span: Span,
     ) -> Result<(), Fault> {
         let name = renaming.name(&member.name, &member.sort)?;
-        if !matches!(member.sort, Sort::Method) {
+        if !matches!(member.sort, ImportSort::Method) {
             self.take_included(&name, span)?;
         }
         let item = self.included_item(renaming, world, member, &name)?;
@@ -109,7 +109,7 @@ impl<'b> Builder<'b> {
         &mut self,
         renaming: &mut Renaming,
         world: &MadeWorld,
-        member: &Member,
+        member: &WorldImport,
         name: &str,
     ) -> Result<ItemKind, Fault> {
         match member.item {
@@ -166,16 +166,16 @@ impl<'b> Builder<'b> {
             What::Func(id) => What::Func(self.renamed_func(renaming, id)?),
             other => other,
         };
-        let name = renaming.name(&exported.name, &Sort::Func)?;
+        let name = renaming.name(&exported.name, &ImportSort::Func)?;
         self.push_export(draft, &name, what, span)
     }
 }
 
 // The names of a world's imports and exports that have names of their own.
-fn plain_names(alloc: Global, sides: &Sides) -> Result<IndexSet<&str>, AllocError> {
+fn plain_names(alloc: Global, sides: &WorldExterns) -> Result<IndexSet<&str>, AllocError> {
     let mut names = IndexSet::new(alloc);
     for member in &sides.imports {
-        if !matches!(member.sort, Sort::Interface(_)) {
+        if !matches!(member.sort, ImportSort::Interface(_)) {
             names.insert(member.name.as_str())?;
         }
     }

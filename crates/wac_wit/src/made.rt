@@ -126,7 +126,7 @@ impl MadeInterface {
 
 /// What sort of import it is, in the order in which imports stand.
 #[derive(Clone, Copy)]
-pub(crate) enum Sort {
+pub(crate) enum ImportSort {
     /// An interface of a package, by its index.
     Interface(usize),
     /// An interface under a name of its own.
@@ -142,17 +142,17 @@ pub(crate) enum Sort {
 }
 
 /// An import of a world.
-pub(crate) struct Member {
+pub(crate) struct WorldImport {
     pub(crate) name: String,
     pub(crate) item: ItemKind,
-    pub(crate) sort: Sort,
+    pub(crate) sort: ImportSort,
     /// The interfaces that an interface under a name of its own uses.
     pub(crate) needs: Vec<usize>,
 }
 
-impl Drop for Member {
+impl Drop for WorldImport {
     fn drop(self) {
-        let Member {
+        let WorldImport {
             name: _,
             item: _,
             sort: _,
@@ -194,14 +194,14 @@ impl Drop for Exported {
 }
 
 /// What a world imports and exports.
-pub(crate) struct Sides {
-    pub(crate) imports: Vec<Member>,
+pub(crate) struct WorldExterns {
+    pub(crate) imports: Vec<WorldImport>,
     pub(crate) exports: Vec<Exported>,
 }
 
-impl Drop for Sides {
+impl Drop for WorldExterns {
     fn drop(self) {
-        let Sides {
+        let WorldExterns {
             imports: _,
             exports: _,
         } = self;
@@ -211,7 +211,7 @@ impl Drop for Sides {
 /// A world.
 pub(crate) struct MadeWorld {
     pub(crate) id: WorldId,
-    pub(crate) sides: Sides,
+    pub(crate) sides: WorldExterns,
     /// The types among the imports.
     pub(crate) names: TypeNames,
     /// The defined types that were made for it, in order.
@@ -230,32 +230,32 @@ impl Drop for MadeWorld {
 }
 
 /// An interface or a world.
-pub(crate) enum Made {
+pub(crate) enum MadeEntry {
     /// Not yet made, or refused.
     Nothing,
     Interface(MadeInterface),
     World(MadeWorld),
 }
 
-impl Drop for Made {
+impl Drop for MadeEntry {
     fn drop(self) {
         match self {
-            Made::Nothing => {}
-            Made::Interface(_) => {}
-            Made::World(_) => {}
+            MadeEntry::Nothing => {}
+            MadeEntry::Interface(_) => {}
+            MadeEntry::World(_) => {}
         }
     }
 }
 
 /// The interfaces and the worlds that were made, as an interface or a world sees them.
 #[derive(Clone, Copy)]
-pub(crate) struct Known<'m> {
-    pub(crate) made: &'m [Made],
+pub(crate) struct KnownEntries<'m> {
+    pub(crate) made: &'m [MadeEntry],
     /// What stands in the place of some interfaces: those that a world exports.
     pub(crate) exported: Option<&'m IndexMap<usize, MadeInterface>>,
 }
 
-impl<'m> Known<'m> {
+impl<'m> KnownEntries<'m> {
     /// The interface at an index.
     pub(crate) fn interface(&self, node: usize) -> Option<&'m MadeInterface> {
         if let Some(exported) = self.exported
@@ -264,7 +264,7 @@ impl<'m> Known<'m> {
             return Some(it);
         }
         match self.made.get(node)? {
-            Made::Interface(it) => Some(it),
+            MadeEntry::Interface(it) => Some(it),
             _ => None,
         }
     }
@@ -272,7 +272,7 @@ impl<'m> Known<'m> {
     /// The world at an index.
     pub(crate) fn world(&self, node: usize) -> Option<&'m MadeWorld> {
         match self.made.get(node)? {
-            Made::World(it) => Some(it),
+            MadeEntry::World(it) => Some(it),
             _ => None,
         }
     }

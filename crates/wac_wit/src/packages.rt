@@ -2,7 +2,7 @@
 
 use super::builder::Site;
 use super::interfaces::make_interface;
-use super::made::{Known, Made};
+use super::made::{KnownEntries, MadeEntry};
 use super::worlds::make_world;
 use indexmap::IndexMap;
 use std::alloc::{AllocError, Global};
@@ -130,11 +130,11 @@ fn make_all(
     catalog: &Catalog<'_>,
     types: &mut Types,
     refusals: &mut Refusals,
-) -> Result<Vec<Made>, Fault> {
+) -> Result<Vec<MadeEntry>, Fault> {
     let order = catalog.order(refusals)?;
     let mut made = Vec::new(alloc);
     for _node in &catalog.nodes {
-        made.push(Made::Nothing)?;
+        made.push(MadeEntry::Nothing)?;
     }
     for index in order {
         let node = catalog.node(index)?;
@@ -150,11 +150,11 @@ fn make_all(
 fn site_of<'m>(
     alloc: Global,
     catalog: &'m Catalog<'m>,
-    made: &'m [Made],
+    made: &'m [MadeEntry],
     node: &'m Node<'m>,
 ) -> Result<Site<'m>, Fault> {
     let scope = catalog.scope(node.scope)?;
-    let known = Known {
+    let known = KnownEntries {
         made,
         exported: None,
     };
@@ -169,9 +169,9 @@ fn site_of<'m>(
 
 // Puts what was made in its place, or notes why it is refused.
 fn put_made(
-    made: &mut [Made],
+    made: &mut [MadeEntry],
     index: usize,
-    done: Result<Made, Fault>,
+    done: Result<MadeEntry, Fault>,
     refusals: &mut Refusals,
 ) -> Result<(), Fault> {
     match done {
@@ -186,19 +186,19 @@ fn put_made(
 }
 
 // Makes an interface or a world.
-fn make(site: &Site<'_>, types: &mut Types, refusals: &mut Refusals) -> Result<Made, Fault> {
+fn make(site: &Site<'_>, types: &mut Types, refusals: &mut Refusals) -> Result<MadeEntry, Fault> {
     match site.node.decl {
         Decl::Interface(it) => {
             let id = Some(site.node.id.clone()?);
             let of = make_interface(site, types, refusals, id, &it.items)?;
-            Ok(Made::Interface(of))
+            Ok(MadeEntry::Interface(of))
         }
-        Decl::World(it) => Ok(Made::World(make_world(site, types, refusals, it)?)),
+        Decl::World(it) => Ok(MadeEntry::World(make_world(site, types, refusals, it)?)),
     }
 }
 
 // The packages, with what became of their interfaces and worlds.
-fn listed(alloc: Global, catalog: &Catalog<'_>, made: &[Made]) -> Result<Wit, AllocError> {
+fn listed(alloc: Global, catalog: &Catalog<'_>, made: &[MadeEntry]) -> Result<Wit, AllocError> {
     let mut packages = Vec::new(alloc);
     for of in &catalog.packages {
         let mut package = named_package(alloc, of)?;
@@ -227,15 +227,15 @@ fn named_package(alloc: Global, of: &Package<'_>) -> Result<WitPackage, AllocErr
     })
 }
 
-fn put_member(package: &mut WitPackage, name: &String, made: &Made) -> Result<(), AllocError> {
+fn put_member(package: &mut WitPackage, name: &String, made: &MadeEntry) -> Result<(), AllocError> {
     match made {
-        Made::Interface(it) => {
+        MadeEntry::Interface(it) => {
             package.interfaces.insert(name.clone()?, it.id)?;
         }
-        Made::World(it) => {
+        MadeEntry::World(it) => {
             package.worlds.insert(name.clone()?, it.id)?;
         }
-        Made::Nothing => {}
+        MadeEntry::Nothing => {}
     }
     Ok(())
 }

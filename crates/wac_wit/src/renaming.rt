@@ -2,7 +2,7 @@
 
 use super::adding::{add_func, add_resource};
 use super::builder::Builder;
-use super::made::{MadeWorld, Meaning, Sort};
+use super::made::{ImportSort, MadeWorld, Meaning};
 use indexmap::IndexMap;
 use std::alloc::{AllocError, Global};
 use wac_component::{
@@ -56,8 +56,8 @@ impl Renaming {
 
     /// The name that an import or export gets. A function of a resource has the resource's name in
     /// its own.
-    pub(crate) fn name(&self, name: &str, sort: &Sort) -> Result<String, AllocError> {
-        if !matches!(sort, Sort::Method) {
+    pub(crate) fn name(&self, name: &str, sort: &ImportSort) -> Result<String, AllocError> {
+        if !matches!(sort, ImportSort::Method) {
             return String::from_str(self.alloc, self.plain(name));
         }
         let Some((kind, of)) = name.split_once(']') else {
@@ -223,7 +223,7 @@ impl Builder<'_> {
             return Err(Fault::Missing);
         }
         let alias = self.types[id].alias;
-        let new_name = renaming.name(name, &Sort::Type)?;
+        let new_name = renaming.name(name, &ImportSort::Type)?;
         let new_alias = renaming.alias(&alias);
         if new_name.as_str() == name && is_same_source(&alias, &new_alias) {
             return Ok(());

@@ -6,7 +6,7 @@ use wac_component::{DefinedType, FuncType, FuncTypeId, ValueType};
 
 /// A type that has no name.
 #[derive(PartialEq, Eq, Hash)]
-pub(crate) enum Shape {
+pub(crate) enum TypeShape {
     List(ValueType),
     FixedList(ValueType, u32),
     Map(ValueType, ValueType),
@@ -17,33 +17,33 @@ pub(crate) enum Shape {
     Stream(Option<ValueType>),
 }
 
-impl Drop for Shape {
+impl Drop for TypeShape {
     fn drop(self) {
         match self {
-            Shape::List(_) => {}
-            Shape::FixedList(_, _) => {}
-            Shape::Map(_, _) => {}
-            Shape::Option(_) => {}
-            Shape::Result(_, _) => {}
-            Shape::Tuple(_) => {}
-            Shape::Future(_) => {}
-            Shape::Stream(_) => {}
+            TypeShape::List(_) => {}
+            TypeShape::FixedList(_, _) => {}
+            TypeShape::Map(_, _) => {}
+            TypeShape::Option(_) => {}
+            TypeShape::Result(_, _) => {}
+            TypeShape::Tuple(_) => {}
+            TypeShape::Future(_) => {}
+            TypeShape::Stream(_) => {}
         }
     }
 }
 
-impl Shape {
+impl TypeShape {
     /// The type's entry.
     pub(crate) fn content(&self) -> Result<DefinedType, AllocError> {
         Ok(match self {
-            Shape::List(of) => DefinedType::List(*of),
-            Shape::FixedList(of, length) => DefinedType::FixedSizeList(*of, *length),
-            Shape::Map(key, value) => DefinedType::Map(*key, *value),
-            Shape::Option(of) => DefinedType::Option(*of),
-            Shape::Result(ok, err) => DefinedType::Result { ok: *ok, err: *err },
-            Shape::Tuple(items) => DefinedType::Tuple(items.clone()?),
-            Shape::Future(of) => DefinedType::Future(*of),
-            Shape::Stream(of) => DefinedType::Stream(*of),
+            TypeShape::List(of) => DefinedType::List(*of),
+            TypeShape::FixedList(of, length) => DefinedType::FixedSizeList(*of, *length),
+            TypeShape::Map(key, value) => DefinedType::Map(*key, *value),
+            TypeShape::Option(of) => DefinedType::Option(*of),
+            TypeShape::Result(ok, err) => DefinedType::Result { ok: *ok, err: *err },
+            TypeShape::Tuple(items) => DefinedType::Tuple(items.clone()?),
+            TypeShape::Future(of) => DefinedType::Future(*of),
+            TypeShape::Stream(of) => DefinedType::Stream(*of),
         })
     }
 }
@@ -85,7 +85,7 @@ impl FuncShape {
 
 /// The entries of types and functions, by what these are.
 pub(crate) struct Shapes {
-    pub(crate) types: IndexMap<Shape, ValueType>,
+    pub(crate) types: IndexMap<TypeShape, ValueType>,
     pub(crate) funcs: IndexMap<FuncShape, FuncTypeId>,
 }
 

@@ -2,7 +2,7 @@
 
 use super::builder::Builder;
 use super::made::Meaning;
-use super::shapes::Shape;
+use super::shapes::TypeShape;
 use wac_component::{ResourceId, Type, ValueType};
 use wac_model::PrimitiveType;
 use wac_wit_names::Fault;
@@ -30,33 +30,33 @@ impl Builder<'_> {
             TypeExpr::Borrow(name) => Ok(ValueType::Borrow(self.named_resource(name)?)),
             TypeExpr::List(of) => {
                 let of = self.value_of(of)?;
-                self.shaped(Shape::List(of))
+                self.shaped(TypeShape::List(of))
             }
             TypeExpr::Option(of) => {
                 let of = self.value_of(of)?;
-                self.shaped(Shape::Option(of))
+                self.shaped(TypeShape::Option(of))
             }
             TypeExpr::FixedList(of, length, span) => {
                 self.check_length(*length, *span)?;
                 let of = self.value_of(of)?;
-                self.shaped(Shape::FixedList(of, *length))
+                self.shaped(TypeShape::FixedList(of, *length))
             }
             TypeExpr::Result(ok, err) => {
                 let ok = self.optional_value(ok)?;
                 let err = self.optional_value(err)?;
-                self.shaped(Shape::Result(ok, err))
+                self.shaped(TypeShape::Result(ok, err))
             }
             TypeExpr::Tuple(items, _) => {
                 let mut values = Vec::new(self.alloc);
                 for item in items {
                     values.push(self.value_of(item)?)?;
                 }
-                self.shaped(Shape::Tuple(values))
+                self.shaped(TypeShape::Tuple(values))
             }
             TypeExpr::Map(key, of, _) => {
                 let key = self.value_of(key)?;
                 let of = self.value_of(of)?;
-                self.shaped(Shape::Map(key, of))
+                self.shaped(TypeShape::Map(key, of))
             }
             TypeExpr::Future(of) => {
                 let of = self.optional_value(of)?;
@@ -88,7 +88,7 @@ impl Builder<'_> {
         if let Some(ty) = &of {
             self.check_sent(ty)?;
         }
-        self.shaped(Shape::Future(of))
+        self.shaped(TypeShape::Future(of))
     }
 
     fn stream(&mut self, of: Option<ValueType>) -> Result<ValueType, Fault> {
@@ -96,7 +96,7 @@ impl Builder<'_> {
             self.check_sent(ty)?;
             self.check_streamed(ty)?;
         }
-        self.shaped(Shape::Stream(of))
+        self.shaped(TypeShape::Stream(of))
     }
 
     // Refuses what streams and futures can't have.

@@ -3,7 +3,7 @@
 use super::adding::add_world;
 use super::builder::{Builder, Site};
 use super::interfaces::make_interface;
-use super::made::{Exported, MadeWorld, Member, Sides, Sort};
+use super::made::{Exported, ImportSort, MadeWorld, WorldExterns, WorldImport};
 use indexmap::IndexMap;
 use std::alloc::{AllocError, Global};
 use std::mem::replace;
@@ -16,7 +16,7 @@ use wac_wit_syntax::{
 
 /// What a world imports and exports so far.
 pub(crate) struct Draft {
-    pub(crate) imports: Vec<Member>,
+    pub(crate) imports: Vec<WorldImport>,
     /// The interfaces of packages among the imports.
     pub(crate) imported: IndexMap<usize, Span>,
     pub(crate) exports: Vec<Exported>,
@@ -50,7 +50,7 @@ impl Draft {
     }
 
     // The imports and the exports.
-    fn into_externs(self) -> (Vec<Member>, Vec<Exported>) {
+    fn into_externs(self) -> (Vec<WorldImport>, Vec<Exported>) {
         let Draft {
             imports,
             imported: _,
@@ -64,7 +64,7 @@ impl Draft {
 
 impl<'b> Builder<'b> {
     /// What a world imports and exports.
-    fn sides(&mut self, items: &[WorldItem]) -> Result<Sides, Fault> {
+    fn sides(&mut self, items: &[WorldItem]) -> Result<WorldExterns, Fault> {
         let mut draft = Draft::new(self.alloc);
         self.fill(&mut draft, items)?;
         let (imports, exports) = draft.into_externs();
@@ -91,8 +91,8 @@ impl<'b> Builder<'b> {
         self.add_typedefs(&defs)?;
         for (name, named) in &self.names.types {
             let sort = match named.from {
-                Some(node) => Sort::UsedType(node),
-                None => Sort::Type,
+                Some(node) => ImportSort::UsedType(node),
+                None => ImportSort::Type,
             };
             self.add_plain(draft, name, named.meaning.item(), sort)?;
         }
@@ -135,7 +135,7 @@ impl<'b> Builder<'b> {
         self.items = IndexMap::new(self.alloc);
         self.add_methods(&item.name, methods)?;
         for (name, of) in &self.items {
-            self.add_plain(draft, name, *of, Sort::Method)?;
+            self.add_plain(draft, name, *of, ImportSort::Method)?;
         }
         Ok(())
     }
@@ -146,7 +146,7 @@ impl<'b> Builder<'b> {
         draft: &mut Draft,
         name: &str,
         item: ItemKind,
-        sort: Sort,
+        sort: ImportSort,
     ) -> Result<(), Fault> {
         let name = String::from_str(self.alloc, name)?;
         draft.imports.push(self.plain(name, item, sort))?;
@@ -154,8 +154,8 @@ impl<'b> Builder<'b> {
     }
 
     // An import that uses no interface.
-    fn plain(&self, name: String, item: ItemKind, sort: Sort) -> Member {
-        Member {
+    fn plain(&self, name: String, item: ItemKind, sort: ImportSort) -> WorldImport {
+        WorldImport {
             name,
             item,
             sort,
@@ -189,7 +189,7 @@ impl<'b> Builder<'b> {
     ) -> Result<(), Fault> {
         self.take_name(&name.name, name.span)?;
         let id = self.free_func(name, signature)?;
-        self.add_plain(draft, &name.name, ItemKind::Func(id), Sort::Func)
+        self.add_plain(draft, &name.name, ItemKind::Func(id), ImportSort::Func)
     }
 
     fn import_inline(
@@ -207,10 +207,10 @@ impl<'b> Builder<'b> {
             None,
             items,
         )?.into_parts();
-        draft.imports.push(Member {
+        draft.imports.push(WorldImport {
             name: name.name.clone()?,
             item: ItemKind::Instance(id),
-            sort: Sort::Inline,
+            sort: ImportSort::Inline,
             needs,
         })?;
         Ok(())
@@ -259,17 +259,17 @@ impl<'b> Builder<'b> {
     }
 
     /// An interface of a package as an import.
-    pub(crate) fn interface_member(&self, node: usize) -> Result<Member, Fault> {
+    pub(crate) fn interface_member(&self, node: usize) -> Result<WorldImport, Fault> {
         let Some(of) = self.site.known.interface(node) else {
             // it was refused
             return Err(Fault::Known);
         };
         let name = self.site.catalog.node(node)?.id.clone()?;
-        Ok(self.plain(name, ItemKind::Instance(of.id), Sort::Interface(node)))
+        Ok(self.plain(name, ItemKind::Instance(of.id), ImportSort::Interface(node)))
     }
 
     // Puts the entry of the world that was made into the collection.
-    fn put_world(&mut self, sides: &Sides) -> Result<WorldId, Fault> {
+    fn put_world(&mut self, sides: &WorldExterns) -> Result<WorldId, Fault> {
         let imports = items_of(self.alloc, &sides.imports)?;
         let exports = self.made_exports(&sides.imports, &sides.exports)?;
         let world = World {
@@ -301,7 +301,10 @@ pub(crate) fn make_world(
 }
 
 // The items of imports, by their names.
-fn items_of(alloc: Global, members: &[Member]) -> Result<IndexMap<String, ItemKind>, AllocError> {
+fn items_of(
+    alloc: Global,
+    members: &[WorldImport],
+) -> Result<IndexMap<String, ItemKind>, AllocError> {
     let mut items = IndexMap::new(alloc);
     for member in members {
         items.insert(member.name.clone()?, member.item)?;

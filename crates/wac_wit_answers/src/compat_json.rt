@@ -2,10 +2,10 @@
 
 use super::answer::text_or_null;
 use super::input::Input;
-use super::pointing::{Pointer, Sides};
+use super::pointing::{PackageSides, Pointer};
 use serde_json::{Value, json};
 use std::alloc::{AllocError, Global};
-use wac_wit_changes::{Compared, PackageReport, Promise};
+use wac_wit_changes::{ComparedItem, PackageReport, Promise};
 use wac_wit_entries::version_of;
 
 /// What was found of all packages.
@@ -15,7 +15,7 @@ pub(crate) fn reports_json(
     new: &Input,
     reports: &[PackageReport],
 ) -> Result<Value, AllocError> {
-    let pointer = Pointer::new(alloc, old, new, Sides::Versions);
+    let pointer = Pointer::new(alloc, old, new, PackageSides::Versions);
     let mut packages = Vec::new(alloc);
     for report in reports {
         packages.push(package_json(alloc, &pointer, report)?)?;
@@ -57,7 +57,7 @@ fn package_json(
 fn compared_json(
     alloc: Global,
     pointer: &Pointer<'_>,
-    compared: &Compared,
+    compared: &ComparedItem,
 ) -> Result<Value, AllocError> {
     let mut problems = Vec::new(alloc);
     for problem in &compared.problems {

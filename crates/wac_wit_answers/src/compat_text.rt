@@ -1,9 +1,9 @@
 //! What `compat` prints for people.
 
 use super::input::Input;
-use super::pointing::{Pointer, Sides};
+use super::pointing::{PackageSides, Pointer};
 use std::alloc::{AllocError, Global};
-use wac_wit_changes::{Compared, PackageReport, Promise};
+use wac_wit_changes::{ComparedItem, PackageReport, Promise};
 use wac_wit_entries::version_of;
 
 /// What was found of all packages.
@@ -14,7 +14,7 @@ pub(crate) fn reports_text(
     reports: &[PackageReport],
 ) -> Result<String, AllocError> {
     let mut out = String::new(alloc);
-    let mut pointer = Pointer::new(alloc, old, new, Sides::Versions);
+    let mut pointer = Pointer::new(alloc, old, new, PackageSides::Versions);
     for report in reports {
         push_package(alloc, &mut out, &mut pointer, report)?;
     }
@@ -72,7 +72,7 @@ fn push_compared(
     pointer: &mut Pointer<'_>,
     severity: &str,
     report: &PackageReport,
-    compared: &Compared,
+    compared: &ComparedItem,
 ) -> Result<(), AllocError> {
     let verdict = if compared.problems.is_empty() {
         "serves"

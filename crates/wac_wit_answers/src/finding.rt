@@ -9,7 +9,7 @@ use wac_wit_entries::{interface, parts_of, world};
 
 /// An interface or a world.
 #[derive(Clone, Copy)]
-pub(crate) enum Found {
+pub(crate) enum FoundItem {
     Interface(InterfaceId),
     World(WorldId),
 }
@@ -31,14 +31,14 @@ fn is_named(id: &Option<String>, name: &str) -> bool {
 }
 
 /// The interface or the world of this name in the package itself, or of this identifier in any.
-pub(crate) fn find(types: &Types, wit: &Wit, name: &str) -> Option<Found> {
+pub(crate) fn find(types: &Types, wit: &Wit, name: &str) -> Option<FoundItem> {
     for package in &wit.packages {
         if package.group == 0 {
             if let Some(id) = package.interfaces.get(name) {
-                return Some(Found::Interface(*id));
+                return Some(FoundItem::Interface(*id));
             }
             if let Some(id) = package.worlds.get(name) {
-                return Some(Found::World(*id));
+                return Some(FoundItem::World(*id));
             }
         }
     }
@@ -46,16 +46,16 @@ pub(crate) fn find(types: &Types, wit: &Wit, name: &str) -> Option<Found> {
 }
 
 // The interface or the world of this identifier.
-fn find_by_id(types: &Types, wit: &Wit, name: &str) -> Option<Found> {
+fn find_by_id(types: &Types, wit: &Wit, name: &str) -> Option<FoundItem> {
     for package in &wit.packages {
         for id in package.interfaces.values() {
             if is_named(&interface(types, *id)?.id, name) {
-                return Some(Found::Interface(*id));
+                return Some(FoundItem::Interface(*id));
             }
         }
         for id in package.worlds.values() {
             if is_named(&world(types, *id)?.id, name) {
-                return Some(Found::World(*id));
+                return Some(FoundItem::World(*id));
             }
         }
     }
@@ -71,8 +71,8 @@ pub(crate) fn find_world(
 ) -> Result<WorldId, Failure> {
     let path = input.path.as_str();
     match &find(types, &input.wit, name) {
-        Some(Found::World(id)) => Ok(*id),
-        Some(Found::Interface(_)) => {
+        Some(FoundItem::World(id)) => Ok(*id),
+        Some(FoundItem::Interface(_)) => {
             let line = format!(in alloc; "{path}: `{name}` is an interface, not a world");
             Err(Failure::refused(line))
         }

@@ -2,7 +2,7 @@
 
 use super::answer::Answer;
 use super::failure::Failure;
-use super::finding::{Found, find, not_there};
+use super::finding::{FoundItem, find, not_there};
 use super::input::{Input, Texts};
 use super::options::Options;
 use std::alloc::Global;
@@ -46,8 +46,8 @@ fn push_named(
     name: &str,
 ) -> Result<(), Failure> {
     let entry = match &find(types, &input.wit, name) {
-        Some(Found::Interface(id)) => Type::Interface(*id),
-        Some(Found::World(id)) => Type::World(*id),
+        Some(FoundItem::Interface(id)) => Type::Interface(*id),
+        Some(FoundItem::World(id)) => Type::World(*id),
         None => return Err(not_there(alloc, input, name)),
     };
     push_one(alloc, text, types, entry)?;

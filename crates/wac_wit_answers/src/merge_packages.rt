@@ -4,18 +4,18 @@ use indexmap::{IndexMap, IndexSet};
 use std::alloc::{AllocError, Global};
 use wac_component::{InterfaceId, ItemKind};
 use wac_types::TypeAggregator;
-use wac_wit_entries::{Parts, interface, interface_id, parts_of};
+use wac_wit_entries::{IdentifierParts, interface, interface_id, parts_of};
 use wac_wit_text::Printer;
 
 /// An interface of a package, under the name that leads to it.
-pub(crate) type Named<'t> = (&'t str, Parts<'t>, InterfaceId);
+pub(crate) type NamedInterface<'t> = (&'t str, IdentifierParts<'t>, InterfaceId);
 
 /// The interfaces of packages that are imported, and those whose types they use. An interface keeps
 /// the identifier of the first that was merged into it, and is imported under the highest one.
 pub(crate) fn interfaces_of(
     alloc: Global,
     merged: &TypeAggregator,
-) -> Result<Vec<Named<'_>>, AllocError> {
+) -> Result<Vec<NamedInterface<'_>>, AllocError> {
     let mut interfaces = Vec::new(alloc);
     let mut known = IndexSet::new(alloc);
     push_imported(&mut interfaces, &mut known, merged)?;
@@ -25,7 +25,7 @@ pub(crate) fn interfaces_of(
 
 // Puts the interfaces last that are imported.
 fn push_imported<'t>(
-    interfaces: &mut Vec<Named<'t>>,
+    interfaces: &mut Vec<NamedInterface<'t>>,
     known: &mut IndexSet<InterfaceId>,
     merged: &'t TypeAggregator,
 ) -> Result<(), AllocError> {
@@ -39,7 +39,7 @@ fn push_imported<'t>(
 
 // Puts those last whose types they use.
 fn push_used<'t>(
-    interfaces: &mut Vec<Named<'t>>,
+    interfaces: &mut Vec<NamedInterface<'t>>,
     known: &mut IndexSet<InterfaceId>,
     merged: &'t TypeAggregator,
 ) -> Result<(), AllocError> {
@@ -60,7 +60,7 @@ fn push_used<'t>(
 
 // Puts an interface last that isn't there, if it has the name of one of a package.
 fn push_interface<'t>(
-    interfaces: &mut Vec<Named<'t>>,
+    interfaces: &mut Vec<NamedInterface<'t>>,
     known: &mut IndexSet<InterfaceId>,
     name: &'t str,
     id: InterfaceId,
@@ -81,7 +81,7 @@ fn push_interface<'t>(
 pub(crate) fn put_packages<'t>(
     alloc: Global,
     printer: &mut Printer<'t>,
-    interfaces: &[Named<'t>],
+    interfaces: &[NamedInterface<'t>],
 ) -> Result<(), AllocError> {
     for indices in by_package(alloc, interfaces)?.values() {
         put_package(printer, interfaces, indices)?;
@@ -92,7 +92,7 @@ pub(crate) fn put_packages<'t>(
 // The indices of the interfaces of each package: of each name the first one's.
 fn by_package(
     alloc: Global,
-    interfaces: &[Named<'_>],
+    interfaces: &[NamedInterface<'_>],
 ) -> Result<IndexMap<String, Vec<usize>>, AllocError> {
     let mut packages = IndexMap::new(alloc);
     for index in &first_indices(alloc, interfaces)? {
@@ -105,7 +105,10 @@ fn by_package(
 }
 
 // The index of the first interface of each name.
-fn first_indices(alloc: Global, interfaces: &[Named<'_>]) -> Result<Vec<usize>, AllocError> {
+fn first_indices(
+    alloc: Global,
+    interfaces: &[NamedInterface<'_>],
+) -> Result<Vec<usize>, AllocError> {
     let mut names = IndexSet::new(alloc);
     let mut indices = Vec::new(alloc);
     for (index, (name, _, _)) in interfaces.iter().enumerate() {
@@ -117,7 +120,7 @@ fn first_indices(alloc: Global, interfaces: &[Named<'_>]) -> Result<Vec<usize>, 
 }
 
 // A package with its version.
-fn package_key(alloc: Global, parts: &Parts<'_>) -> Result<String, AllocError> {
+fn package_key(alloc: Global, parts: &IdentifierParts<'_>) -> Result<String, AllocError> {
     let package = parts.package;
     match parts.version {
         Some(version) => format!(in alloc; "{package}@{version}"),
@@ -142,7 +145,7 @@ fn push_index(
 
 fn put_package<'t>(
     printer: &mut Printer<'t>,
-    interfaces: &[Named<'t>],
+    interfaces: &[NamedInterface<'t>],
     indices: &[usize],
 ) -> Result<(), AllocError> {
     let mut is_first = true;

@@ -11,7 +11,9 @@ use wac_types::{
     AggregateAllError, AggregateError, Call, Frame, MergeFrame, are_semver_compatible,
 };
 use wac_wit_changes::{Problem, fault_text, steps_of};
-use wac_wit_places::{Map, Place, Side, Sources, Walk, places_of, syntax_of};
+use wac_wit_places::{
+    FilePlace, Map, PackageSources, SourceSide, SourceWalk, places_of, syntax_of,
+};
 
 /// Says which import isn't merged, and where it and those on its track stand.
 pub(crate) fn refusal_text(
@@ -81,7 +83,7 @@ fn path_json(alloc: Global, steps: &[String]) -> Result<Vec<Value>, AllocError> 
 fn involved_json(
     alloc: Global,
     handed: &Handed<'_>,
-    places: &[(usize, Option<Place>)],
+    places: &[(usize, Option<FilePlace>)],
 ) -> Result<Vec<Value>, Failure> {
     let mut involved = Vec::new(alloc);
     for (index, place) in places {
@@ -94,7 +96,7 @@ fn one_involved_json(
     alloc: Global,
     handed: &Handed<'_>,
     index: usize,
-    place: Option<Place>,
+    place: Option<FilePlace>,
 ) -> Result<Value, Failure> {
     let Some(source) = handed.source_of(index) else {
         return Err(Failure::Missing);
@@ -136,22 +138,22 @@ fn places(
     alloc: Global,
     handed: &Handed<'_>,
     refusal: &AggregateAllError,
-) -> Result<Vec<(usize, Option<Place>)>, Failure> {
+) -> Result<Vec<(usize, Option<FilePlace>)>, Failure> {
     let Some(source) = handed.source_of(refusal.at) else {
         return Err(Failure::Missing);
     };
     let syntax = syntax_of(alloc, &source.input.files)?;
-    let sources = Sources::new(alloc, &source.input.files, &syntax)?;
+    let sources = PackageSources::new(alloc, &source.input.files, &syntax)?;
     let exports = exports_to(alloc, &refusal.error)?;
     let map = Map {
         types: &source.types,
         sources: &sources,
     };
-    let start = Side {
+    let start = SourceSide {
         map,
         walk: walk_of(&map, handed, source.world, refusal.at),
     };
-    let new = Side {
+    let new = SourceSide {
         map,
         walk: end_of(&start, &exports, &refusal.error),
     };
@@ -164,8 +166,8 @@ fn places_beside(
     handed: &Handed<'_>,
     refusal: &AggregateAllError,
     exports: &[Frame],
-    new: &Side<'_, '_>,
-) -> Result<Vec<(usize, Option<Place>)>, Failure> {
+    new: &SourceSide<'_, '_>,
+) -> Result<Vec<(usize, Option<FilePlace>)>, Failure> {
     let at = refusal.at;
     let Some(call) = handed.calls.get(at) else {
         return Err(Failure::Missing);
@@ -181,7 +183,7 @@ fn places_beside(
         }
     }
     if places.is_empty() {
-        let same = Side {
+        let same = SourceSide {
             map: new.map,
             walk: new.at_end(&[]).walk,
         };
@@ -204,23 +206,23 @@ fn places_in(
     handed: &Handed<'_>,
     refusal: &AggregateAllError,
     exports: &[Frame],
-    new: &Side<'_, '_>,
+    new: &SourceSide<'_, '_>,
     index: usize,
-) -> Result<(Option<Place>, Option<Place>), Failure> {
+) -> Result<(Option<FilePlace>, Option<FilePlace>), Failure> {
     let Some(source) = handed.source_of(index) else {
         return Err(Failure::Missing);
     };
     let syntax = syntax_of(alloc, &source.input.files)?;
-    let sources = Sources::new(alloc, &source.input.files, &syntax)?;
+    let sources = PackageSources::new(alloc, &source.input.files, &syntax)?;
     let map = Map {
         types: &source.types,
         sources: &sources,
     };
-    let start = Side {
+    let start = SourceSide {
         map,
         walk: walk_of(&map, handed, source.world, index),
     };
-    let old = Side {
+    let old = SourceSide {
         map,
         walk: end_of(&start, exports, &refusal.error),
     };
@@ -241,8 +243,12 @@ fn exports_to(alloc: Global, error: &AggregateError) -> Result<Vec<Frame>, Alloc
 }
 
 // The end of a refusal's path.
-fn end_of<'d>(side: &Side<'_, 'd>, exports: &[Frame], error: &AggregateError) -> Option<Walk<'d>> {
-    let below = Side {
+fn end_of<'d>(
+    side: &SourceSide<'_, 'd>,
+    exports: &[Frame],
+    error: &AggregateError,
+) -> Option<SourceWalk<'d>> {
+    let below = SourceSide {
         map: side.map,
         walk: side.at_end(exports).walk,
     };
@@ -256,9 +262,9 @@ fn end_of<'d>(side: &Side<'_, 'd>, exports: &[Frame], error: &AggregateError) ->
 fn fault_places(
     alloc: Global,
     error: &AggregateError,
-    new: &Side<'_, '_>,
-    old: &Side<'_, '_>,
-) -> Result<(Option<Place>, Option<Place>), AllocError> {
+    new: &SourceSide<'_, '_>,
+    old: &SourceSide<'_, '_>,
+) -> Result<(Option<FilePlace>, Option<FilePlace>), AllocError> {
     if let AggregateError::Mismatch { frames: _, error } = error
         && let Some(fault) = error.fault()
     {
@@ -273,7 +279,7 @@ fn walk_of<'d>(
     handed: &Handed<'_>,
     world: WorldId,
     call: usize,
-) -> Option<Walk<'d>> {
+) -> Option<SourceWalk<'d>> {
     match handed.calls.get(call) {
         Some(call) => map.at_extern(world, call.name, &call.kind),
         None => None,

@@ -1,7 +1,7 @@
 //! Merged imports as WIT text.
 
 use super::handing::{Handed, Leading, calls_to};
-use super::merge_packages::{Named, interfaces_of, put_packages};
+use super::merge_packages::{NamedInterface, interfaces_of, put_packages};
 use super::merging::Source;
 use indexmap::IndexMap;
 use std::alloc::{AllocError, Global};
@@ -63,7 +63,7 @@ fn items_of(
 fn named_printer<'t>(
     alloc: Global,
     types: &'t Types,
-    interfaces: &[Named<'t>],
+    interfaces: &[NamedInterface<'t>],
 ) -> Result<Printer<'t>, AllocError> {
     let mut printer = Printer::new(alloc, types);
     for (name, _, id) in interfaces {

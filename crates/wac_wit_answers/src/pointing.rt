@@ -5,7 +5,7 @@ use indexmap::{IndexMap, IndexSet};
 use serde_json::{Value, json};
 use std::alloc::{AllocError, Global};
 use wac_wit_changes::Problem;
-use wac_wit_places::Place;
+use wac_wit_places::FilePlace;
 use wac_wit_syntax::{Position, Refusal, push_report};
 
 // How many lines are shown in a run.
@@ -13,35 +13,35 @@ const MAX_SNIPPETS: usize = 100;
 
 /// What two packages are to each other.
 #[derive(Clone, Copy)]
-pub(crate) enum Sides {
+pub(crate) enum PackageSides {
     /// An old one and a new one.
     Versions,
     /// A component's and a target's.
     Target,
 }
 
-impl Sides {
+impl PackageSides {
     // What the place in the first is called.
     fn label(self) -> &'static str {
         match self {
-            Sides::Versions => "before",
-            Sides::Target => "component",
+            PackageSides::Versions => "before",
+            PackageSides::Target => "component",
         }
     }
 
     // The key of the first place in JSON.
     fn first_key(self) -> &'static str {
         match self {
-            Sides::Versions => "old",
-            Sides::Target => "component",
+            PackageSides::Versions => "old",
+            PackageSides::Target => "component",
         }
     }
 
     // The key of the second place in JSON.
     fn second_key(self) -> &'static str {
         match self {
-            Sides::Versions => "new",
-            Sides::Target => "target",
+            PackageSides::Versions => "new",
+            PackageSides::Target => "target",
         }
     }
 }
@@ -54,7 +54,7 @@ pub(crate) struct Pointer<'i> {
     /// The input of the new package, or the target's.
     pub(crate) after: &'i Input,
     /// What the two are to each other.
-    pub(crate) sides: Sides,
+    pub(crate) sides: PackageSides,
     shown: IndexSet<String>,
 }
 
@@ -76,7 +76,7 @@ impl<'i> Pointer<'i> {
         alloc: Global,
         before: &'i Input,
         after: &'i Input,
-        sides: Sides,
+        sides: PackageSides,
     ) -> Pointer<'i> {
         Pointer {
             alloc,
@@ -137,7 +137,7 @@ impl<'i> Pointer<'i> {
     }
 
     // Whether a fault wasn't shown at a place yet, and its line is to be shown.
-    fn is_new(&mut self, place: Place, fault: &str) -> Result<bool, AllocError> {
+    fn is_new(&mut self, place: FilePlace, fault: &str) -> Result<bool, AllocError> {
         if self.shown.len() == MAX_SNIPPETS {
             return Ok(false);
         }
@@ -197,7 +197,7 @@ fn key_of(alloc: Global, problem: &Problem) -> Result<String, AllocError> {
 }
 
 // The file of a place, counted from 1, and the byte where it begins.
-fn start_of(place: Option<Place>) -> (usize, usize) {
+fn start_of(place: Option<FilePlace>) -> (usize, usize) {
     match place {
         Some(place) => (place.file.saturating_add(1), place.span.start),
         None => (0, 0),
@@ -225,7 +225,7 @@ fn push_more(out: &mut String, count: usize) -> Result<(), AllocError> {
 pub(crate) fn push_snippet(
     out: &mut String,
     input: &Input,
-    place: Place,
+    place: FilePlace,
     message: String,
 ) -> Result<(), AllocError> {
     let refusal = Refusal {
@@ -239,7 +239,7 @@ pub(crate) fn push_snippet(
 }
 
 // The line and the column of a place.
-fn position(input: &Input, place: Place) -> Option<Position> {
+fn position(input: &Input, place: FilePlace) -> Option<Position> {
     match input.lines.get(place.file) {
         Some(lines) => Some(lines.position(place.span.start)),
         None => None,
@@ -247,7 +247,7 @@ fn position(input: &Input, place: Place) -> Option<Position> {
 }
 
 // The name of the file of a place.
-fn file_name(input: &Input, place: Place) -> &str {
+fn file_name(input: &Input, place: FilePlace) -> &str {
     match input.files.get(place.file) {
         Some(file) => file.name.as_str(),
         None => "",
@@ -255,7 +255,11 @@ fn file_name(input: &Input, place: Place) -> &str {
 }
 
 /// A place, as `file:line:column`.
-pub(crate) fn place_text(alloc: Global, input: &Input, place: Place) -> Result<String, AllocError> {
+pub(crate) fn place_text(
+    alloc: Global,
+    input: &Input,
+    place: FilePlace,
+) -> Result<String, AllocError> {
     let Some(Position { line, column }) = position(input, place) else {
         return Ok(String::new(alloc));
     };
@@ -267,7 +271,7 @@ pub(crate) fn place_text(alloc: Global, input: &Input, place: Place) -> Result<S
 pub(crate) fn place_json(
     alloc: Global,
     input: &Input,
-    place: Option<Place>,
+    place: Option<FilePlace>,
 ) -> Result<Value, AllocError> {
     let Some(place) = place else {
         return Ok(Value::Null);

@@ -2,7 +2,7 @@
 
 use super::answer::{Answer, json_text, text_or_null};
 use super::failure::Failure;
-use super::finding::{Found, find, not_there};
+use super::finding::{FoundItem, find, not_there};
 use super::input::{Input, Texts};
 use super::options::{Form, Options};
 use serde_json::{Value, json};
@@ -45,8 +45,8 @@ fn show_item(
         return Ok(text);
     }
     let sort = match &found {
-        Found::Interface(_) => "interface",
-        Found::World(_) => "world",
+        FoundItem::Interface(_) => "interface",
+        FoundItem::World(_) => "world",
     };
     let answer = json!(in alloc; {"kind": sort, "name": last_name(name), "wit": text})?;
     Ok(json_text(alloc, &answer)?)
@@ -64,7 +64,7 @@ fn last_name(name: &str) -> &str {
 fn item_text(
     alloc: Global,
     types: &Types,
-    found: &Found,
+    found: &FoundItem,
     name: &str,
 ) -> Result<String, AllocError> {
     let mut printer = Printer::new(alloc, types);
@@ -72,10 +72,10 @@ fn item_text(
     Ok(printer.text)
 }
 
-fn put_item(printer: &mut Printer<'_>, found: &Found, name: &str) -> Result<(), AllocError> {
+fn put_item(printer: &mut Printer<'_>, found: &FoundItem, name: &str) -> Result<(), AllocError> {
     match found {
-        Found::Interface(id) => printer.put_interface(name, *id),
-        Found::World(id) => printer.put_world(name, *id),
+        FoundItem::Interface(id) => printer.put_interface(name, *id),
+        FoundItem::World(id) => printer.put_world(name, *id),
     }
 }
 
@@ -141,7 +141,12 @@ fn all_json(alloc: Global, types: &Types, input: &Input) -> Result<String, Alloc
 }
 
 // An interface or a world of a package.
-fn item_json(alloc: Global, types: &Types, found: &Found, name: &str) -> Result<Value, AllocError> {
+fn item_json(
+    alloc: Global,
+    types: &Types,
+    found: &FoundItem,
+    name: &str,
+) -> Result<Value, AllocError> {
     let wit = item_text(alloc, types, found, name)?;
     json!(in alloc; {"name": name, "wit": wit})
 }
@@ -153,7 +158,7 @@ fn interfaces_json(
 ) -> Result<Vec<Value>, AllocError> {
     let mut all = Vec::new(alloc);
     for (name, id) in &of.interfaces {
-        all.push(item_json(alloc, types, &Found::Interface(*id), name)?)?;
+        all.push(item_json(alloc, types, &FoundItem::Interface(*id), name)?)?;
     }
     Ok(all)
 }
@@ -161,7 +166,7 @@ fn interfaces_json(
 fn worlds_json(alloc: Global, types: &Types, of: &WitPackage) -> Result<Vec<Value>, AllocError> {
     let mut all = Vec::new(alloc);
     for (name, id) in &of.worlds {
-        all.push(item_json(alloc, types, &Found::World(*id), name)?)?;
+        all.push(item_json(alloc, types, &FoundItem::World(*id), name)?)?;
     }
     Ok(all)
 }

@@ -5,7 +5,7 @@ use super::failure::Failure;
 use super::finding::find_world;
 use super::input::{Input, Texts};
 use super::options::{Form, Options};
-use super::pointing::{Pointer, Sides};
+use super::pointing::{PackageSides, Pointer};
 use serde_json::json;
 use std::alloc::{AllocError, Global};
 use wac_component::Types;
@@ -25,7 +25,7 @@ pub fn targets(
     let to = Input::read(alloc, &mut types, target.1, options.features)?;
     let wanted = find_world(alloc, &types, &to, target.0)?;
     let problems = target_problems(alloc, &types, (&from.files, given), (&to.files, wanted))?;
-    let pointer = Pointer::new(alloc, &from, &to, Sides::Target);
+    let pointer = Pointer::new(alloc, &from, &to, PackageSides::Target);
     verdict_of(pointer, (component.0, target.0), &problems, options.form)
 }
 

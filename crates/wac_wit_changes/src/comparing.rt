@@ -8,12 +8,12 @@ use std::alloc::{AllocError, Global};
 use wac_component::{ExternKind, InterfaceId, ItemKind, Types, WorldId};
 use wac_types::{SubtypeError, TargetValidationReport};
 use wac_wit_entries::{EntryError, interface, sort_of, world};
-use wac_wit_places::{Map, Place, Side, places_of};
+use wac_wit_places::{FilePlace, Map, SourceSide, places_of};
 
 /// What is compared, of one collection: the old package and the new one, or a component's package
 /// and a target's.
 #[derive(Clone, Copy)]
-pub(crate) struct Pair<'s, 'd> {
+pub(crate) struct ComparedPair<'s, 'd> {
     pub(crate) alloc: Global,
     pub(crate) types: &'s Types,
     pub(crate) before: Map<'s, 'd>,
@@ -25,8 +25,8 @@ pub(crate) struct Pair<'s, 'd> {
 struct Both<'s, 'd> {
     old: ItemKind,
     new: ItemKind,
-    before: Side<'s, 'd>,
-    after: Side<'s, 'd>,
+    before: SourceSide<'s, 'd>,
+    after: SourceSide<'s, 'd>,
 }
 
 /// Which side is given, and which is asked for.
@@ -74,7 +74,7 @@ impl Question {
 /// Two worlds. What is asked of the library is `component`, whose names may be of other versions
 /// than those of `before`, which is the same world.
 #[derive(Clone, Copy)]
-pub(crate) struct Worlds {
+pub(crate) struct ComparedWorlds {
     pub(crate) component: WorldId,
     pub(crate) before: WorldId,
     pub(crate) after: WorldId,
@@ -92,7 +92,7 @@ impl Drop for Tracks {
     }
 }
 
-impl<'s, 'd> Pair<'s, 'd> {
+impl<'s, 'd> ComparedPair<'s, 'd> {
     /// Why a new interface doesn't do where an old one is asked for: nothing where it does.
     pub(crate) fn interface_problems(
         &self,
@@ -102,11 +102,11 @@ impl<'s, 'd> Pair<'s, 'd> {
         let both = Both {
             old: ItemKind::Instance(before),
             new: ItemKind::Instance(after),
-            before: Side {
+            before: SourceSide {
                 map: self.before,
                 walk: self.before.at_interface(before),
             },
-            after: Side {
+            after: SourceSide {
                 map: self.after,
                 walk: self.after.at_interface(after),
             },
@@ -195,11 +195,11 @@ impl<'s, 'd> Pair<'s, 'd> {
         let member = Both {
             old: *items.0,
             new: *items.1,
-            before: Side {
+            before: SourceSide {
                 map: self.before,
                 walk: both.before.member(name).walk,
             },
-            after: Side {
+            after: SourceSide {
                 map: self.after,
                 walk: both.after.member(name).walk,
             },
@@ -215,7 +215,7 @@ impl<'s, 'd> Pair<'s, 'd> {
     /// does.
     pub(crate) fn world_problems(
         &self,
-        worlds: &Worlds,
+        worlds: &ComparedWorlds,
         question: Question,
     ) -> Result<Vec<Problem>, EntryError> {
         let mut problems = Vec::new(self.alloc);
@@ -229,7 +229,7 @@ impl<'s, 'd> Pair<'s, 'd> {
     fn push_report(
         &self,
         problems: &mut Vec<Problem>,
-        worlds: &Worlds,
+        worlds: &ComparedWorlds,
         question: Question,
         report: &TargetValidationReport,
     ) -> Result<(), EntryError> {
@@ -254,7 +254,7 @@ impl<'s, 'd> Pair<'s, 'd> {
     fn push_mismatches(
         &self,
         problems: &mut Vec<Problem>,
-        worlds: &Worlds,
+        worlds: &ComparedWorlds,
         report: &TargetValidationReport,
     ) -> Result<(), EntryError> {
         let imports = self.tracks(worlds, ExternKind::Import)?;
@@ -269,7 +269,7 @@ impl<'s, 'd> Pair<'s, 'd> {
         Ok(())
     }
 
-    fn tracks(&self, worlds: &Worlds, kind: ExternKind) -> Result<Tracks, EntryError> {
+    fn tracks(&self, worlds: &ComparedWorlds, kind: ExternKind) -> Result<Tracks, EntryError> {
         Ok(Tracks {
             old: by_tracks(self.alloc, self.externs(worlds.component, kind)?)?,
             new: by_tracks(self.alloc, self.externs(worlds.after, kind)?)?,
@@ -280,7 +280,7 @@ impl<'s, 'd> Pair<'s, 'd> {
     fn push_extern(
         &self,
         problems: &mut Vec<Problem>,
-        worlds: &Worlds,
+        worlds: &ComparedWorlds,
         kind: ExternKind,
         name: &str,
         tracks: &Tracks,
@@ -290,11 +290,11 @@ impl<'s, 'd> Pair<'s, 'd> {
         let both = Both {
             old,
             new,
-            before: Side {
+            before: SourceSide {
                 map: self.before,
                 walk: self.before.at_extern(worlds.before, name, &old),
             },
-            after: Side {
+            after: SourceSide {
                 map: self.after,
                 walk: self.after.at_extern(worlds.after, name, &new),
             },
@@ -391,11 +391,11 @@ fn problem_of(
 // The two places at the ends of a path.
 fn places(
     alloc: Global,
-    old: &Side<'_, '_>,
-    new: &Side<'_, '_>,
+    old: &SourceSide<'_, '_>,
+    new: &SourceSide<'_, '_>,
     direction: Direction,
     error: &SubtypeError,
-) -> Result<(Option<Place>, Option<Place>), AllocError> {
+) -> Result<(Option<FilePlace>, Option<FilePlace>), AllocError> {
     let Some(fault) = error.fault() else {
         return Ok((old.place(), new.place()));
     };

@@ -14,4 +14,4 @@ mod tracks;
 
 pub use packages::{Read, compare, target_problems};
 pub use problem::{Problem, fault_text, steps_of};
-pub use report::{Added, Compared, PackageReport, Promise, Sort};
+pub use report::{Added, ComparedItem, PackageReport, Promise, ReportSort};

@@ -1,15 +1,15 @@
 //! Compares packages with older ones.
 
-use super::comparing::{Pair, Question, Worlds};
+use super::comparing::{ComparedPair, ComparedWorlds, Question};
 use super::problem::Problem;
-use super::report::{Added, Compared, PackageReport, Promise, Sort};
+use super::report::{Added, ComparedItem, PackageReport, Promise, ReportSort};
 use super::tracks::{Counterpart, NewPackages, by_tracks, moved_world, on_track};
 use indexmap::IndexMap;
 use std::alloc::{AllocError, Global};
 use wac_component::{InterfaceId, ItemKind, Types, WorldId};
 use wac_wit::{SourceFile, Wit, WitPackage};
 use wac_wit_entries::{EntryError, interface, sort_of, world};
-use wac_wit_places::{Map, Sources, syntax_of};
+use wac_wit_places::{Map, PackageSources, syntax_of};
 use wac_wit_syntax::Document;
 
 /// Packages with the files that they were read from.
@@ -51,12 +51,12 @@ pub fn target_problems(
     let (to_files, to) = target;
     let from_syntax = syntax_of(alloc, from_files)?;
     let to_syntax = syntax_of(alloc, to_files)?;
-    let worlds = Worlds {
+    let worlds = ComparedWorlds {
         component: from,
         before: from,
         after: to,
     };
-    let before = Sources::new(alloc, from_files, &from_syntax)?;
+    let before = PackageSources::new(alloc, from_files, &from_syntax)?;
     world_problems(alloc, types, &before, (to_files, &to_syntax), &worlds)
 }
 
@@ -64,12 +64,12 @@ pub fn target_problems(
 fn world_problems(
     alloc: Global,
     types: &Types,
-    before: &Sources<'_>,
+    before: &PackageSources<'_>,
     target: (&[SourceFile], &[Document]),
-    worlds: &Worlds,
+    worlds: &ComparedWorlds,
 ) -> Result<Vec<Problem>, EntryError> {
     let (files, syntax) = target;
-    let after = Sources::new(alloc, files, syntax)?;
+    let after = PackageSources::new(alloc, files, syntax)?;
     pair_of(alloc, types, before, &after).world_problems(worlds, Question::Target)
 }
 
@@ -77,10 +77,10 @@ fn world_problems(
 fn pair_of<'s, 'd>(
     alloc: Global,
     types: &'s Types,
-    before: &'s Sources<'d>,
-    after: &'s Sources<'d>,
-) -> Pair<'s, 'd> {
-    Pair {
+    before: &'s PackageSources<'d>,
+    after: &'s PackageSources<'d>,
+) -> ComparedPair<'s, 'd> {
+    ComparedPair {
         alloc,
         types,
         before: Map {
@@ -153,7 +153,7 @@ fn compared(
     } = new;
     let old_syntax = syntax_of(alloc, old_files)?;
     let new_syntax = syntax_of(alloc, new_files)?;
-    let before = Sources::new(alloc, old_files, &old_syntax)?;
+    let before = PackageSources::new(alloc, old_files, &old_syntax)?;
     let after = (new_wit, new_files, new_syntax.as_slice());
     compared_with(alloc, types, (old_wit, &before), after, moves)
 }
@@ -162,13 +162,13 @@ fn compared(
 fn compared_with(
     alloc: Global,
     types: &Types,
-    old: (&Wit, &Sources<'_>),
+    old: (&Wit, &PackageSources<'_>),
     new: (&Wit, &[SourceFile], &[Document]),
     moves: &[Move],
 ) -> Result<Vec<PackageReport>, EntryError> {
     let (old_wit, before) = old;
     let (new_wit, files, syntax) = new;
-    let after = Sources::new(alloc, files, syntax)?;
+    let after = PackageSources::new(alloc, files, syntax)?;
     package_reports(
         &pair_of(alloc, types, before, &after),
         old_wit,
@@ -179,7 +179,7 @@ fn compared_with(
 
 // Compares all packages of a pair.
 fn package_reports(
-    pair: &Pair<'_, '_>,
+    pair: &ComparedPair<'_, '_>,
     old: &Wit,
     new: &Wit,
     moves: &[Move],
@@ -193,7 +193,7 @@ fn package_reports(
 
 // Compares a package.
 fn package_report(
-    pair: &Pair<'_, '_>,
+    pair: &ComparedPair<'_, '_>,
     old: &WitPackage,
     of: &Move,
     new: &Wit,
@@ -252,7 +252,7 @@ fn push_added(
     for name in new.interfaces.keys() {
         if old.interfaces.get(name.as_str()).is_none() {
             report.added.push(Added {
-                sort: Sort::Interface,
+                sort: ReportSort::Interface,
                 name: name.clone()?,
             })?;
         }
@@ -260,7 +260,7 @@ fn push_added(
     for name in new.worlds.keys() {
         if old.worlds.get(name.as_str()).is_none() {
             report.added.push(Added {
-                sort: Sort::World,
+                sort: ReportSort::World,
                 name: name.clone()?,
             })?;
         }
@@ -269,14 +269,14 @@ fn push_added(
 }
 
 fn compared_interface(
-    pair: &Pair<'_, '_>,
+    pair: &ComparedPair<'_, '_>,
     name: &String,
     old: InterfaceId,
     new: Option<InterfaceId>,
-) -> Result<Compared, EntryError> {
+) -> Result<ComparedItem, EntryError> {
     let alloc = pair.alloc;
-    let mut compared = Compared {
-        sort: Sort::Interface,
+    let mut compared = ComparedItem {
+        sort: ReportSort::Interface,
         name: name.clone()?,
         problems: Vec::new(alloc),
         added: Vec::new(alloc),
@@ -301,15 +301,15 @@ fn compared_interface(
 }
 
 fn compared_world(
-    pair: &Pair<'_, '_>,
+    pair: &ComparedPair<'_, '_>,
     name: &String,
     old: (WorldId, WorldId),
     new: Option<WorldId>,
-) -> Result<Compared, EntryError> {
+) -> Result<ComparedItem, EntryError> {
     let alloc = pair.alloc;
     let (old, component) = old;
-    let mut compared = Compared {
-        sort: Sort::World,
+    let mut compared = ComparedItem {
+        sort: ReportSort::World,
         name: name.clone()?,
         problems: Vec::new(alloc),
         added: Vec::new(alloc),
@@ -322,7 +322,7 @@ fn compared_world(
             .push(Problem::new(alloc, fault, place, None)?)?;
         return Ok(compared);
     };
-    let worlds = Worlds {
+    let worlds = ComparedWorlds {
         component,
         before: old,
         after: new,

@@ -2,7 +2,7 @@
 
 use std::alloc::{AllocError, Global};
 use wac_types::{Frame, SubtypeError};
-use wac_wit_places::Place;
+use wac_wit_places::FilePlace;
 
 /// What doesn't fit. What is compared has two sides: an old package and a new one, or a component
 /// and a target.
@@ -12,9 +12,9 @@ pub struct Problem {
     /// What is wrong there.
     pub fault: String,
     /// Where that stands in the old package, or in the component's.
-    pub before: Option<Place>,
+    pub before: Option<FilePlace>,
     /// Where that stands in the new package, or in the target's.
-    pub after: Option<Place>,
+    pub after: Option<FilePlace>,
 }
 
 impl Drop for Problem {
@@ -33,8 +33,8 @@ impl Problem {
     pub fn new(
         alloc: Global,
         fault: Result<String, AllocError>,
-        before: Option<Place>,
-        after: Option<Place>,
+        before: Option<FilePlace>,
+        after: Option<FilePlace>,
     ) -> Result<Problem, AllocError> {
         Ok(Problem {
             path: Vec::new(alloc),

@@ -4,27 +4,27 @@ use super::problem::Problem;
 
 /// Whether it is about an interface or a world.
 #[derive(Clone, Copy, PartialEq, Eq, Debug)]
-pub enum Sort {
+pub enum ReportSort {
     /// An interface.
     Interface,
     /// A world.
     World,
 }
 
-impl Sort {
+impl ReportSort {
     /// The word for it.
     pub fn word(self) -> &'static str {
         match self {
-            Sort::Interface => "interface",
-            Sort::World => "world",
+            ReportSort::Interface => "interface",
+            ReportSort::World => "world",
         }
     }
 }
 
 /// An old interface or world, and what became of it.
-pub struct Compared {
+pub struct ComparedItem {
     /// Which of the two it is.
-    pub sort: Sort,
+    pub sort: ReportSort,
     /// The name in the package.
     pub name: String,
     /// Why the new one doesn't serve whoever was built against it.
@@ -33,9 +33,9 @@ pub struct Compared {
     pub added: Vec<String>,
 }
 
-impl Drop for Compared {
+impl Drop for ComparedItem {
     fn drop(self) {
-        let Compared {
+        let ComparedItem {
             sort: _,
             name: _,
             problems: _,
@@ -47,7 +47,7 @@ impl Drop for Compared {
 /// An interface or a world that only the new package has.
 pub struct Added {
     /// Which of the two it is.
-    pub sort: Sort,
+    pub sort: ReportSort,
     /// The name in the package.
     pub name: String,
 }
@@ -82,7 +82,7 @@ pub struct PackageReport {
     /// What the two versions promise.
     pub promise: Promise,
     /// What became of each interface and each world.
-    pub compared: Vec<Compared>,
+    pub compared: Vec<ComparedItem>,
     /// The interfaces and worlds that only the new package has.
     pub added: Vec<Added>,
 }

@@ -9,4 +9,4 @@ pub use error::EntryError;
 pub use lookups::{
     defined_type, func_type, interface, interface_id, resource, root_of, sort_of, world,
 };
-pub use names::{Parts, parts_of, version_of};
+pub use names::{IdentifierParts, parts_of, version_of};

@@ -2,7 +2,7 @@
 
 /// An identifier's parts, as of `wasi:http/types@0.2.0`.
 #[derive(Clone, Copy, PartialEq, Eq, Debug)]
-pub struct Parts<'a> {
+pub struct IdentifierParts<'a> {
     /// The package, as `wasi:http`.
     pub package: &'a str,
     /// The name in the package, as `types`.
@@ -12,15 +12,15 @@ pub struct Parts<'a> {
 }
 
 /// The parts of an identifier; none of a plain name.
-pub fn parts_of(id: &str) -> Option<Parts<'_>> {
+pub fn parts_of(id: &str) -> Option<IdentifierParts<'_>> {
     let (package, rest) = id.split_once('/')?;
     let parts = match rest.split_once('@') {
-        Some((name, version)) => Parts {
+        Some((name, version)) => IdentifierParts {
             package,
             name,
             version: Some(version),
         },
-        None => Parts {
+        None => IdentifierParts {
             package,
             name: rest,
             version: None,

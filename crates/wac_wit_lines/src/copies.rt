@@ -8,20 +8,20 @@ use wac_component::{
 };
 
 /// The copies of entries of another collection.
-pub(crate) struct Copies {
+pub(crate) struct EntryCopies {
     all: IndexMap<Type, Type>,
 }
 
-impl Drop for Copies {
+impl Drop for EntryCopies {
     fn drop(self) {
-        let Copies { all: _ } = self;
+        let EntryCopies { all: _ } = self;
     }
 }
 
-impl Copies {
+impl EntryCopies {
     /// None yet.
-    pub(crate) fn new(alloc: Global) -> Copies {
-        Copies {
+    pub(crate) fn new(alloc: Global) -> EntryCopies {
+        EntryCopies {
             all: IndexMap::new(alloc),
         }
     }

@@ -8,20 +8,24 @@ use wac_component::{
 };
 
 /// Entries that another names. Primitive types are none.
-pub(crate) struct Members {
+pub(crate) struct EntryMembers {
     pub(crate) all: Vec<Type>,
 }
 
-impl Drop for Members {
+impl Drop for EntryMembers {
     fn drop(self) {
-        let Members { all: _ } = self;
+        let EntryMembers { all: _ } = self;
     }
 }
 
-impl Members {
+impl EntryMembers {
     /// Those that an entry names.
-    pub(crate) fn of(alloc: Global, types: &Types, entry: &Type) -> Result<Members, AllocError> {
-        let mut members = Members {
+    pub(crate) fn of(
+        alloc: Global,
+        types: &Types,
+        entry: &Type,
+    ) -> Result<EntryMembers, AllocError> {
+        let mut members = EntryMembers {
             all: Vec::new(alloc),
         };
         members.add_content(types, entry)?;

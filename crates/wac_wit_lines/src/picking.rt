@@ -1,7 +1,7 @@
 //! Copies an entry, and what it stands on, into a collection of its own.
 
-use super::copies::Copies;
-use super::members::Members;
+use super::copies::EntryCopies;
+use super::members::EntryMembers;
 use indexmap::IndexSet;
 use std::alloc::{AllocError, Global};
 use wac_component::{DefinedType, FuncType, Interface, Resource, Type, Types, ValueType, World};
@@ -29,7 +29,7 @@ fn copy_all(
     wanted: &IndexSet<Type>,
     own: &mut Types,
 ) -> Result<(), EntryError> {
-    let mut copies = Copies::new(alloc);
+    let mut copies = EntryCopies::new(alloc);
     for entry in order {
         if wanted.contains(entry) {
             let copy = copy(types, &copies, own, entry)?;
@@ -64,7 +64,7 @@ fn push_members(
     if !wanted.contains(entry) {
         return Ok(());
     }
-    let members = Members::of(alloc, types, entry)?;
+    let members = EntryMembers::of(alloc, types, entry)?;
     for member in &members.all {
         wanted.insert(*member)?;
     }
@@ -72,7 +72,12 @@ fn push_members(
 }
 
 // Copies an entry into a collection. What it names is copied.
-fn copy(types: &Types, copies: &Copies, own: &mut Types, entry: &Type) -> Result<Type, EntryError> {
+fn copy(
+    types: &Types,
+    copies: &EntryCopies,
+    own: &mut Types,
+    entry: &Type,
+) -> Result<Type, EntryError> {
     if !types.contains(*entry) {
         return Err(EntryError::Missing);
     }
@@ -87,7 +92,11 @@ fn copy(types: &Types, copies: &Copies, own: &mut Types, entry: &Type) -> Result
     }
 }
 
-fn copy_defined(copies: &Copies, own: &mut Types, ty: &DefinedType) -> Result<Type, EntryError> {
+fn copy_defined(
+    copies: &EntryCopies,
+    own: &mut Types,
+    ty: &DefinedType,
+) -> Result<Type, EntryError> {
     let content = copies.defined(ty)?;
     if !own.can_add_defined_type(&content) {
         return Err(EntryError::Missing);
@@ -96,7 +105,7 @@ fn copy_defined(copies: &Copies, own: &mut Types, ty: &DefinedType) -> Result<Ty
     Ok(Type::Value(ValueType::Defined(copy)))
 }
 
-fn copy_resource(copies: &Copies, own: &mut Types, of: &Resource) -> Result<Type, EntryError> {
+fn copy_resource(copies: &EntryCopies, own: &mut Types, of: &Resource) -> Result<Type, EntryError> {
     let content = copies.resource_of(of)?;
     if !own.can_add_resource(&content) {
         return Err(EntryError::Missing);
@@ -104,7 +113,7 @@ fn copy_resource(copies: &Copies, own: &mut Types, of: &Resource) -> Result<Type
     Ok(Type::Resource(own.add_resource(content)?))
 }
 
-fn copy_func(copies: &Copies, own: &mut Types, of: &FuncType) -> Result<Type, EntryError> {
+fn copy_func(copies: &EntryCopies, own: &mut Types, of: &FuncType) -> Result<Type, EntryError> {
     let content = copies.func(of)?;
     if !own.can_add_func_type(&content) {
         return Err(EntryError::Missing);
@@ -112,7 +121,11 @@ fn copy_func(copies: &Copies, own: &mut Types, of: &FuncType) -> Result<Type, En
     Ok(Type::Func(own.add_func_type(content)?))
 }
 
-fn copy_interface(copies: &Copies, own: &mut Types, of: &Interface) -> Result<Type, EntryError> {
+fn copy_interface(
+    copies: &EntryCopies,
+    own: &mut Types,
+    of: &Interface,
+) -> Result<Type, EntryError> {
     let content = copies.interface_of(of)?;
     if !own.can_add_interface(&content) {
         return Err(EntryError::Missing);
@@ -120,7 +133,7 @@ fn copy_interface(copies: &Copies, own: &mut Types, of: &Interface) -> Result<Ty
     Ok(Type::Interface(own.add_interface(content)?))
 }
 
-fn copy_world(copies: &Copies, own: &mut Types, of: &World) -> Result<Type, EntryError> {
+fn copy_world(copies: &EntryCopies, own: &mut Types, of: &World) -> Result<Type, EntryError> {
     let content = copies.world_of(of)?;
     if !own.can_add_world(&content) {
         return Err(EntryError::Missing);

@@ -1,6 +1,6 @@
 //! Puts the entries of a collection in an order in which each stands behind those that it names.
 
-use super::members::{Members, add_entry};
+use super::members::{EntryMembers, add_entry};
 use std::alloc::{AllocError, Global};
 use wac_component::{Type, Types, ValueType};
 
@@ -31,7 +31,7 @@ impl Counts {
     }
 
     // As many of each sort as stand up to the last of these.
-    fn of(members: &Members) -> Counts {
+    fn of(members: &EntryMembers) -> Counts {
         let mut counts = Counts::none();
         for member in &members.all {
             counts.add(member);
@@ -121,7 +121,7 @@ fn place_sort(
         let Some(entry) = next_of(types, sort, counts) else {
             break;
         };
-        if !Counts::of(&Members::of(alloc, types, &entry)?).is_within(counts) {
+        if !Counts::of(&EntryMembers::of(alloc, types, &entry)?).is_within(counts) {
             break;
         }
         counts.add(&entry);

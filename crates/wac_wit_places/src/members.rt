@@ -10,7 +10,7 @@ use wac_wit_syntax::{
 
 /// What a name of an interface stands for, and of a world, but for what it imports and exports.
 #[derive(Clone, Copy)]
-pub(crate) enum Member<'d> {
+pub(crate) enum SourceMember<'d> {
     Func(&'d FuncItem),
     Type(&'d TypeItem),
     /// A function of a resource, whose name has the resource's, as `[method]r.f`.
@@ -26,17 +26,17 @@ pub(crate) struct NamedExtern<'d> {
 }
 
 /// What stands in an interface or a world, by its names.
-pub(crate) struct Members<'d> {
-    pub(crate) names: IndexMap<String, Member<'d>>,
+pub(crate) struct SourceMembers<'d> {
+    pub(crate) names: IndexMap<String, SourceMember<'d>>,
     /// The imports and exports of a world that have names of their own; of two the first.
     pub(crate) externs: IndexMap<String, NamedExtern<'d>>,
     /// Where the others stand, by the last names of their identifiers; of two the first.
     pub(crate) paths: IndexMap<String, Span>,
 }
 
-impl Drop for Members<'_> {
+impl Drop for SourceMembers<'_> {
     fn drop(self) {
-        let Members {
+        let SourceMembers {
             names: _,
             externs: _,
             paths: _,
@@ -44,9 +44,9 @@ impl Drop for Members<'_> {
     }
 }
 
-impl<'d> Members<'d> {
-    fn new(alloc: Global) -> Members<'d> {
-        Members {
+impl<'d> SourceMembers<'d> {
+    fn new(alloc: Global) -> SourceMembers<'d> {
+        SourceMembers {
             names: IndexMap::new(alloc),
             externs: IndexMap::new(alloc),
             paths: IndexMap::new(alloc),
@@ -57,11 +57,11 @@ impl<'d> Members<'d> {
     pub(crate) fn of_interface(
         alloc: Global,
         items: &'d [InterfaceItem],
-    ) -> Result<Members<'d>, AllocError> {
-        let mut members = Members::new(alloc);
+    ) -> Result<SourceMembers<'d>, AllocError> {
+        let mut members = SourceMembers::new(alloc);
         for item in items {
             match item {
-                InterfaceItem::Func(it) => members.push(&it.name, Member::Func(it))?,
+                InterfaceItem::Func(it) => members.push(&it.name, SourceMember::Func(it))?,
                 InterfaceItem::Type(it) => members.push_type(alloc, it)?,
                 InterfaceItem::Use(_) => {}
             }
@@ -75,8 +75,8 @@ impl<'d> Members<'d> {
         alloc: Global,
         items: &'d [WorldItem],
         written: usize,
-    ) -> Result<Members<'d>, AllocError> {
-        let mut members = Members::new(alloc);
+    ) -> Result<SourceMembers<'d>, AllocError> {
+        let mut members = SourceMembers::new(alloc);
         let mut next = written;
         for item in items {
             match item {
@@ -93,18 +93,18 @@ impl<'d> Members<'d> {
         Ok(members)
     }
 
-    fn push(&mut self, name: &Ident, member: Member<'d>) -> Result<(), AllocError> {
+    fn push(&mut self, name: &Ident, member: SourceMember<'d>) -> Result<(), AllocError> {
         self.names.insert(name.name.clone()?, member)?;
         Ok(())
     }
 
     // Puts a type, and the functions of a resource, last.
     fn push_type(&mut self, alloc: Global, item: &'d TypeItem) -> Result<(), AllocError> {
-        self.push(&item.name, Member::Type(item))?;
+        self.push(&item.name, SourceMember::Type(item))?;
         if let TypeDef::Resource(methods) = &item.def {
             for method in methods {
                 let name = full_name(alloc, &item.name.name, method)?;
-                self.names.insert(name, Member::Method(method))?;
+                self.names.insert(name, SourceMember::Method(method))?;
             }
         }
         Ok(())
@@ -134,7 +134,7 @@ impl<'d> Members<'d> {
     /// The type that is defined under a name.
     pub(crate) fn typedef(&self, name: &str) -> Option<&'d TypeItem> {
         match self.names.get(name)? {
-            Member::Type(it) => Some(it),
+            SourceMember::Type(it) => Some(it),
             _ => None,
         }
     }

@@ -1,8 +1,8 @@
 //! The parts of what a path leads to: fields, cases, flags and parameters.
 
-use super::sides::Side;
-use super::sources::Place;
-use super::walking::Node;
+use super::sides::SourceSide;
+use super::sources::FilePlace;
+use super::walking::PathNode;
 use indexmap::IndexSet;
 use std::alloc::{AllocError, Global};
 use wac_wit_syntax::{Case, Field, Ident, Span, TypeDef};
@@ -11,7 +11,7 @@ use wac_wit_syntax::{Case, Field, Ident, Span, TypeDef};
 #[derive(Clone, Copy)]
 struct Part<'d> {
     name: &'d str,
-    place: Place,
+    place: FilePlace,
 }
 
 // The parts of what a path leads to, and how many stand before them that aren't written.
@@ -35,14 +35,14 @@ impl<'d> Parts<'d> {
     }
 
     // Puts the parts of a function or a type last.
-    fn push_all(&mut self, file: usize, node: Node<'d>) -> Result<(), AllocError> {
+    fn push_all(&mut self, file: usize, node: PathNode<'d>) -> Result<(), AllocError> {
         match node {
-            Node::Func(signature, is_method) => {
+            PathNode::Func(signature, is_method) => {
                 self.hidden = if is_method { 1 } else { 0 };
                 self.push_fields(file, &signature.params)
             }
-            Node::Type(item) => self.push_members(file, &item.def),
-            Node::Items | Node::Expr(_) | Node::Leaf => Ok(()),
+            PathNode::Type(item) => self.push_members(file, &item.def),
+            PathNode::Items | PathNode::Expr(_) | PathNode::Leaf => Ok(()),
         }
     }
 
@@ -56,7 +56,7 @@ impl<'d> Parts<'d> {
     }
 
     fn push(&mut self, file: usize, name: &'d str, span: Span) -> Result<(), AllocError> {
-        let place = Place { file, span };
+        let place = FilePlace { file, span };
         self.all.push(Part { name, place })?;
         Ok(())
     }
@@ -83,7 +83,7 @@ impl<'d> Parts<'d> {
     }
 
     // The place of a part, by its name.
-    fn place_of(&self, name: &str) -> Option<Place> {
+    fn place_of(&self, name: &str) -> Option<FilePlace> {
         for part in &self.all {
             if part.name == name {
                 return Some(part.place);
@@ -101,7 +101,7 @@ impl<'d> Parts<'d> {
     }
 
     // The first part whose name isn't among these.
-    fn first_not_in(&self, names: &IndexSet<String>) -> Option<Place> {
+    fn first_not_in(&self, names: &IndexSet<String>) -> Option<FilePlace> {
         for part in &self.all {
             if !names.contains(part.name) {
                 return Some(part.place);
@@ -112,7 +112,7 @@ impl<'d> Parts<'d> {
 }
 
 // The parts at the end of a path.
-fn parts_at<'d>(alloc: Global, side: &Side<'_, 'd>) -> Result<Parts<'d>, AllocError> {
+fn parts_at<'d>(alloc: Global, side: &SourceSide<'_, 'd>) -> Result<Parts<'d>, AllocError> {
     let mut parts = Parts::new(alloc);
     if let Some(walk) = &side.walk {
         let walk = side.map.peeled(walk);
@@ -122,7 +122,7 @@ fn parts_at<'d>(alloc: Global, side: &Side<'_, 'd>) -> Result<Parts<'d>, AllocEr
 }
 
 // The place of what has the parts.
-fn whole(side: &Side<'_, '_>) -> Option<Place> {
+fn whole(side: &SourceSide<'_, '_>) -> Option<FilePlace> {
     match &side.walk {
         Some(walk) => Some(side.map.peeled(walk).place),
         None => None,
@@ -133,9 +133,9 @@ fn whole(side: &Side<'_, '_>) -> Option<Place> {
 /// and what has the parts on the other side.
 pub(crate) fn added(
     alloc: Global,
-    expected: &Side<'_, '_>,
-    found: &Side<'_, '_>,
-) -> Result<(Option<Place>, Option<Place>), AllocError> {
+    expected: &SourceSide<'_, '_>,
+    found: &SourceSide<'_, '_>,
+) -> Result<(Option<FilePlace>, Option<FilePlace>), AllocError> {
     let all_expected = parts_at(alloc, expected)?;
     let all_found = parts_at(alloc, found)?;
     if all_found.all.len() > all_expected.all.len() {
@@ -151,9 +151,9 @@ pub(crate) fn added(
 /// The place of the part at an index.
 pub(crate) fn nth(
     alloc: Global,
-    side: &Side<'_, '_>,
+    side: &SourceSide<'_, '_>,
     index: usize,
-) -> Result<Option<Place>, AllocError> {
+) -> Result<Option<FilePlace>, AllocError> {
     let parts = parts_at(alloc, side)?;
     let index = index.saturating_sub(parts.hidden);
     match parts.all.get(index) {
@@ -165,9 +165,9 @@ pub(crate) fn nth(
 /// The place of the part of a name.
 pub(crate) fn named(
     alloc: Global,
-    side: &Side<'_, '_>,
+    side: &SourceSide<'_, '_>,
     name: &str,
-) -> Result<Option<Place>, AllocError> {
+) -> Result<Option<FilePlace>, AllocError> {
     let parts = parts_at(alloc, side)?;
     Ok(parts.place_of(name).or(whole(side)))
 }

@@ -1,23 +1,23 @@
 //! The two sides of a check, and the places of what it says.
 
 use super::parts::{added, named, nth};
-use super::sources::Place;
-use super::walking::{Map, Walk};
+use super::sources::FilePlace;
+use super::walking::{Map, SourceWalk};
 use std::alloc::{AllocError, Global};
 use wac_types::{Fault, Frame};
 
 /// A side of a comparison: a position in its syntax, where there is one.
 #[derive(Clone, Copy)]
-pub struct Side<'s, 'd> {
+pub struct SourceSide<'s, 'd> {
     /// The side.
     pub map: Map<'s, 'd>,
     /// The position, where the syntax has it.
-    pub walk: Option<Walk<'d>>,
+    pub walk: Option<SourceWalk<'d>>,
 }
 
-impl<'s, 'd> Side<'s, 'd> {
+impl<'s, 'd> SourceSide<'s, 'd> {
     /// Where the position is.
-    pub fn place(&self) -> Option<Place> {
+    pub fn place(&self) -> Option<FilePlace> {
         match &self.walk {
             Some(walk) => Some(walk.place),
             None => None,
@@ -25,13 +25,13 @@ impl<'s, 'd> Side<'s, 'd> {
     }
 
     /// The position at the end of a path.
-    pub fn at_end(&self, frames: &[Frame]) -> Side<'s, 'd> {
+    pub fn at_end(&self, frames: &[Frame]) -> SourceSide<'s, 'd> {
         match &self.walk {
-            Some(walk) => Side {
+            Some(walk) => SourceSide {
                 map: self.map,
                 walk: Some(self.map.at_end(walk, frames)),
             },
-            None => Side {
+            None => SourceSide {
                 map: self.map,
                 walk: None,
             },
@@ -39,19 +39,19 @@ impl<'s, 'd> Side<'s, 'd> {
     }
 
     /// The position of a member of the interface, where it has one of this name.
-    pub fn member(&self, name: &str) -> Side<'s, 'd> {
+    pub fn member(&self, name: &str) -> SourceSide<'s, 'd> {
         let walk = match &self.walk {
             Some(walk) => self.map.member(walk, name),
             None => None,
         };
-        Side {
+        SourceSide {
             map: self.map,
             walk,
         }
     }
 
     /// The place of a member of the interface; of the interface, where it has none of this name.
-    pub fn member_place(&self, name: &str) -> Option<Place> {
+    pub fn member_place(&self, name: &str) -> Option<FilePlace> {
         let Some(walk) = &self.walk else {
             return None;
         };
@@ -66,10 +66,10 @@ impl<'s, 'd> Side<'s, 'd> {
 /// the end of the path.
 pub fn places_of(
     alloc: Global,
-    expected: &Side<'_, '_>,
-    found: &Side<'_, '_>,
+    expected: &SourceSide<'_, '_>,
+    found: &SourceSide<'_, '_>,
     fault: &Fault,
-) -> Result<(Option<Place>, Option<Place>), AllocError> {
+) -> Result<(Option<FilePlace>, Option<FilePlace>), AllocError> {
     match fault {
         Fault::Count { .. } | Fault::ParamCount { .. } => added(alloc, expected, found),
         Fault::Name { index, .. } | Fault::ParamName { index, .. } => Ok((

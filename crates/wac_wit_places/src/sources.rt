@@ -1,6 +1,6 @@
 //! Where interfaces and worlds stand in the files of packages.
 
-use super::members::Members;
+use super::members::SourceMembers;
 use indexmap::IndexMap;
 use std::alloc::{AllocError, Global};
 use wac_wit_entries::EntryError;
@@ -12,7 +12,7 @@ use wac_wit_syntax::{
 
 /// A place in a file of packages.
 #[derive(Clone, Copy, PartialEq, Eq, Debug)]
-pub struct Place {
+pub struct FilePlace {
     /// The index of the file.
     pub file: usize,
     /// The bytes.
@@ -35,34 +35,34 @@ pub fn syntax_of(alloc: Global, files: &[SourceFile]) -> Result<Vec<Document>, E
 
 /// An interface or a world in its file.
 #[derive(Clone, Copy)]
-pub(crate) enum Decl<'d> {
+pub(crate) enum SourceDecl<'d> {
     Interface(&'d InterfaceDecl),
     World(&'d WorldDecl),
 }
 
-impl<'d> Decl<'d> {
+impl<'d> SourceDecl<'d> {
     /// The name.
     pub(crate) fn name(self) -> &'d Ident {
         match self {
-            Decl::Interface(it) => &it.name,
-            Decl::World(it) => &it.name,
+            SourceDecl::Interface(it) => &it.name,
+            SourceDecl::World(it) => &it.name,
         }
     }
 }
 
 /// An interface or a world, and the file that it stands in.
 #[derive(Clone, Copy)]
-pub(crate) struct Site<'d> {
+pub(crate) struct SourceSite<'d> {
     pub(crate) file: usize,
-    pub(crate) decl: Decl<'d>,
+    pub(crate) decl: SourceDecl<'d>,
     /// The index of its members.
     pub(crate) members: usize,
 }
 
-impl Site<'_> {
+impl SourceSite<'_> {
     /// Where the name stands.
-    pub(crate) fn place(self) -> Place {
-        Place {
+    pub(crate) fn place(self) -> FilePlace {
+        FilePlace {
             file: self.file,
             span: self.decl.name().span,
         }
@@ -70,28 +70,28 @@ impl Site<'_> {
 }
 
 /// The interfaces and the worlds of packages, by their identifiers.
-pub struct Sources<'d> {
-    sites: IndexMap<String, Site<'d>>,
-    members: Vec<Members<'d>>,
+pub struct PackageSources<'d> {
+    sites: IndexMap<String, SourceSite<'d>>,
+    members: Vec<SourceMembers<'d>>,
 }
 
-impl Drop for Sources<'_> {
+impl Drop for PackageSources<'_> {
     fn drop(self) {
-        let Sources {
+        let PackageSources {
             sites: _,
             members: _,
         } = self;
     }
 }
 
-impl<'d> Sources<'d> {
+impl<'d> PackageSources<'d> {
     /// Those of packages whose files have this syntax.
     pub fn new(
         alloc: Global,
         files: &[SourceFile],
         documents: &'d [Document],
-    ) -> Result<Sources<'d>, AllocError> {
-        let mut sources = Sources {
+    ) -> Result<PackageSources<'d>, AllocError> {
+        let mut sources = PackageSources {
             sites: IndexMap::new(alloc),
             members: Vec::new(alloc),
         };
@@ -116,21 +116,22 @@ impl<'d> Sources<'d> {
     ) -> Result<(), AllocError> {
         for item in items {
             let decl = match item {
-                TopItem::Interface(it) => Decl::Interface(it),
-                TopItem::World(it) => Decl::World(it),
+                TopItem::Interface(it) => SourceDecl::Interface(it),
+                TopItem::World(it) => SourceDecl::World(it),
                 TopItem::Use(_) => continue,
             };
             let members = self.members.len();
             match decl {
-                Decl::Interface(it) => {
-                    self.members.push(Members::of_interface(alloc, &it.items)?)?;
+                SourceDecl::Interface(it) => {
+                    self.members
+                        .push(SourceMembers::of_interface(alloc, &it.items)?)?;
                 }
-                Decl::World(it) => self.push_world(alloc, &it.items)?,
+                SourceDecl::World(it) => self.push_world(alloc, &it.items)?,
             }
             let id = id_of(alloc, package, &decl.name().name)?;
             self.sites.insert(
                 id,
-                Site {
+                SourceSite {
                     file,
                     decl,
                     members,
@@ -145,24 +146,25 @@ impl<'d> Sources<'d> {
     fn push_world(&mut self, alloc: Global, items: &'d [WorldItem]) -> Result<(), AllocError> {
         let written = self.members.len().saturating_add(1);
         self.members
-            .push(Members::of_world(alloc, items, written)?)?;
+            .push(SourceMembers::of_world(alloc, items, written)?)?;
         for item in items {
             if let WorldItem::Import(it) | WorldItem::Export(it) = item
                 && let Extern::Inline(_, items) = &it.what
             {
-                self.members.push(Members::of_interface(alloc, items)?)?;
+                self.members
+                    .push(SourceMembers::of_interface(alloc, items)?)?;
             }
         }
         Ok(())
     }
 
     /// The members of an interface or a world, by their index.
-    pub(crate) fn members(&self, index: usize) -> Option<&Members<'d>> {
+    pub(crate) fn members(&self, index: usize) -> Option<&SourceMembers<'d>> {
         self.members.get(index)
     }
 
     /// The interface or the world of this identifier.
-    pub(crate) fn get(&self, id: &str) -> Option<Site<'d>> {
+    pub(crate) fn get(&self, id: &str) -> Option<SourceSite<'d>> {
         self.sites.get(id).copied()
     }
 }

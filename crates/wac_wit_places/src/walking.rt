@@ -1,7 +1,7 @@
 //! Goes along the path of a check through the syntax, so that each of its steps has a place.
 
-use super::members::{Member, Members};
-use super::sources::{Decl, Place, Sources};
+use super::members::{SourceMember, SourceMembers};
+use super::sources::{FilePlace, PackageSources, SourceDecl};
 use wac_component::{InterfaceId, ItemKind, Types, UsedType, WorldId};
 use wac_types::Frame;
 use wac_wit_entries::{interface, interface_id, world};
@@ -21,7 +21,7 @@ enum Users {
 
 /// What a path leads to.
 #[derive(Clone, Copy)]
-pub(crate) enum Node<'d> {
+pub(crate) enum PathNode<'d> {
     /// An interface or a world.
     Items,
     /// A function, and whether its first parameter isn't written.
@@ -36,10 +36,10 @@ pub(crate) enum Node<'d> {
 
 /// A position on a path.
 #[derive(Clone, Copy)]
-pub struct Walk<'d> {
-    pub(crate) node: Node<'d>,
+pub struct SourceWalk<'d> {
+    pub(crate) node: PathNode<'d>,
     /// Where it stands.
-    pub place: Place,
+    pub place: FilePlace,
     // The index of the members of what it stands in.
     members: usize,
     users: Users,
@@ -51,51 +51,51 @@ pub struct Map<'s, 'd> {
     /// The collection.
     pub types: &'s Types,
     /// Where its interfaces and worlds stand.
-    pub sources: &'s Sources<'d>,
+    pub sources: &'s PackageSources<'d>,
 }
 
-impl<'d> Walk<'d> {
+impl<'d> SourceWalk<'d> {
     // Something else among the same items.
-    fn to(&self, node: Node<'d>, span: Span) -> Walk<'d> {
+    fn to(&self, node: PathNode<'d>, span: Span) -> SourceWalk<'d> {
         let file = self.place.file;
-        Walk {
+        SourceWalk {
             node,
-            place: Place { file, span },
+            place: FilePlace { file, span },
             members: self.members,
             users: self.users,
         }
     }
 
     /// The same position.
-    fn stay(&self) -> Walk<'d> {
+    fn stay(&self) -> SourceWalk<'d> {
         self.to(self.node, self.place.span)
     }
 
     // A place from which no path goes on.
-    fn leaf(&self, span: Span) -> Walk<'d> {
-        self.to(Node::Leaf, span)
+    fn leaf(&self, span: Span) -> SourceWalk<'d> {
+        self.to(PathNode::Leaf, span)
     }
 
-    fn parameter(&self, name: &str) -> Option<Walk<'d>> {
-        let Node::Func(signature, _) = self.node else {
+    fn parameter(&self, name: &str) -> Option<SourceWalk<'d>> {
+        let PathNode::Func(signature, _) = self.node else {
             return None;
         };
         let field = field_named(&signature.params, name)?;
-        Some(self.to(Node::Expr(&field.ty), field.span))
+        Some(self.to(PathNode::Expr(&field.ty), field.span))
     }
 
-    fn returned(&self) -> Option<Walk<'d>> {
-        let Node::Func(signature, _) = self.node else {
+    fn returned(&self) -> Option<SourceWalk<'d>> {
+        let PathNode::Func(signature, _) = self.node else {
             return None;
         };
         let ty = signature.returns.as_ref()?;
-        Some(self.to(Node::Expr(ty), self.place.span))
+        Some(self.to(PathNode::Expr(ty), self.place.span))
     }
 
     // What a type is another name of, where it is one.
-    fn aliased(&self, item: &'d TypeItem) -> Option<Walk<'d>> {
+    fn aliased(&self, item: &'d TypeItem) -> Option<SourceWalk<'d>> {
         match &item.def {
-            TypeDef::Alias(ty) => Some(self.to(Node::Expr(ty), self.place.span)),
+            TypeDef::Alias(ty) => Some(self.to(PathNode::Expr(ty), self.place.span)),
             _ => None,
         }
     }
@@ -103,13 +103,13 @@ impl<'d> Walk<'d> {
 
 impl<'d> Map<'_, 'd> {
     /// The start of a path at an interface that stands under its identifier.
-    pub fn at_interface(&self, id: InterfaceId) -> Option<Walk<'d>> {
+    pub fn at_interface(&self, id: InterfaceId) -> Option<SourceWalk<'d>> {
         let site = self.sources.get(interface_id(self.types, id)?)?;
-        let Decl::Interface(_) = site.decl else {
+        let SourceDecl::Interface(_) = site.decl else {
             return None;
         };
-        Some(Walk {
-            node: Node::Items,
+        Some(SourceWalk {
+            node: PathNode::Items,
             place: site.place(),
             members: site.members,
             users: Users::Interface(id),
@@ -117,15 +117,15 @@ impl<'d> Map<'_, 'd> {
     }
 
     /// The start of a path at a world.
-    pub(crate) fn at_world(&self, id: WorldId) -> Option<Walk<'d>> {
+    pub(crate) fn at_world(&self, id: WorldId) -> Option<SourceWalk<'d>> {
         let of = world(self.types, id)?;
         let name = of.id.as_ref()?;
         let site = self.sources.get(name)?;
-        let Decl::World(_) = site.decl else {
+        let SourceDecl::World(_) = site.decl else {
             return None;
         };
-        Some(Walk {
-            node: Node::Items,
+        Some(SourceWalk {
+            node: PathNode::Items,
             place: site.place(),
             members: site.members,
             users: Users::World(id),
@@ -134,7 +134,7 @@ impl<'d> Map<'_, 'd> {
 
     /// From a world to what it imports or exports under a name: an interface where it is written, a
     /// function where the world names it, and else the world itself.
-    pub fn at_extern(&self, world: WorldId, name: &str, item: &ItemKind) -> Option<Walk<'d>> {
+    pub fn at_extern(&self, world: WorldId, name: &str, item: &ItemKind) -> Option<SourceWalk<'d>> {
         let Some(walk) = self.at_world(world) else {
             return None;
         };
@@ -148,7 +148,7 @@ impl<'d> Map<'_, 'd> {
     }
 
     // To an interface that is written in a package, where an item is one.
-    fn at_instance(&self, item: &ItemKind) -> Option<Walk<'d>> {
+    fn at_instance(&self, item: &ItemKind) -> Option<SourceWalk<'d>> {
         match item {
             ItemKind::Instance(id) => self.at_interface(*id),
             _ => None,
@@ -156,7 +156,7 @@ impl<'d> Map<'_, 'd> {
     }
 
     /// Where a world stands.
-    pub fn world_place(&self, world: WorldId) -> Option<Place> {
+    pub fn world_place(&self, world: WorldId) -> Option<FilePlace> {
         match self.at_world(world) {
             Some(walk) => Some(walk.place),
             None => None,
@@ -165,13 +165,13 @@ impl<'d> Map<'_, 'd> {
 
     /// Where a world names an import or an export, or where the type or the function of a resource
     /// stands; where the world has it by an include or for what it uses alone, the world's place.
-    pub fn extern_place(&self, world: WorldId, name: &str) -> Option<Place> {
+    pub fn extern_place(&self, world: WorldId, name: &str) -> Option<FilePlace> {
         let Some(walk) = self.at_world(world) else {
             return None;
         };
         if let Some(span) = self.members(&walk)?.extern_span(name) {
             let file = walk.place.file;
-            return Some(Place { file, span });
+            return Some(FilePlace { file, span });
         }
         match self.member(&walk, name) {
             Some(there) => Some(there.place),
@@ -180,8 +180,8 @@ impl<'d> Map<'_, 'd> {
     }
 
     /// The position at the end of a path.
-    pub(crate) fn at_end(&self, walk: &Walk<'d>, frames: &[Frame]) -> Walk<'d> {
-        let mut at = Walk {
+    pub(crate) fn at_end(&self, walk: &SourceWalk<'d>, frames: &[Frame]) -> SourceWalk<'d> {
+        let mut at = SourceWalk {
             node: walk.node,
             place: walk.place,
             members: walk.members,
@@ -194,14 +194,14 @@ impl<'d> Map<'_, 'd> {
     }
 
     // One step further along a path; where the syntax has nothing for it, the place stays.
-    fn follow(&self, walk: &Walk<'d>, frame: &Frame) -> Walk<'d> {
+    fn follow(&self, walk: &SourceWalk<'d>, frame: &Frame) -> SourceWalk<'d> {
         match self.next(walk, frame) {
             Some(next) => next,
             None => walk.leaf(walk.place.span),
         }
     }
 
-    fn next(&self, walk: &Walk<'d>, frame: &Frame) -> Option<Walk<'d>> {
+    fn next(&self, walk: &SourceWalk<'d>, frame: &Frame) -> Option<SourceWalk<'d>> {
         match frame {
             Frame::Export(name) | Frame::Import(name) => self.member(walk, name),
             Frame::Parameter(name) => walk.parameter(name),
@@ -213,15 +213,23 @@ impl<'d> Map<'_, 'd> {
     }
 
     // What stands where a position is, by its names.
-    fn members(&self, walk: &Walk<'d>) -> Option<&Members<'d>> {
+    fn members(&self, walk: &SourceWalk<'d>) -> Option<&SourceMembers<'d>> {
         self.sources.members(walk.members)
     }
 
     // From a world to an interface or a function that is written in it.
-    fn written(&self, walk: &Walk<'d>, name: &str, item: &ItemKind) -> Option<Walk<'d>> {
+    fn written(
+        &self,
+        walk: &SourceWalk<'d>,
+        name: &str,
+        item: &ItemKind,
+    ) -> Option<SourceWalk<'d>> {
         let found = self.members(walk)?.externs.get(name)?;
         match &found.item.what {
-            Extern::Func(name, signature) => Some(walk.to(Node::Func(signature, false), name.span)),
+            Extern::Func(name, signature) => Some(walk.to(
+                PathNode::Func(signature, false),
+                name.span,
+            )),
             Extern::Inline(name, _) => inline(walk, name, found.members, item),
             Extern::Named(name, _) => Some(walk.leaf(name.span)),
             Extern::Path(_) => None,
@@ -229,21 +237,24 @@ impl<'d> Map<'_, 'd> {
     }
 
     /// To a member of an interface.
-    pub(crate) fn member(&self, walk: &Walk<'d>, name: &str) -> Option<Walk<'d>> {
+    pub(crate) fn member(&self, walk: &SourceWalk<'d>, name: &str) -> Option<SourceWalk<'d>> {
         match self.members(walk)?.names.get(name) {
-            Some(Member::Func(it)) => Some(walk.to(Node::Func(&it.signature, false), it.name.span)),
-            Some(Member::Method(it)) => {
+            Some(SourceMember::Func(it)) => Some(walk.to(
+                PathNode::Func(&it.signature, false),
+                it.name.span,
+            )),
+            Some(SourceMember::Method(it)) => {
                 let is_method = it.kind == MethodKind::Method;
-                Some(walk.to(Node::Func(&it.signature, is_method), it.name.span))
+                Some(walk.to(PathNode::Func(&it.signature, is_method), it.name.span))
             }
             _ => self.type_named(walk, name),
         }
     }
 
     // To the definition of a type, in the interface that it comes from.
-    fn type_named(&self, walk: &Walk<'d>, name: &str) -> Option<Walk<'d>> {
+    fn type_named(&self, walk: &SourceWalk<'d>, name: &str) -> Option<SourceWalk<'d>> {
         if let Some(item) = self.members(walk)?.typedef(name) {
-            return Some(walk.to(Node::Type(item), item.name.span));
+            return Some(walk.to(PathNode::Type(item), item.name.span));
         }
         let used = self.used(walk.users, name)?;
         let Some(root) = self.at_interface(used.interface) else {
@@ -254,7 +265,7 @@ impl<'d> Map<'_, 'd> {
             None => name,
         };
         let item = self.members(&root)?.typedef(name)?;
-        Some(root.to(Node::Type(item), item.name.span))
+        Some(root.to(PathNode::Type(item), item.name.span))
     }
 
     // Where an interface or a world has a used type from.
@@ -266,7 +277,7 @@ impl<'d> Map<'_, 'd> {
     }
 
     /// To what a type with a name is, where that is known by other names alone.
-    pub(crate) fn peeled(&self, walk: &Walk<'d>) -> Walk<'d> {
+    pub(crate) fn peeled(&self, walk: &SourceWalk<'d>) -> SourceWalk<'d> {
         let mut at = walk.stay();
         for _name in 0..MAX_ALIASES {
             match self.named(&at) {
@@ -278,29 +289,29 @@ impl<'d> Map<'_, 'd> {
     }
 
     // To what a name of a type, or a type that is another name, leads.
-    fn named(&self, walk: &Walk<'d>) -> Option<Walk<'d>> {
+    fn named(&self, walk: &SourceWalk<'d>) -> Option<SourceWalk<'d>> {
         match walk.node {
-            Node::Expr(TypeExpr::Name(name)) => self.type_named(walk, &name.name),
-            Node::Type(item) => walk.aliased(item),
+            PathNode::Expr(TypeExpr::Name(name)) => self.type_named(walk, &name.name),
+            PathNode::Type(item) => walk.aliased(item),
             _ => None,
         }
     }
 
-    fn field(&self, walk: &Walk<'d>, name: &str) -> Option<Walk<'d>> {
+    fn field(&self, walk: &SourceWalk<'d>, name: &str) -> Option<SourceWalk<'d>> {
         let at = self.peeled(walk);
-        let Node::Type(item) = at.node else {
+        let PathNode::Type(item) = at.node else {
             return None;
         };
         let TypeDef::Record(fields) = &item.def else {
             return None;
         };
         let field = field_named(fields, name)?;
-        Some(at.to(Node::Expr(&field.ty), field.span))
+        Some(at.to(PathNode::Expr(&field.ty), field.span))
     }
 
-    fn case(&self, walk: &Walk<'d>, name: &str) -> Option<Walk<'d>> {
+    fn case(&self, walk: &SourceWalk<'d>, name: &str) -> Option<SourceWalk<'d>> {
         let at = self.peeled(walk);
-        let Node::Type(item) = at.node else {
+        let PathNode::Type(item) = at.node else {
             return None;
         };
         let TypeDef::Variant(cases) = &item.def else {
@@ -308,32 +319,37 @@ impl<'d> Map<'_, 'd> {
         };
         let case = case_named(cases, name)?;
         match &case.ty {
-            Some(ty) => Some(at.to(Node::Expr(ty), case.span)),
+            Some(ty) => Some(at.to(PathNode::Expr(ty), case.span)),
             None => Some(at.leaf(case.span)),
         }
     }
 
     // To a part of a type without name.
-    fn part(&self, walk: &Walk<'d>, frame: &Frame) -> Option<Walk<'d>> {
+    fn part(&self, walk: &SourceWalk<'d>, frame: &Frame) -> Option<SourceWalk<'d>> {
         let at = self.peeled(walk);
-        let Node::Expr(ty) = at.node else {
+        let PathNode::Expr(ty) = at.node else {
             return None;
         };
         let part = part_of(ty, frame)?;
-        Some(at.to(Node::Expr(part), at.place.span))
+        Some(at.to(PathNode::Expr(part), at.place.span))
     }
 }
 
 // To an interface that is written in a world.
-fn inline<'d>(walk: &Walk<'d>, name: &Ident, members: usize, item: &ItemKind) -> Option<Walk<'d>> {
+fn inline<'d>(
+    walk: &SourceWalk<'d>,
+    name: &Ident,
+    members: usize,
+    item: &ItemKind,
+) -> Option<SourceWalk<'d>> {
     let ItemKind::Instance(id) = item else {
         return None;
     };
     let file = walk.place.file;
     let span = name.span;
-    Some(Walk {
-        node: Node::Items,
-        place: Place { file, span },
+    Some(SourceWalk {
+        node: PathNode::Items,
+        place: FilePlace { file, span },
         members,
         users: Users::Interface(*id),
     })

@@ -6,7 +6,7 @@ use wac_component::{
     DefinedType, DefinedTypeId, InterfaceId, ItemKind, ResourceId, Type, Types, ValueType,
 };
 use wac_item_text::push_item_text;
-use wac_wit_entries::{Parts, defined_type, interface_id, parts_of, resource};
+use wac_wit_entries::{IdentifierParts, defined_type, interface_id, parts_of, resource};
 use wac_wit_syntax::{MAX_DEPTH, is_keyword};
 
 /// How deep types nest that are written: deeper than the reader takes them.
@@ -14,15 +14,15 @@ pub(crate) const DEPTH: usize = MAX_DEPTH + 2;
 
 /// The names that types have in the interface or the world that is written.
 #[derive(Drop)]
-pub(crate) struct Scope {
+pub(crate) struct TypeScope {
     pub(crate) types: IndexMap<DefinedTypeId, String>,
     pub(crate) resources: IndexMap<ResourceId, String>,
 }
 
-impl Scope {
+impl TypeScope {
     /// Without names.
-    pub(crate) fn new(alloc: Global) -> Scope {
-        Scope {
+    pub(crate) fn new(alloc: Global) -> TypeScope {
+        TypeScope {
             types: IndexMap::new(alloc),
             resources: IndexMap::new(alloc),
         }
@@ -124,7 +124,7 @@ pub struct Printer<'t> {
     pub(crate) types: &'t Types,
     /// The text so far.
     pub text: String,
-    pub(crate) scope: Scope,
+    pub(crate) scope: TypeScope,
     // the names of interfaces, where they aren't their identifiers
     known: IndexMap<InterfaceId, String>,
     /// The package and the version of what is written, which is named in short there.
@@ -139,7 +139,7 @@ impl<'t> Printer<'t> {
             alloc,
             types,
             text: String::new(alloc),
-            scope: Scope::new(alloc),
+            scope: TypeScope::new(alloc),
             known: IndexMap::new(alloc),
             home: ("", None),
             indent: 0,
@@ -206,7 +206,7 @@ impl<'t> Printer<'t> {
         self.put_parts(parts)
     }
 
-    fn put_parts(&mut self, parts: Parts<'_>) -> Result<(), AllocError> {
+    fn put_parts(&mut self, parts: IdentifierParts<'_>) -> Result<(), AllocError> {
         match parts.package.split_once(':') {
             Some((namespace, name)) => {
                 self.put_name(namespace)?;

@@ -1,6 +1,6 @@
 //! Writes interfaces and worlds, and what a package begins with.
 
-use super::printer::{Printer, Scope};
+use super::printer::{Printer, TypeScope};
 use indexmap::IndexMap;
 use std::alloc::AllocError;
 use std::mem;
@@ -48,7 +48,7 @@ impl<'t> Printer<'t> {
         let Some(of) = interface(self.types, id) else {
             return self.put(" {}\n");
         };
-        let outer = mem::replace(&mut self.scope, Scope::new(self.alloc));
+        let outer = mem::replace(&mut self.scope, TypeScope::new(self.alloc));
         let written = self.put_exports(of);
         self.scope = outer;
         written
@@ -138,7 +138,7 @@ impl<'t> Printer<'t> {
         self.begin()?;
         self.put("world ")?;
         self.put_name(name)?;
-        self.scope = Scope::new(self.alloc);
+        self.scope = TypeScope::new(self.alloc);
         self.open()?;
         if let Some(of) = world(self.types, id) {
             self.put_externs(of)?;

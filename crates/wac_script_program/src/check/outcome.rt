@@ -1,6 +1,6 @@
 //! What became of a line that holds a command.
 
-use crate::failure::Failure;
+use crate::failure::ScriptFailure;
 use std::alloc::{AllocError, Global};
 use wac_script_session::Session;
 use wac_script_syntax::{Command, ScriptError, read_line};
@@ -40,7 +40,7 @@ fn carry_out<'a>(
     alloc: Global,
     session: &mut Session,
     line: &'a str,
-) -> Result<Option<Outcome<'a>>, Failure<'a>> {
+) -> Result<Option<Outcome<'a>>, ScriptFailure<'a>> {
     let Some(command) = read_line(alloc, line)? else {
         return Ok(None);
     };
@@ -60,9 +60,9 @@ pub(crate) fn outcome_of<'a>(
     alloc: Global,
     session: &mut Session,
     line: &'a str,
-) -> Result<Option<Outcome<'a>>, Failure<'a>> {
+) -> Result<Option<Outcome<'a>>, ScriptFailure<'a>> {
     match carry_out(alloc, session, line) {
-        Err(Failure::Refused(error)) => Ok(Some(Outcome::Refusal(error))),
+        Err(ScriptFailure::Refused(error)) => Ok(Some(Outcome::Refusal(error))),
         outcome => outcome,
     }
 }

@@ -1,7 +1,7 @@
 //! How far a script has been checked.
 
 use super::outcome::{Outcome, outcome_of};
-use crate::failure::Failure;
+use crate::failure::ScriptFailure;
 use std::alloc::{AllocError, Global};
 use std::io::Write;
 use wac_script_session::Session;
@@ -58,7 +58,7 @@ impl<'a> Progress<'a> {
         alloc: Global,
         line: Line<'a>,
         out: &mut W,
-    ) -> Result<(), Failure<'a>> {
+    ) -> Result<(), ScriptFailure<'a>> {
         self.line = line.number;
         if let Some(answer) = line.text.strip_prefix("= ") {
             return self.expect_answer(alloc, answer, out);
@@ -71,7 +71,7 @@ impl<'a> Progress<'a> {
     }
 
     // Carries out a line; what is expected of it may stand in the lines after it.
-    fn carry_out(&mut self, alloc: Global, line: Line<'a>) -> Result<(), Failure<'a>> {
+    fn carry_out(&mut self, alloc: Global, line: Line<'a>) -> Result<(), ScriptFailure<'a>> {
         if let Some(outcome) = outcome_of(alloc, &mut self.session, line.text)? {
             self.before = Some(Before {
                 line,
@@ -88,7 +88,7 @@ impl<'a> Progress<'a> {
         alloc: Global,
         answer: &str,
         out: &mut W,
-    ) -> Result<(), Failure<'a>> {
+    ) -> Result<(), ScriptFailure<'a>> {
         if let Some(before) = &mut self.before
             && let Outcome::Answer(_) = &before.outcome
         {
@@ -96,7 +96,7 @@ impl<'a> Progress<'a> {
             return Ok(());
         }
         self.settle(out)?;
-        Err(Failure::NoQuestion)
+        Err(ScriptFailure::NoQuestion)
     }
 
     // Compares what became of the command before with the refusal that is expected.
@@ -105,19 +105,19 @@ impl<'a> Progress<'a> {
         alloc: Global,
         refusal: &str,
         out: &mut W,
-    ) -> Result<(), Failure<'a>> {
+    ) -> Result<(), ScriptFailure<'a>> {
         let Some(before) = self.before.take() else {
-            return Err(Failure::NoCommand);
+            return Err(ScriptFailure::NoCommand);
         };
         if before.expected.is_some() {
-            return Err(Failure::NoCommand);
+            return Err(ScriptFailure::NoCommand);
         }
         let found = before.outcome.shown(alloc)?;
         self.compare(before.line, refusal, &found, out)
     }
 
     /// Settles whether what became of the command before is as expected.
-    pub(crate) fn settle<W: Write>(&mut self, out: &mut W) -> Result<(), Failure<'a>> {
+    pub(crate) fn settle<W: Write>(&mut self, out: &mut W) -> Result<(), ScriptFailure<'a>> {
         let Some(before) = self.before.take() else {
             return Ok(());
         };
@@ -125,8 +125,8 @@ impl<'a> Progress<'a> {
         match (before.outcome, before.expected) {
             (Outcome::Done, _) => Ok(()),
             (Outcome::Answer(found), Some(expected)) => self.compare(line, &expected, &found, out),
-            (Outcome::Answer(_), None) => self.fail(line, Failure::NoAnswer),
-            (Outcome::Refusal(error), _) => self.fail(line, Failure::Refused(error)),
+            (Outcome::Answer(_), None) => self.fail(line, ScriptFailure::NoAnswer),
+            (Outcome::Refusal(error), _) => self.fail(line, ScriptFailure::Refused(error)),
         }
     }
 
@@ -137,7 +137,7 @@ impl<'a> Progress<'a> {
         expected: &str,
         found: &str,
         out: &mut W,
-    ) -> Result<(), Failure<'a>> {
+    ) -> Result<(), ScriptFailure<'a>> {
         self.questions = self.questions.saturating_add(1);
         if found == expected {
             return Ok(());
@@ -151,7 +151,11 @@ impl<'a> Progress<'a> {
     }
 
     // Fails on an earlier line.
-    fn fail(&mut self, line: Line<'a>, failure: Failure<'a>) -> Result<(), Failure<'a>> {
+    fn fail(
+        &mut self,
+        line: Line<'a>,
+        failure: ScriptFailure<'a>,
+    ) -> Result<(), ScriptFailure<'a>> {
         self.line = line.number;
         Err(failure)
     }

@@ -2,19 +2,19 @@ use Rattle.std.proofs.Common.{◌≡◌, ◌∙◌, Some, ap, sym, subst, add-on
 use Rattle.std.proofs.lemmas.List.{drop_all, length-map, take_all}
 use Rattle.std.proofs.lemmas.List.Elements.{All-contains}
 use Rattle.wac_component.specs.Collection.{Collection}
-use Rattle.wac_call_lists.specs.Aggregated.{track_imports}
-use Rattle.wac_call_lists.specs.Answer.{accepted, refused}
-use Rattle.wac_call_lists.specs.Call.{Call}
-use Rattle.wac_call_lists.specs.Holding.{HoldsReached}
-use Rattle.wac_call_lists.specs.PlainList.{IsPlain}
-use Rattle.wac_call_lists.proofs.PlainRuns.{plain_runs_answer}
+use Rattle.wac_aggregator_promises.specs.Aggregated.{track_imports}
+use Rattle.wac_aggregator_promises.specs.Answer.{accepted, refused}
+use Rattle.wac_aggregator_promises.specs.Call.{Call}
+use Rattle.wac_aggregator_promises.specs.Holding.{HoldsReached}
+use Rattle.wac_aggregator_promises.specs.PlainList.{IsPlain}
+use Rattle.wac_aggregator_promises.proofs.PlainRuns.{plain_runs_answer}
 use Rattle.wac_aggregator.specs.After.{HasReasonAfter}
 use Rattle.wac_aggregator.specs.Content.{shown, content_of}
 use Rattle.wac_aggregator.proofs.Remembering.{truly_in, owners_in}
 use Rattle.wac_aggregator.proofs.Plain.{run_starts, run_on, run_stops, run_ends, plain_step, plain_refusal}
-use Rattle.wac_imports.specs.Import.{ImportsContent, import_of}
+use Rattle.wac_aggregator_imports.specs.Import.{ImportsContent, import_of}
 use Rattle.wac_aggregator.specs.HandedIn.{called, handed_in}
-use Rattle.wac_aggregator.specs.Served.{AreServed}
+use Rattle.wac_aggregator.specs.Served.{AreCallsServed}
 use Rattle.wac_aggregator.proofs.Advancing.{by_track}
 use Rattle.wac_aggregator.proofs.Beginning.{none_held}
 use Rattle.wac_aggregator.proofs.Front.{none_served, all_aggregated}
@@ -22,7 +22,7 @@ use Rattle.wac_aggregator.proofs.Held.{reached_after}
 use Rattle.wac_aggregator.proofs.Handing.{refused_reason}
 use Rattle.wac_aggregator.proofs.Listing.{Contains-at, take-next, called_at, may_try, advances_in_order, advances_number, may_take, one_more}
 use Rattle.std.proofs.lemmas.List.Elements.{All-nil}
-use Rattle.wac_call_lists.specs.Call.{IsSoundCall, AreSoundCalls}
+use Rattle.wac_aggregator_promises.specs.Call.{IsSoundCall, AreSoundCalls}
 use Rattle.wac_aggregator.specs.Wit.{IsWitAfter}
 use Rattle.wac_aggregator.proofs.Wit.{wit_start}
 use Rattle.wac_aggregator.proofs.WitRuns.{one_more_sound, one_more_wit, wit_accepted, one_refused}
@@ -75,7 +75,7 @@ pub returns-clause-aggregated : goal.returns-clause-aggregated
 returns-clause-aggregated c =
     let calls = handed_in c.args.calls.now in
     all_aggregated calls calls c.loop-at.state c.loop-at.invariant.order.imports
-    (subst (λ front. AreServed calls front c.loop-at.state) (take_all c.loop-at.at calls (simp length-map (omega arith))) c.loop-at.invariant.served)
+    (subst (λ front. AreCallsServed calls front c.loop-at.state) (take_all c.loop-at.at calls (simp length-map (omega arith))) c.loop-at.invariant.served)
 
 pub returns-clause-by_track : goal.returns-clause-by_track
 returns-clause-by_track c = by_track c.loop-at.state c.loop-at.invariant.order.imports
@@ -120,7 +120,7 @@ pub returns-clause-wit : goal.returns-clause-wit
 returns-clause-wit c = λ w.
     let calls = handed_in c.args.calls.now in
     let whole = take_all c.loop-at.at calls (simp length-map (omega arith)) in
-    wit_accepted calls c.loop-at.state w (subst AreSoundCalls whole c.loop-at.invariant.sound) c.loop-at.invariant.order.imports (subst (λ front. AreServed calls front c.loop-at.state) whole c.loop-at.invariant.served) (subst (λ front. IsWitAfter calls front c.loop-at.state) whole (c.loop-at.invariant.wit w))
+    wit_accepted calls c.loop-at.state w (subst AreSoundCalls whole c.loop-at.invariant.sound) c.loop-at.invariant.order.imports (subst (λ front. AreCallsServed calls front c.loop-at.state) whole c.loop-at.invariant.served) (subst (λ front. IsWitAfter calls front c.loop-at.state) whole (c.loop-at.invariant.wit w))
 
 pub returns-in-Err-clause-wit : goal.returns-in-Err-clause-wit
 returns-in-Err-clause-wit c = λ w ne.

@@ -1,15 +1,15 @@
 use Rattle.std.proofs.Common.{◌≡◌, None, refl, sym, subst, inl, inr}
 use Rattle.std.proofs.lemmas.Result.{MatchResult-weaker}
-use Rattle.wac_imports.specs.Import.{import_of}
-use Rattle.wac_taking.proofs.Alike.{IsNear-none}
+use Rattle.wac_aggregator_imports.specs.Import.{import_of}
+use Rattle.wac_aggregator_taking.proofs.Alike.{IsNear-none}
 use Rattle.wac_aggregator.proofs.Calls.{added_advances}
 use Rattle.wac_aggregator.proofs.Refusing.{item_refused, not_added}
 use Rattle.wac_component.specs.Id.{Id}
-use Rattle.wac_call_lists.specs.Entries.{ReachesByUses}
-use Rattle.wac_call_lists.specs.Reason.{taken as is_taken}
-use Rattle.wac_taking.specs.Members.{TakesMembers}
-use Rattle.wac_taking.specs.declared.state.Merging.{Merging}
-use Rattle.wac_taking.proofs.GrowLemmas.{StepsOn-refl}
+use Rattle.wac_aggregator_promises.specs.Entries.{ReachesByUses}
+use Rattle.wac_aggregator_promises.specs.Reason.{taken as is_taken}
+use Rattle.wac_aggregator_taking.specs.Members.{TakesMembers}
+use Rattle.wac_aggregator_taking.specs.declared.state.Merging.{Merging}
+use Rattle.wac_aggregator_taking.proofs.GrowLemmas.{StepsOn-refl}
 use Rattle.wac_aggregator.proofs.Members.{members_onward, member_apart, member_memory}
 use Rattle.wac_aggregator.proofs.importing.add_import.Goals as goal
 

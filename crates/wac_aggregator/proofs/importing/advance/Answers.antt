@@ -1,14 +1,14 @@
 use Rattle.std.proofs.Common.{sym, subst}
 use Rattle.std.proofs.lemmas.Result.{MatchResult-weaker}
-use Rattle.wac_call_lists.specs.Call.{Call}
-use Rattle.wac_taking.specs.Takes.{MayTake}
-use Rattle.wac_taking.specs.declared.state.Merging.{Merging}
+use Rattle.wac_aggregator_promises.specs.Call.{Call}
+use Rattle.wac_aggregator_taking.specs.Takes.{MayTake}
+use Rattle.wac_aggregator_taking.specs.declared.state.Merging.{Merging}
 use Rattle.wac_aggregator.specs.Advances.{Advances, IsRefusedCall}
 use Rattle.wac_aggregator.proofs.Calls.{told_may, told_advances}
 use Rattle.wac_aggregator.proofs.Refusing.{told_refused}
 use Rattle.wac_component.specs.Id.{Id}
-use Rattle.wac_call_lists.specs.Entries.{ReachesByUses}
-use Rattle.wac_taking.specs.Members.{AnswersMembers}
+use Rattle.wac_aggregator_promises.specs.Entries.{ReachesByUses}
+use Rattle.wac_aggregator_taking.specs.Members.{AnswersMembers}
 use Rattle.wac_aggregator.specs.Wit.{MayHandIn}
 use Rattle.wac_aggregator.proofs.Members.{told_hand, told_members}
 use Rattle.wac_aggregator.proofs.importing.advance.Goals as goal

@@ -1,5 +1,5 @@
 use Rattle.std.proofs.Common.{sym, ◌∙◌}
-use Rattle.wac_imports.specs.Import.{import_of}
+use Rattle.wac_aggregator_imports.specs.Import.{import_of}
 use Rattle.wac_aggregator.proofs.Calls.{import_none}
 use Rattle.wac_aggregator.proofs.importing.import.Goals as goal
 

@@ -1,7 +1,7 @@
 use Rattle.std.proofs.Common.{◌≡◌, Some, subst}
 use Rattle.std.specs.Option.{option_map}
-use Rattle.wac_imports.specs.Import.{ImportContent, import_of}
-use Rattle.wac_call_lists.specs.Call.{Call}
+use Rattle.wac_aggregator_imports.specs.Import.{ImportContent, import_of}
+use Rattle.wac_aggregator_promises.specs.Call.{Call}
 use Rattle.wac_aggregator.proofs.Refusing.{cases_refused}
 use Rattle.wac_aggregator.proofs.Members.{member_apart}
 use Rattle.wac_aggregator.proofs.importing.merge_import.Goals as goal

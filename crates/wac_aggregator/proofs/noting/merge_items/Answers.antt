@@ -1,10 +1,10 @@
 use Rattle.std.proofs.Common.{inl, inr, subst}
 use Rattle.wac_component.specs.Key.{item_keys}
 use Rattle.wac_component.proofs.Extended.{AllStand-Extends}
-use Rattle.wac_taking.specs.Growing.{IsMetIfAny}
-use Rattle.wac_taking.proofs.MergeReasons.{apart_before}
-use Rattle.wac_refusals.proofs.Saying.{says_mismatch}
-use Rattle.wac_refusals.proofs.Passing.{passed_on}
+use Rattle.wac_aggregator_taking.specs.Growing.{IsMetIfAny}
+use Rattle.wac_aggregator_taking.proofs.MergeReasons.{apart_before}
+use Rattle.wac_aggregator_errors.proofs.Saying.{says_mismatch}
+use Rattle.wac_aggregator_errors.proofs.Passing.{passed_on}
 use Rattle.wac_aggregator.proofs.Members.{met_itself}
 use Rattle.wac_aggregator.proofs.noting.merge_items.Goals as goal
 

@@ -5,7 +5,7 @@ use Rattle.std.proofs.lemmas.List.{length-map, take_all}
 use Rattle.std.proofs.lemmas.List.Elements.{Contains-get_or, Contains-push_cases}
 use Rattle.std.proofs.lemmas.Option.{slice_get-map, slice_get_within, slice_get-get_or, get_or_from_slice_get}
 use Rattle.std.specs.Option.{option_map}
-use Rattle.wac_types.specs.Aggregated.{Aggregated, LeadsBelow, IsStep}
+use Rattle.wac_types.specs.Aggregated.{Aggregated, LeadsBelow, IsCallStep}
 use Rattle.wac_types.specs.Aggregator.{shown}
 use Rattle.wac_types.specs.Call.{Call, call_tree}
 use Rattle.wac_types.specs.HandedIn.{called, handed_in}
@@ -22,7 +22,7 @@ among : (calls : List Call) (i : ℕ) (x : Call) → slice_get calls i ≡ Some 
 among calls i x at = subst (Contains calls) (get_or_from_slice_get calls i x x at) (Contains-get_or calls i x (slice_get_within calls i x at))
 
 -- what served the calls before serves them after one more, and that one too
-one_more : IsTransitive → (a b : Aggregated) (calls : List Call) (i : ℕ) (x : Call) → slice_get calls i ≡ Some x → IsStep a b x
+one_more : IsTransitive → (a b : Aggregated) (calls : List Call) (i : ℕ) (x : Call) → slice_get calls i ≡ Some x → IsCallStep a b x
     → ((c : Call) → Contains (take i calls) c → LeadsBelow a c.name (call_tree c)) → (c : Call) → Contains (take (i + 1) calls) c → LeadsBelow b c.name (call_tree c)
 one_more transitive a b calls i x at step before c m =
     let next : take (i + 1) calls ≡ take i calls ++ x ∷ [] = rw add-one (take-suc calls i x (slice_get_within calls i x at) ∙ ap (λ y. take i calls ++ y ∷ []) (get_or_from_slice_get calls i x x at)) in

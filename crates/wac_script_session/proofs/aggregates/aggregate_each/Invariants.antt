@@ -1,7 +1,7 @@
 use Rattle.std.proofs.Common.{◌≡◌, Contains}
-use Rattle.wac_call_lists.specs.Call.{Call}
+use Rattle.wac_aggregator_promises.specs.Call.{Call}
 use Rattle.wac_names.specs.Class.{class_of}
-use Rattle.wac_narrowing.specs.Remembers.{RemembersTruly}
+use Rattle.wac_aggregator_narrowing.specs.Remembers.{RemembersTruly}
 use Rattle.wac_aggregator.specs.Content.{state_in}
 use Rattle.wac_aggregator.specs.HandedIn.{handed_in}
 use Rattle.wac_script_session.proofs.aggregates.aggregate_each.Given as goal

@@ -1,7 +1,7 @@
 use Rattle.std.proofs.Common.{List, sym, subst, arith}
 use Rattle.wac_aggregator.specs.HandedIn.{called, handed_in}
 use Rattle.wac_aggregator.specs.declared.all.Call.{Call as Handed}
-use Rattle.wac_call_lists.specs.Call.{Call}
+use Rattle.wac_aggregator_promises.specs.Call.{Call}
 use Rattle.wac_script_session.specs.Calls.{AreCallsIn}
 use Rattle.wac_script_session.proofs.Handed.{AreCallsIn-push}
 use Rattle.wac_script_session.proofs.aggregates.calls_of.Goals as goal

@@ -1,6 +1,6 @@
 use Rattle.std.proofs.Common.{Contains, subst}
-use Rattle.wac_imports.specs.Left.{imports_left}
-use Rattle.wac_imports.specs.declared.imports.Imports.{Imports}
+use Rattle.wac_aggregator_imports.specs.Left.{imports_left}
+use Rattle.wac_aggregator_imports.specs.declared.imports.Imports.{Imports}
 use Rattle.wac_script_session.proofs.Handed.{yielded_among}
 use Rattle.wac_script_session.proofs.imports.provided_by.Goals as goal
 

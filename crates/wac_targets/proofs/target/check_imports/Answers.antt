@@ -8,7 +8,7 @@ use Rattle.wac_component.specs.declared.worlds.ExternKind.TheVariants.{Import}
 use Rattle.wac_component.proofs.Members.{world_imports_stand}
 use Rattle.wac_targets.specs.Named.{borrowed}
 use Rattle.wac_targets.specs.Noting.{AreNoted, note_of}
-use Rattle.wac_targets.specs.Wanted.{Items}
+use Rattle.wac_targets.specs.Wanted.{NamedItems}
 use Rattle.wac_targets.proofs.Distinct.{put-all}
 use Rattle.wac_targets.proofs.Standing.{insert_all-stands}
 use Rattle.wac_targets.proofs.target.check_imports.Goals as goal
@@ -34,4 +34,4 @@ pub returns-clause-noted : goal.returns-clause-noted
 returns-clause-noted c =
     let own = (world_content c.args.target.now).imports in
     subst (λ ps. AreNoted c.args.types.now Import ps (world_content c.args.component.now).imports (note_of c.args.report.now) (note_of c.check_all.new.report))
-    (c.new-given.ensures.items ∙ ap (λ (xs : Items). insert_all bytes_eq [] (xs ++ own)) c.in_ok-implicit.ensures.imports) c.in_ok-check_all.ensures.noted
+    (c.new-given.ensures.items ∙ ap (λ (xs : NamedItems). insert_all bytes_eq [] (xs ++ own)) c.in_ok-implicit.ensures.imports) c.in_ok-check_all.ensures.noted

@@ -1,8 +1,8 @@
 use Rattle.std.proofs.Common.{ap, ◌∙◌}
 use Rattle.wac_checker.specs.Cache.{without_number}
 use Rattle.wac_checker.specs.Checker.{remembered}
-use Rattle.wac_call_lists.specs.Call.{Call}
-use Rattle.wac_refusals.proofs.Passing.{error_passed_on, passed_on}
+use Rattle.wac_aggregator_promises.specs.Call.{Call}
+use Rattle.wac_aggregator_errors.proofs.Passing.{error_passed_on, passed_on}
 use Rattle.wac_aggregator.specs.Content.{AggregatorContent}
 use Rattle.wac_aggregator.proofs.Advancing.{by_track}
 use Rattle.wac_aggregator.proofs.Handing.{call_may, call_in_order, call_number, call_step, call_truly, call_imports, call_held, call_due, call_owners, call_plain, call_reason, call_refused}

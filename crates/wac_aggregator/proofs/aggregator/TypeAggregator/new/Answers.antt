@@ -1,7 +1,7 @@
 use Rattle.std.proofs.Common.{◌≡◌, [], Some, None, ap, sym, ◌∙◌, arith}
 use Rattle.wac_component.specs.Collection.{Collection}
-use Rattle.wac_imports.specs.Import.{ImportsContent, import_of}
-use Rattle.wac_imports.specs.Left.{listed}
+use Rattle.wac_aggregator_imports.specs.Import.{ImportsContent, import_of}
+use Rattle.wac_aggregator_imports.specs.Left.{listed_imports}
 use Rattle.wac_aggregator.proofs.Front.{none_served}
 use Rattle.wac_aggregator.proofs.Remembering.{truly_in, owners_in}
 use Rattle.wac_aggregator.proofs.aggregator.TypeAggregator.new.Goals as goal
@@ -16,7 +16,7 @@ pub returns-clause-empty : goal.returns-clause-empty
 returns-clause-empty c = c.no_imports.ensures.empty
 
 pub returns-clause-imports : goal.returns-clause-imports
-returns-clause-imports c = ap listed c.no_imports.ensures.imports
+returns-clause-imports c = ap listed_imports c.no_imports.ensures.imports
 
 pub returns-clause-owners : goal.returns-clause-owners
 returns-clause-owners c = λ f. owners_in f c.no_imports.result (λ theirs own n at number to. let no : None ≡ Some own = sym (c.no_imports.ensures.taken theirs) ∙ at in absurd (cc))

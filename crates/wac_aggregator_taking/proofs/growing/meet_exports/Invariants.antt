@@ -1,0 +1,11 @@
+use Rattle.std.proofs.Common.{map}
+use Rattle.std.specs.Map.Iter.{deref_pair}
+use Rattle.wac_component.specs.Content.{named}
+use Rattle.wac_merge.specs.Items.{extern_list}
+use Rattle.wac_aggregator_taking.specs.Growing.{AreMetWith}
+use Rattle.wac_aggregator_taking.proofs.growing.meet_exports.Given as goal
+
+abbrev pub invariant-loop-name : goal.invariant-loop-name
+invariant-loop-name l = record {
+  met : AreMetWith l.initial.types l.types (extern_list l.initial.existing) (named (λ k. k) (map deref_pair l.yielded)) (extern_list l.existing);
+}

@@ -1,0 +1,87 @@
+-- Why what is to be taken in is refused.
+use Rattle.std.specs.Prelude.{◌≡◌, ◌≢◌, ◌⊎◌, ℕ, All, List, [], ◌∷◌, Contains, Some, slice_get}
+use Rattle.std.specs.Str.{bytes_eq}
+use Rattle.wac_model.specs.Text.{Text, lookup}
+use Rattle.wac_component.specs.Collection.{Collection, UseContent}
+use Rattle.wac_component.specs.Entries.{uses_at}
+use Rattle.wac_component.specs.Key.{Key, item_keys}
+use Rattle.wac_component.specs.Tree.{item_tree}
+use Rattle.wac_component.specs.declared.items.ItemKind.{ItemKind}
+use Rattle.wac_aggregator_promises.specs.Attempt.{Attempt, Touches}
+use Rattle.wac_aggregator_promises.specs.PlainList.{ArePlain}
+use Rattle.wac_aggregator_promises.specs.Reason.{CallRefusal, mismatch, no_identifier, owner_without_identifier, IsReason}
+use Rattle.wac_aggregator_promises.specs.TreeSets.{HaveNoLowerBound}
+use Rattle.wac_aggregator_promises.specs.WitList.{IsLeafItem}
+use Rattle.wac_merge.specs.Items.{Externs}
+use Rattle.wac_aggregator_narrowing.specs.State.{State, IsStateKept}
+use Rattle.wac_aggregator_reasons.specs.Trial.{IsTrial, IsAccounted, AreOpenItems}
+use Rattle.wac_aggregator_errors.specs.declared.error.AggregateError.{AggregateError}
+use Rattle.wac_aggregator_errors.specs.declared.error.AggregateError.TheVariants.{Memory}
+use Rattle.wac_aggregator_errors.specs.Said.{said}
+use Rattle.wac_aggregator_errors.specs.Differ.{UsesDiffer}
+use Rattle.wac_aggregator_taking.specs.Growing.{with_own, AreAllOpen}
+use Rattle.wac_aggregator_taking.specs.Takes.{AreKnown, AreNear, state_of}
+use Rattle.wac_aggregator_taking.specs.declared.state.Merging.{Merging}
+
+-- there is reason for the refusal
+abbrev pub HasReason : Attempt → AggregateError → Type 0
+HasReason at e = (r : CallRefusal) → said e ≡ Some r → IsReason at r
+
+-- it says that an interface has no identifier
+abbrev pub IsOfUnidentified : CallRefusal → Type 0
+IsOfUnidentified (no_identifier used) = Unit {0}
+IsOfUnidentified (owner_without_identifier resource) = Unit {0}
+IsOfUnidentified r = ⊥
+
+-- the ids aren't plain; where all was taken in that they openly lead to and that has an identifier,
+-- it is for the want of one; and whatever call is tried whose item openly reaches them, where all
+-- is accounted for, and what is near is open and comes from sources, there is reason
+pub record IsRefusal (near : List Key) (f : Collection) (a : Merging) (ks : List Key) (e : AggregateError) : Type 0 where
+  pub plain : ¬ (ArePlain f ks)
+  pub known : AreKnown f a ks → (r : CallRefusal) → said e ≡ Some r → IsOfUnidentified r
+  pub reason : (at : Attempt) → IsTrial at f ks → IsAccounted at (state_of a) → AreNear at a near → HasReason at e
+
+-- that is so unless an allocation fails
+abbrev pub IsRefusedBy : List Key → Collection → Merging → List Key → AggregateError → Type 0
+IsRefusedBy near f a ks e = e ≢ Memory → IsRefusal near f a ks e
+
+-- the same, where nothing is near
+abbrev pub MayRefuse : Collection → Merging → List Key → AggregateError → Type 0
+MayRefuse f a ks e = IsRefusedBy [] f a ks e
+
+-- whatever entry uses these is refused
+abbrev pub AreRefusedUses : Collection → Merging → List (Text × UseContent) → AggregateError → Type 0
+AreRefusedUses f a us e = (k : Key) → uses_at f k ≡ us → MayRefuse f a (k ∷ []) e
+
+-- the use at an index is of an interface without identifier, it says
+abbrev pub SaysOfUse : List (Text × UseContent) → ℕ → AggregateError → Type 0
+SaysOfUse us i e = (name : Text) (u : UseContent) → slice_get us i ≡ Some (name, u) → said e ≡ Some (no_identifier name)
+
+-- two items have no common lower bound, it says
+pub record SaysMismatch (c : Collection) (a b : ItemKind) (e : AggregateError) : Type 0 where
+  pub no_bound : HaveNoLowerBound (item_tree c a) (item_tree c b)
+  pub says : said e ≡ Some mismatch
+
+-- two items are refused, unless an allocation fails, over their uses or since they can't be met
+abbrev pub IsMergeRefusal : Collection → ItemKind → ItemKind → AggregateError → Type 0
+IsMergeRefusal c a b e = e ≢ Memory → UsesDiffer c (item_keys a) (item_keys b) e ⊎ SaysMismatch c a b e
+
+-- two leaves of one name, one of each list, have no common lower bound
+pub record HasApartLeaves (c : Collection) (es ts : Externs) : Type 0 where
+  pub name : Text
+  pub first : ItemKind
+  pub second : ItemKind
+  pub is_first : lookup bytes_eq es name ≡ Some first
+  pub is_second : Contains ts (name, second)
+  pub no_bound : HaveNoLowerBound (item_tree c first) (item_tree c second)
+
+-- items aren't met with those under their names: whatever state has this collection, in which
+-- all is accounted for and these items are open, there is reason if the item touches; and
+-- leaves aren't since two are apart
+pub record IsItemsRefusal (c : Collection) (es ts : Externs) (e : AggregateError) : Type 0 where
+  pub reason : (at : Attempt) (s : State) → IsStateKept (with_own s c) → IsAccounted at (with_own s c) → AreOpenItems at (with_own s c) es → AreAllOpen at (with_own s c) ts → Touches at → HasReason at e
+  pub leaves : All (λ t. IsLeafItem t.1) ts → HasApartLeaves c es ts
+
+-- such items are refused, unless an allocation fails
+abbrev pub AreRefusedItems : Collection → Externs → Externs → AggregateError → Type 0
+AreRefusedItems c es ts e = e ≢ Memory → IsItemsRefusal c es ts e

@@ -1,0 +1,213 @@
+//! Shared entries that grow.
+
+ghost use Rattle.std.specs.Prelude.{◌≡◌, ◌≢◌, [], ◌∷◌, Some, IfErr, MatchResult, OnOk, string_bytes};
+ghost use Rattle.wac_model.specs.Text.{Text};
+ghost use Rattle.wac_component.specs.Content.{named, use_content, interface_content};
+ghost use Rattle.wac_component.specs.Entries.{identifier_at};
+ghost use Rattle.wac_component.specs.Height.{height};
+ghost use Rattle.wac_component.specs.Key.{Stands, AllStand, item_keys, interface_key, interface_keys};
+ghost use Rattle.wac_component.specs.Replacing.{NamesReach};
+ghost use Rattle.wac_aggregator_promises.specs.Entries.{ReachesByUses};
+ghost use Rattle.wac_aggregator_promises.specs.Reason.{cycle as closes};
+ghost use Rattle.wac_aggregator_errors.specs.declared.error.AggregateError.TheVariants.{Memory};
+ghost use Rattle.wac_merge.specs.Items.{AreFound, extern_keys, extern_list};
+ghost use Rattle.wac_names.specs.Class.{class_of};
+ghost use Rattle.wac_aggregator_narrowing.specs.Narrows.{grown};
+ghost use Rattle.wac_aggregator_narrowing.specs.Taking.{IsTakenKey};
+ghost use Rattle.wac_aggregator_taking.specs.Growing.{IsOwnMeet, AreMetWith};
+ghost use Rattle.wac_aggregator_taking.specs.Members.{AnswersMembers};
+ghost use Rattle.wac_aggregator_errors.specs.Said.{said};
+ghost use Rattle.wac_aggregator_taking.specs.Refused.{MayRefuse, IsMergeRefusal, AreRefusedItems};
+ghost use Rattle.wac_aggregator_taking.specs.Takes.{MayTake, MayPut, Takes, shared_in};
+
+use super::identity::identifier;
+use super::meeting::meet_own;
+use super::serving::serves;
+use super::state::Merging;
+use indexmap::IndexMap;
+use std::alloc::{AllocError, Global};
+use wac_aggregator_errors::{AggregateError, MergeFrame, check_uses, check_uses_of, mismatch};
+use wac_component::laws::names_in_an_interface_are_distinct;
+use wac_component::{Interface, InterfaceId, ItemKind, ReplaceError, Types, UsedType};
+use wac_core_merge::add_new;
+use wac_merge::{extern_named, put_extern};
+use wac_mismatch::SubtypeCheck;
+use wac_names::are_semver_compatible;
+
+// Where exports are met, for what is told of those that have no meet: the direction, and the
+// identifier of the interface, unless it is on the track of the item that was handed in.
+#[derive(Drop)]
+struct Place {
+    check: SubtypeCheck,
+    interface: Option<String>,
+}
+
+// The place of the exports of an interface with this identifier.
+fn place_of(state: &Merging, name: &String) -> Result<Place, AllocError> {
+    let check = state.check;
+    if let Some(handed_in) = &state.handed_in {
+        if are_semver_compatible(state.alloc(), handed_in.as_str(), name.as_str())? {
+            return Ok(Place {
+                check,
+                interface: None,
+            });
+        }
+    }
+    let interface = name.clone()?;
+    Ok(Place {
+        check,
+        interface: Some(interface),
+    })
+}
+
+// Merges an interface of which all parts were taken in into the shared entry on its track,
+// which grows unless it serves it.
+pub(crate) fn merge_shared(
+    state: &mut Merging,
+    types: &Types,
+    id: InterfaceId,
+    own: InterfaceId,
+    uses: IndexMap<String, UsedType>,
+    exports: &IndexMap<String, ItemKind>,
+) -> Result<InterfaceId, AggregateError>
+    requires state { MayTake types.now state.old }
+    requires shared { (name : Text) × (identifier_at types.now (interface_key id) ≡ Some name) × (shared_in state.old.shared.entries (class_of name) ≡ Some own) }
+    requires taken { MayPut types.now state.old id (named use_content uses.entries) (named (λ k. k) exports.now.entries) }
+    ensures taken { MatchResult result (λ r. Takes types.now state.old state.new (height types.now (interface_key id)) (interface_key id ∷ []) (λ t. IsTakenKey class_of types.now t (interface_key id) (interface_key r))) (MayRefuse types.now state.old (interface_key id ∷ [])) }
+    ensures members { AnswersMembers result types.now state.old state.new (ReachesByUses types.now id) }
+{
+    if serves(state.alloc(), &state.types, own, &uses, exports) {
+        state.taken.put_interface(id, own)?;
+        return Ok(own);
+    }
+    let name = identifier(types, id)?;
+    grow(state, types, id, own, name, uses, exports)
+}
+
+// Puts what the shared entry lacks into it, and meets what it exports otherwise.
+fn grow(
+    state: &mut Merging,
+    types: &Types,
+    id: InterfaceId,
+    own: InterfaceId,
+    name: String,
+    uses: IndexMap<String, UsedType>,
+    exports: &IndexMap<String, ItemKind>,
+) -> Result<InterfaceId, AggregateError>
+    requires state { MayTake types.now state.old }
+    requires identified { identifier_at types.now (interface_key id) ≡ Some (string_bytes name) }
+    requires shared { shared_in state.old.shared.entries (class_of (string_bytes name)) ≡ Some own }
+    requires taken { MayPut types.now state.old id (named use_content uses.entries) (named (λ k. k) exports.now.entries) }
+    ensures taken { MatchResult result (λ r. Takes types.now state.old state.new (height types.now (interface_key id)) (interface_key id ∷ []) (λ t. IsTakenKey class_of types.now t (interface_key id) (interface_key r))) (MayRefuse types.now state.old (interface_key id ∷ [])) }
+    ensures members { AnswersMembers result types.now state.old state.new (ReachesByUses types.now id) }
+{
+    let alloc = state.alloc();
+    let mut entry = state.types[own].clone()?;
+    // A name stands once in a map, so that what stands under it is what a look-up finds.
+    names_in_an_interface_are_distinct(&entry);
+    check_uses(alloc, &state.types, &entry.uses, &uses)?;
+    add_new(&mut entry.uses, uses)?;
+    let place = place_of(state, &name)?;
+    meet_exports(alloc, &place, &mut state.types, &mut entry.exports, exports)?;
+    // So it does in the maps that were added to.
+    names_in_an_interface_are_distinct(&entry);
+    replace(&mut state.types, own, entry, name)?;
+    state.taken.put_interface(id, own)?;
+    Ok(own)
+}
+
+// Puts exports among those of an entry; what stands there under the name of one is met with it.
+fn meet_exports(
+    alloc: Global,
+    place: &Place,
+    types: &mut Types,
+    existing: &mut IndexMap<String, ItemKind>,
+    exports: &IndexMap<String, ItemKind>,
+) -> Result<(), AggregateError>
+    requires existing { AllStand types.old (extern_keys (extern_list existing.old)) }
+    requires new { AllStand types.old (extern_keys (extern_list exports.now)) }
+    ensures met { MatchResult result (λ u. AreMetWith types.old types.new (extern_list existing.old) (extern_list exports.now) (extern_list existing.new)) (AreRefusedItems types.old (extern_list existing.old) (extern_list exports.now)) }
+    ensures found { AreFound (extern_list exports.now) }
+{
+    for (name, kind) in exports {
+        meet_export(alloc, place, types, existing, name, *kind)?;
+    }
+    Ok(())
+}
+
+// The same of one export.
+fn meet_export(
+    alloc: Global,
+    place: &Place,
+    types: &mut Types,
+    existing: &mut IndexMap<String, ItemKind>,
+    name: &String,
+    kind: ItemKind,
+) -> Result<(), AggregateError>
+    requires existing { AllStand types.old (extern_keys (extern_list existing.old)) }
+    requires new { AllStand types.old (item_keys kind) }
+    ensures { MatchResult result (λ u. AreMetWith types.old types.new (extern_list existing.old) ((string_bytes name.now, kind) ∷ []) (extern_list existing.new)) (AreRefusedItems types.old (extern_list existing.old) ((string_bytes name.now, kind) ∷ [])) }
+{
+    let Some(other) = extern_named(existing, name) else {
+        put_extern(existing, name, kind)?;
+        return Ok(());
+    };
+    let met = meet_items(alloc, place, types, name, other, kind)?;
+    put_extern(existing, name, met)?;
+    Ok(())
+}
+
+// The meet of an export of an interface with another under its name. Two interfaces or two worlds
+// may not disagree in what they use.
+fn meet_items(
+    alloc: Global,
+    place: &Place,
+    types: &mut Types,
+    name: &String,
+    existing: ItemKind,
+    kind: ItemKind,
+) -> Result<ItemKind, AggregateError>
+    requires existing { AllStand types.old (item_keys existing) }
+    requires new { AllStand types.old (item_keys kind) }
+    ensures { MatchResult result (IsOwnMeet types.old types.new existing kind) (IsMergeRefusal types.old existing kind) }
+{
+    check_uses_of(alloc, types, existing, kind)?;
+    match meet_own(alloc, types, existing, kind)? {
+        Some(met) => Ok(met),
+        None => {
+            let frames = frames_to(alloc, place, name)?;
+            Err(mismatch(alloc, types, place.check, frames, existing, kind)?)
+        }
+    }
+}
+
+// The frames to an export.
+fn frames_to(alloc: Global, place: &Place, export: &String) -> Result<Vec<MergeFrame>, AllocError> {
+    let mut frames = Vec::new(alloc);
+    if let Some(interface) = &place.interface {
+        frames.push(MergeFrame::Interface(interface.clone()?))?;
+    }
+    frames.push(MergeFrame::Export(export.clone()?))?;
+    Ok(frames)
+}
+
+// Puts an interface in the place of a shared one.
+fn replace(
+    types: &mut Types,
+    own: InterfaceId,
+    entry: Interface,
+    interface: String,
+) -> Result<(), AggregateError>
+    requires own { Stands types.old (interface_key own) }
+    requires named { AllStand types.old (interface_keys (interface_content entry)) }
+    ensures grown { OnOk result (types.new ≡ grown types.old own (interface_content entry)) }
+    ensures acyclic { OnOk result (¬ (NamesReach types.old (interface_keys (interface_content entry)) (interface_key own))) }
+    ensures cycle { IfErr result (λ e. e ≢ Memory → NamesReach types.old (interface_keys (interface_content entry)) (interface_key own) × (said e ≡ Some (closes (string_bytes interface)))) }
+{
+    match types.replace_interface(own, entry) {
+        Ok(()) => Ok(()),
+        Err(ReplaceError::Cycle(_)) => Err(AggregateError::Cycle { interface }),
+        Err(ReplaceError::Memory(_)) => Err(AggregateError::Memory),
+        Err(ReplaceError::Limits(_)) => unreachable!(),
+    }
+}

@@ -1,6 +1,0 @@
-use Rattle.std.proofs.Common.{take}
-use Rattle.wac_alike.specs.Parts.{AreTracks}
-use Rattle.wac_alike.proofs.owners.owner_tracks.Given as goal
-
-abbrev pub invariant-loop-id : goal.invariant-loop-id
-invariant-loop-id l = AreTracks l.types (take l.id-index l.resources) l.tracks.keys
