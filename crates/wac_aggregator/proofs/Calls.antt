@@ -132,7 +132,7 @@ module _ (call : Call) (a mid : Merging) (own : ItemKind) (may : MayTake call.ty
     }
 
 -- what is told of a mismatch changes nothing else
-module _ (a : Merging) (told : Option (String Global)) where
+module _ (a : Merging) (told : Option Id) where
   pub told_may : (f : Collection) → MayTake f a → MayTake f (record a { handed_in = told })
   told_may f h = record { apart = h.apart; kept = h.kept; truly = h.truly; filed = h.filed }
 

@@ -82,7 +82,7 @@ pub member_memory : (f : Collection) (P : Id → Type 0) (taken : TakenIds) (e :
 member_memory f P taken e memory r says merging = let none : None ≡ Some r = ap said (sym memory) ∙ says in absurd (cc)
 
 -- what is told of a mismatch changes nothing else
-module _ (f : Collection) (a b : Merging) (told : Option (String Global)) where
+module _ (f : Collection) (a b : Merging) (told : Option Id) where
   pub told_hand : (call : Call) (i : Id) → MayHandIn call a i → MayHandIn call (record a { handed_in = told }) i
   told_hand call i h = record { named = h.named; import = h.import }
 

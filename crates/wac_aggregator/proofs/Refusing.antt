@@ -1,10 +1,11 @@
 -- Why a call is refused.
-use Rattle.std.proofs.Common.{◌≡◌, ◌⊎◌, inl, inr, Option, Some, None, IsSome, String, Global, refl, ap, sym, subst, ◌∙◌}
+use Rattle.std.proofs.Common.{◌≡◌, ◌⊎◌, inl, inr, Option, Some, None, IsSome, refl, ap, sym, subst, ◌∙◌}
 use Rattle.std.specs.Option.{option_map}
 use Rattle.wac_model.specs.Desc.{item_desc}
 use Rattle.wac_model.specs.ItemTree.{ItemTree}
 use Rattle.wac_model.specs.Order.{Fits}
 use Rattle.wac_component.specs.Height.{keys_height}
+use Rattle.wac_component.specs.Id.{Id}
 use Rattle.wac_component.specs.Key.{item_keys, interface_key}
 use Rattle.wac_component.specs.Tree.{item_tree}
 use Rattle.wac_component.specs.declared.items.ItemKind.{ItemKind}
@@ -122,7 +123,7 @@ module _ (call : Call) (a mid : Merging) (own : ItemKind) (may : MayTake call.ty
     not_merged h ne = record { plain = λ p. plain_apart p (h ne); reason = λ try. clash_reason try (h ne) }
 
 -- what is told of a mismatch changes nothing else
-pub told_refused : (a : Merging) (told : Option (String Global)) (call : Call) (e : AggregateError) → IsRefusedCall call (record a { handed_in = told }) e → IsRefusedCall call a e
+pub told_refused : (a : Merging) (told : Option Id) (call : Call) (e : AggregateError) → IsRefusedCall call (record a { handed_in = told }) e → IsRefusedCall call a e
 told_refused a told call e h ne =
     let r = h ne in
     record { plain = λ p. let n = r.plain p in record { import = n.import; stood = n.stood; no_bound = n.no_bound }; reason = λ try. r.reason (record { sound = try.sound; held = try.held; split = try.split }) }

@@ -23,7 +23,7 @@ use super::noting::note_import;
 use std::alloc::AllocError;
 use wac_aggregator_errors::AggregateError;
 use wac_aggregator_taking::{Merging, take_item};
-use wac_component::{ItemKind, Type, Types};
+use wac_component::{ItemKind, Types};
 use wac_names::NameClass;
 
 /// Imports an item under a name, and notes what is told of a mismatch.
@@ -38,29 +38,15 @@ pub(crate) fn advance(
     ensures advances { MatchResult result (λ u. Advances (record { name = name.now; types = types.now; kind = kind }) state.old state.new) (IsRefusedCall (record { name = name.now; types = types.now; kind = kind }) state.old) }
     ensures members { (i : Id) → MayHandIn (record { name = name.now; types = types.now; kind = kind }) state.old i → AnswersMembers result types.now state.old state.new (ReachesByUses types.now i) }
 {
-    match note_handed_in(state, types, &kind) {
-        Ok(()) => import(state, name, types, kind),
-        Err(_) => Err(AggregateError::Memory),
-    }
+    note_handed_in(state, &kind);
+    import(state, name, types, kind)
 }
 
-// Notes the identifier of what is handed in, for what is told of a mismatch.
-fn note_handed_in(state: &mut Merging, types: &Types, kind: &ItemKind) -> Result<(), AllocError>
-    requires { AllStand types.now (item_keys kind.now) }
+// Notes the interface that is handed in, for what is told of a mismatch.
+fn note_handed_in(state: &mut Merging, kind: &ItemKind)
     ensures { state.new ≡ record state.old { handed_in = state.new.handed_in } }
 {
-    state.handed_in = identifier_of(types, *kind)?;
-    Ok(())
-}
-
-// The identifier of an interface, if the item is one and has one.
-fn identifier_of(types: &Types, kind: ItemKind) -> Result<Option<String>, AllocError>
-    requires { AllStand types.now (item_keys kind) }
-{
-    let Type::Interface(id) = kind.ty() else {
-        return Ok(None);
-    };
-    types[id].id.clone()
+    state.handed_in = as_interface(kind);
 }
 
 // Imports an item under a name: into the import on the name's track, if there is one.

@@ -28,15 +28,15 @@ use Rattle.wac_aggregator_copies.proofs.CopyLemmas.{noted_of}
 use Rattle.wac_aggregator_copies.proofs.Parts.{item_of_copy, item_of_value, type_of_value, borrow_of_copy, own_of_copy, defined_of_copy, alias_of_copies}
 
 module _ {V W : Type 0} (P : Key → Type 0) (R : V → W → Type 0) (g : V → W) (keys : V → List Key) (one : (v : V) → Each P (keys v) → R v (g v)) where
-  mapped_with : (es : List (Text × V)) → Each P (named_keys keys es) → AreMapped R es (with_values g es)
+  pub mapped_with : (es : List (Text × V)) → Each P (named_keys keys es) → AreMapped R es (with_values g es)
   mapped_with [] h = mapped.none
   mapped_with (e ∷ es) h = mapped.one (one e.1 (Each-left P (keys e.1) (named_keys keys es) h)) (mapped_with es (Each-right P (keys e.1) (named_keys keys es) h))
 
-  listed_with : (vs : List V) → Each P (flat_map keys vs) → AreValuesPaired R vs (map g vs)
+  pub listed_with : (vs : List V) → Each P (flat_map keys vs) → AreValuesPaired R vs (map g vs)
   listed_with [] h = listed.none
   listed_with (v ∷ vs) h = listed.one (one v (Each-left P (keys v) (flat_map keys vs) h)) (listed_with vs (Each-right P (keys v) (flat_map keys vs) h))
 
-  any_with : (o : Option V) → Each P (optional_keys keys o) → IfAny R o (option_map g o)
+  pub any_with : (o : Option V) → Each P (optional_keys keys o) → IfAny R o (option_map g o)
   any_with None h = neither
   any_with (Some v) h = both (one v h)
 

@@ -3,6 +3,5 @@
 #![tactic(auto)]
 
 mod copies;
-pub mod places;
 
 pub use copies::{copy_externs, copy_item};

@@ -250,7 +250,7 @@ module _ (f : Collection) (s t : State) (theirs ours : Key) (rs : List Id) (soun
 
 -- the owners are below the type
 module _ (f : Collection) (sound : IsSound f) where
-  opens_lower : (k t : Key) → Stands f k → OpenReaches f k t → height f t ≤ height f k
+  pub opens_lower : (k t : Key) → Stands f k → OpenReaches f k t → height f t ≤ height f k
   opens_lower k t st stay = omega arith
   opens_lower k t st (step {j = j} m w) = omega (arith, opens_lower j t (opens_stand f sound k j st (step m stay)) w, next_below f k j sound st (open_in_next f k j m))
 
@@ -415,7 +415,7 @@ Takes-nearest f near nearest a b top ks Q may h g = Takes-near f (near_keys near
 abbrev pub AreFirstTaken : Collection → ℕ → List Id → State → Type 0
 AreFirstTaken f i rs s = (j : ℕ) (r : Id) → j < i → slice_get rs j ≡ Some r → (o : Option Id) × IsTakenOwner f (owner_at f r) o s
 
-less_or_same : (j i : ℕ) → j < i + 1 → (j < i) ⊎ (j ≡ i)
+pub less_or_same : (j i : ℕ) → j < i + 1 → (j < i) ⊎ (j ≡ i)
 less_or_same zero zero low = inr refl
 less_or_same zero (suc i) low = inl (omega arith)
 less_or_same (suc j) zero low = absurd (omega (arith, low))

@@ -1,6 +1,4 @@
 pub mod PartHeights
-pub mod Placed
-pub mod Contents
 pub mod TakeLemmas
 pub mod GrowLemmas
 pub mod GrowAccounts
@@ -8,7 +6,11 @@ pub mod MergeReasons
 pub mod Grows
 pub mod GrowReasons
 pub mod Parts
-pub mod Arms
+pub mod Taken
+pub mod Made
+pub mod StepLemmas
+pub mod StepAnswers
+pub mod ReadyLemmas
 pub mod Enters
 pub mod Within
 pub mod Alike

@@ -1,45 +1,34 @@
 -- Interfaces as WIT gives them are taken in one after another.
-use Rattle.std.proofs.Common.{◌≡◌, inl, inr, is_some, Result, [], arith, IsSome, Contains, List, Option, Some, None, refl, ap, sym, subst, ◌∙◌, slice_get}
-use Rattle.std.proofs.lemmas.Result.{MatchResult-weaker}
+use Rattle.std.proofs.Common.{◌≡◌, inl, inr, is_some, IsSome, Contains, Option, Some, None, refl, ap, sym, subst, ◌∙◌}
 use Rattle.wac_model.specs.Text.{Text}
-use Rattle.wac_component.specs.Collection.{Collection, UseContent, InterfaceContent}
-use Rattle.std.specs.Option.{option_map_or}
-use Rattle.wac_component.specs.Entries.{entry_uses, identifier_at, uses_at}
+use Rattle.wac_component.specs.Collection.{Collection}
+use Rattle.wac_component.specs.Entries.{identifier_at}
 use Rattle.wac_component.specs.Id.{Id}
 use Rattle.wac_component.specs.Implicit.{identifier, HasIdentifier}
-use Rattle.wac_component.specs.Key.{Key, Stands, next, optional_keys, entry_keys, item_keys, named_keys, use_keys, interface_key}
+use Rattle.wac_component.specs.Key.{Key, interface_key}
 use Rattle.wac_component.specs.Open.{open_next, OpenReaches, stay, step}
-use Rattle.wac_component.specs.Reach as reach
-use Rattle.wac_component.specs.Reach.{IsAmong, Reaches}
-use Rattle.wac_component.specs.Sound.{IsSound}
-use Rattle.wac_component.proofs.Among.{among_right, Contains-cases}
-use Rattle.wac_component.proofs.Reading.{interface_at}
-use Rattle.wac_component.proofs.OpenWalks.{opens_reach}
-use Rattle.wac_component.proofs.Walks.{no_walk_returns}
+use Rattle.wac_component.specs.Reach.{IsAmong}
 use Rattle.wac_names.specs.Class.{Class, class_of}
 use Rattle.wac_aggregator_promises.specs.Entries.{Uses, ReachesByUses}
 use Rattle.wac_aggregator_promises.specs.Reason.{CallRefusal, kinds, mismatch, unexplained, used_interface, used_name, no_identifier, owner_without_identifier, taken as is_taken, cycle}
 use Rattle.wac_aggregator_promises.specs.Shared.{TakenIds, AreShared}
 use Rattle.wac_aggregator_promises.specs.WitList.{AreWit}
-use Rattle.wac_aggregator_promises.proofs.ByUses.{ByUses-trans, by_uses}
+use Rattle.wac_aggregator_promises.proofs.ByUses.{ByUses-trans}
 use Rattle.wac_aggregator_promises.proofs.Read.{use_opens}
 use Rattle.wac_aggregator_promises.proofs.TakenIn.{sharing_goes_on}
 use Rattle.wac_component.specs.Memo.{memo_of}
 use Rattle.wac_aggregator_narrowing.specs.State.{IsOneWith, IsStateKept, RunsTaking}
 use Rattle.wac_aggregator_narrowing.specs.Remembers.{RemembersTruly}
 use Rattle.wac_aggregator_narrowing.specs.Laws.{IsArrowed}
-use Rattle.wac_aggregator_narrowing.specs.Taking.{AreMapped, none as none_mapped, one as one_mapped, IsClosedIn}
 use Rattle.wac_aggregator_narrowing.specs.Traced.{Arrows}
 use Rattle.wac_aggregator_narrowing.proofs.Tracing.{traced_added}
 use Rattle.wac_aggregator_reasons.proofs.Moving.{identifier_is}
 use Rattle.wac_aggregator_errors.specs.declared.error.AggregateError.{AggregateError}
-use Rattle.wac_aggregator_taking.specs.Members.{HasTakenIn, HasAllOf, roots_of, AreMore, TakesMembers, Hinders, at_entry, in_cycle, IsOfMerging, IsMemberRefusal, AnswersMembers, IsUsedBy}
+use Rattle.wac_aggregator_taking.specs.Members.{HasTakenIn, HasAllOf, roots_of, AreMore, TakesMembers, Hinders, at_entry, in_cycle, IsOfMerging, IsMemberRefusal}
 use Rattle.wac_aggregator_errors.specs.Said.{said}
-use Rattle.wac_aggregator_errors.proofs.Saying.{not_memory}
-use Rattle.wac_aggregator_taking.specs.Refused.{IsOfUnidentified, IsRefusedBy}
-use Rattle.wac_aggregator_taking.specs.Takes.{AreKnown, OnlyGrows, IsOwnUse, MayTake, shared_in, shared_keys, state_of}
+use Rattle.wac_aggregator_taking.specs.Refused.{IsOfUnidentified}
+use Rattle.wac_aggregator_taking.specs.Takes.{OnlyGrows, shared_in, shared_keys, state_of}
 use Rattle.wac_aggregator_taking.specs.declared.state.Merging.{Merging}
-use Rattle.wac_aggregator_taking.proofs.Identifiers.{is_interface}
 
 -- ---- sets of interfaces
 
@@ -55,9 +44,6 @@ wit_within f P Q within closed wit = record {
 -- what an interface reaches by uses is closed under them, and so is what some uses reach
 pub reached_closed : (f : Collection) (i : Id) → (j k : Id) → ReachesByUses f i j → Uses f j k → ReachesByUses f i k
 reached_closed f i j k walk uses = ByUses-trans walk (ReachesByUses.step uses ReachesByUses.stay)
-
-pub used_closed : (f : Collection) (us : List (Text × UseContent)) → (j k : Id) → IsUsedBy f us j → Uses f j k → IsUsedBy f us k
-used_closed f us j k u uses = record { name = u.name; content = u.content; among = u.among; walk = reached_closed f u.content.interface j k u.walk uses }
 
 -- ---- more of them
 
@@ -155,54 +141,3 @@ member_refused_unidentified f P taken e h r says merging = absurd (apart r (h r 
 pub openly_by_uses : (f : Collection) (i j : Id) → ReachesByUses f i j → OpenReaches f (interface_key i) (interface_key j)
 openly_by_uses f i j ReachesByUses.stay = stay
 openly_by_uses f i j (ReachesByUses.step {j = o} u v) = step (subst (λ x. IsAmong (interface_key x) (open_next f (interface_key i))) u.is_of (use_opens f (interface_key i) u.name u.content u.has)) (openly_by_uses f o j v)
-
--- once the interfaces that one uses were taken in, so is each with an identifier
--- to which its exports openly lead
-pub exports_known : (f : Collection) (b : Merging) (p : Id) (ks : List Key) → IsSound f → Stands f (interface_key p) → ((k : Key) → IsAmong k ks → IsAmong k (next f (interface_key p))) → AreWit f (ReachesByUses f p)
-    → ((j : Id) → Uses f p j → ((o : Key) × (memo_of b.taken (interface_key j) ≡ Some o)) × IsClosedIn f (memo_of b.taken) (interface_key j)) → AreKnown f b ks
-exports_known f b p ks sound stands parts wit used t n w is =
-    let at = is_interface f t n is in
-    let walk : Reaches f w.0 (interface_key t.id) = subst (Reaches f w.0) at (opens_reach f w.0 t w.2) in
-    by_walk (by_uses f (ReachesByUses f p) wit p t.id ReachesByUses.stay (reach.step (parts w.0 w.1) walk)) at walk
-  where
-    by_walk : {q : Id} → ReachesByUses f p q → t ≡ interface_key q → Reaches f w.0 (interface_key q) → (o : Key) × (memo_of b.taken t ≡ Some o)
-    by_walk ReachesByUses.stay at walk = absurd (no_walk_returns f sound (interface_key p) w.0 stands (parts w.0 w.1) walk)
-    by_walk (ReachesByUses.step {j = j} u v) at walk = (used j u).1 t n (subst (OpenReaches f (interface_key j)) (sym at) (openly_by_uses f j _ v)) is
-
-pub known_refused : (near : List Key) (f : Collection) (a : Merging) (ks : List Key) (e : AggregateError) (P : Id → Type 0) (taken : TakenIds) → IsRefusedBy near f a ks e → AreKnown f a ks → IsMemberRefusal f P taken e
-known_refused near f a ks e P taken h known = member_refused_unidentified f P taken e (λ r says. (h (not_memory e r says)).known known r says)
-
--- ---- an interface, after what it uses
-
-module _ (f : Collection) (p : Id) (x : InterfaceContent) (sound : IsSound f) (stands : Stands f (interface_key p)) (entry : slice_get f.interfaces p.index ≡ Some x) where
-  content_uses : uses_at f (interface_key p) ≡ x.uses
-  content_uses = ap (λ o. option_map_or entry_uses o []) (interface_at f p x entry)
-
-  -- what one of its uses reaches it reaches
-  pub used_from : (i : Id) → IsUsedBy f x.uses i → ReachesByUses f p i
-  used_from i u = ReachesByUses.step (record { name = u.name; content = u.content; has = subst (λ l. Contains l (u.name, u.content)) (sym content_uses) u.among; is_of = refl }) u.walk
-
-  -- where its uses were taken in, what its exports lead to is known
-  pub content_known : (u : Merging) (us : List (Text × UseContent)) → AreWit f (ReachesByUses f p) → AreMapped (IsOwnUse f (state_of u)) x.uses us → AreKnown f u (named_keys item_keys x.exports)
-  content_known u us wit mapped = exports_known f u p (named_keys item_keys x.exports) sound stands
-      (λ k m. subst (λ o. IsAmong k (optional_keys entry_keys o)) (sym (interface_at f p x entry)) (among_right (named_keys use_keys x.uses) (named_keys item_keys x.exports) m)) wit
-      (λ j uses. subst (λ i. ((o : Key) × (memo_of u.taken (interface_key i) ≡ Some o)) × IsClosedIn f (memo_of u.taken) (interface_key i)) uses.is_of
-      (used_at x.uses us mapped uses.name uses.content (subst (λ l. Contains l (uses.name, uses.content)) content_uses uses.has)))
-    where
-      used_at : (vs ws : List (Text × UseContent)) → AreMapped (IsOwnUse f (state_of u)) vs ws → (n : Text) (v : UseContent) → Contains vs (n, v) → ((o : Key) × (memo_of u.taken (interface_key v.interface) ≡ Some o)) × IsClosedIn f (memo_of u.taken) (interface_key v.interface)
-      used_at [] [] none_mapped n v m = absurd (omega (arith, m.1))
-      used_at _ _ (one_mapped {n = q} {x = y} {y = z} {xs = ys} {ys = zs} h rest) n v m =
-          elim (Contains-cases (n, v) (q, y) ys m) [
-            | inl same ↦ subst (λ (e : Text × UseContent). ((o : Key) × (memo_of u.taken (interface_key e.1.interface) ≡ Some o)) × IsClosedIn f (memo_of u.taken) (interface_key e.1.interface)) same ((interface_key z.interface, h.interface.noted), h.interface.closed)
-            | inr later ↦ used_at ys zs rest n v later
-          ]
-
-  -- its uses are taken in, then its exports, by which entries are only added, then itself
-  pub interface_members : {T : Type 0} (answer : Result T AggregateError) (a u w b : Merging) (us : List (Text × UseContent)) → MayTake f a → RunsTaking (RemembersTruly class_of) f (state_of a) (state_of u) → AreMapped (IsOwnUse f (state_of u)) x.uses us
-      → ((taken : TakenIds) → AreWit f (IsUsedBy f x.uses) → HasTakenIn a taken → HasAllOf f a taken → TakesMembers f a u (IsUsedBy f x.uses) taken)
-      → RunsTaking (RemembersTruly class_of) f (state_of u) (state_of w) → (AreKnown f u (named_keys item_keys x.exports) → OnlyGrows f u w) → AnswersMembers answer f w b (ReachesByUses f p) → AnswersMembers answer f a b (ReachesByUses f p)
-  interface_members answer a u w b us may first mapped uses then grows last taken wit has all =
-      let P : Id → Type 0 = ReachesByUses f p in
-      let g = TakesMembers-within f a u P (IsUsedBy f x.uses) taken used_from (uses taken (wit_within f P (IsUsedBy f x.uses) used_from (used_closed f x.uses) wit) has all) in
-      let h = TakesMembers-then f a u w P taken g (TakesMembers-grown f u w P g.more (first.kept may.kept) then (grows (content_known u us wit mapped)) g.has) in
-      MatchResult-weaker answer (last h.more wit h.has (h.all f (λ e. refl) all)) (λ r k. TakesMembers-then f a w b P taken h k) (λ e k. member_refused_after f P taken h.more e h.are_more k)

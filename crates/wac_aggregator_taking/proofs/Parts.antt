@@ -21,7 +21,6 @@ use Rattle.wac_names.specs.Class.{class_of}
 use Rattle.wac_aggregator_narrowing.specs.Taking.{AreMapped, AreTakenKeys, no_keys, one_key, IsTakenKey, IsTakenItem}
 use Rattle.wac_aggregator_narrowing.specs.Values.{IsTakenValue, IfAny, neither, both}
 use Rattle.wac_aggregator_narrowing.proofs.Mapped.{mapped_more, taken_append, taken_key_still, taken_item_still}
-use Rattle.wac_aggregator_narrowing.proofs.Values.{any_more, taken_value_still}
 use Rattle.wac_aggregator_taking.specs.Takes.{IsTakenAlias, IsTakenOwner, IsOwnUse}
 
 module _ (f : Collection) (t : State) where
@@ -112,9 +111,3 @@ module _ (f : Collection) (s t : State) (kept : IsStateKept s) (IsTrue : Collect
 
   pub items_still : (xs ys : List (Text × ItemKind)) → AreMapped (IsTakenItem class_of f s) xs ys → AreMapped (IsTakenItem class_of f t) xs ys
   items_still xs ys m = mapped_more (IsTakenItem class_of f s) (IsTakenItem class_of f t) (taken_item_still class_of f s t kept IsTrue e run) xs ys m
-
-  pub values_still : (xs ys : List (Text × ValueType)) → AreMapped (IsTakenValue class_of f s) xs ys → AreMapped (IsTakenValue class_of f t) xs ys
-  values_still xs ys m = mapped_more (IsTakenValue class_of f s) (IsTakenValue class_of f t) (taken_value_still class_of f s t kept IsTrue e run) xs ys m
-
-  pub option_still : (o q : Option ValueType) → IfAny (IsTakenValue class_of f s) o q → IfAny (IsTakenValue class_of f t) o q
-  option_still o q h = any_more (IsTakenValue class_of f s) (IsTakenValue class_of f t) (taken_value_still class_of f s t kept IsTrue e run) o q h

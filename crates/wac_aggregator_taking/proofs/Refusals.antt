@@ -7,10 +7,8 @@ use Rattle.wac_component.specs.Entries.{uses_at, owner_at}
 use Rattle.wac_component.specs.Id.{Id}
 use Rattle.wac_component.specs.Implicit.{identifier}
 use Rattle.wac_component.specs.Key.{Key, named_keys, use_keys, interface_key, resource_key}
-use Rattle.wac_component.specs.Open.{open_next, stay as stay_open, step}
 use Rattle.wac_component.specs.Reach.{IsAmong, here, there, stay}
-use Rattle.wac_component.proofs.Among.{among_each, Contains-first, Contains-later}
-use Rattle.wac_aggregator_promises.proofs.Read.{use_opens}
+use Rattle.wac_component.proofs.Among.{Contains-first, Contains-later}
 use Rattle.wac_aggregator_promises.specs.Attempt.{Attempt}
 use Rattle.wac_aggregator_promises.specs.Reason.{no_identifier, owner_without_identifier, IsReason}
 use Rattle.wac_aggregator_narrowing.specs.State.{State}
@@ -19,7 +17,7 @@ use Rattle.wac_aggregator_errors.specs.declared.error.AggregateError.{AggregateE
 use Rattle.wac_aggregator_errors.specs.Said.{said}
 use Rattle.wac_aggregator_errors.proofs.Passing.{passed_on}
 use Rattle.wac_aggregator_taking.specs.Refused.{IsOfUnidentified, IsRefusedBy, MayRefuse, AreRefusedUses}
-use Rattle.wac_aggregator_taking.specs.Takes.{state_of, AreNear, MayTake, AreWithin, OpenlyFrom, TakesBy}
+use Rattle.wac_aggregator_taking.specs.Takes.{state_of, AreNear, MayTake, AreWithin, TakesBy}
 use Rattle.wac_aggregator_taking.specs.declared.state.Merging.{Merging}
 use Rattle.wac_aggregator_taking.proofs.Plain.{plain_within, contains_at}
 use Rattle.wac_aggregator_taking.proofs.TakeLemmas.{known_within, known_still, trial_within, near_still, near_none}
@@ -59,15 +57,6 @@ module _ (f : Collection) where
 pub refused_part : {X : Type 0} {near : List Key} (f : Collection) (a : Merging) (ks js : List Key) (r : Result X AggregateError) (P : X → Type 0) (e : AggregateError) → AreWithin f ks js → IsRefusedBy near f a ks e → IsErr r × IsErrAnd r (λ y. y ≡ e) → MatchResult r P (IsRefusedBy near f a js)
 refused_part {near = near} f a ks js r P e within h err = passed_on r P (IsRefusedBy near f a js) e err (refused_within f a ks js e within h)
 
--- the same where the part is the whole, whatever is near
-pub refused_item : {X : Type 0} (near : List Key) (f : Collection) (a : Merging) (ks js : List Key) (r : Result X AggregateError) (P : X → Type 0) (e : AggregateError) → js ≡ ks → MayRefuse f a ks e → IsErr r × IsErrAnd r (λ y. y ≡ e) → MatchResult r P (IsRefusedBy near f a js)
-refused_item near f a ks js r P e same h err = passed_on r P (IsRefusedBy near f a js) e err (subst (λ l. IsRefusedBy near f a l e) (sym same) (refused_apart f a ks e h))
-
--- the same, after others were taken in
-pub refused_then : {X : Type 0} {near : List Key} (f : Collection) (a b : Merging) (top : ℕ) (ls ks js : List Key) (Q : State → Type 0) (r : Result X AggregateError) (P : X → Type 0) (e : AggregateError) → AreWithin f ls js → AreWithin f ks js → MayTake f a → TakesBy near f a b top ls Q → IsRefusedBy near f b ks e
-    → IsErr r × IsErrAnd r (λ y. y ≡ e) → MatchResult r P (IsRefusedBy near f a js)
-refused_then {near = near} f a b top ls ks js Q r P e first within may g h err = passed_on r P (IsRefusedBy near f a js) e err (refused_later f a b top ls ks js Q e first within may g h)
-
 -- what an interface or a world uses is refused as it is itself
 pub refused_uses : {X : Type 0} (near : List Key) (f : Collection) (a : Merging) (k : Key) (us : List (Text × UseContent)) (r : Result X AggregateError) (P : X → Type 0) (e : AggregateError) → uses_at f k ≡ us → AreRefusedUses f a us e → IsErr r × IsErrAnd r (λ y. y ≡ e) → MatchResult r P (IsRefusedBy near f a (k ∷ []))
 refused_uses near f a k us r P e are h err = passed_on r P (IsRefusedBy near f a (k ∷ [])) e err (refused_apart f a (k ∷ []) e (h k are))
@@ -77,11 +66,6 @@ pub among_uses : (us : List (Text × UseContent)) (j : Key) → IsAmong j (named
 among_uses [] j m = elim m [ ]
 among_uses ((n, u) ∷ us) j here = (n, u, Contains-first (n, u) us, refl)
 among_uses ((n, u) ∷ us) j (there m) = let r = among_uses us j m in (r.0, r.1, Contains-later (r.0, r.1) (n, u) us r.2, r.3)
-
-pub uses_within : (f : Collection) (k : Key) (us : List (Text × UseContent)) → uses_at f k ≡ us → AreWithin f (named_keys use_keys us) (k ∷ [])
-uses_within f k us are j m =
-    let r = among_uses us j m in
-    (k, here, step (subst (λ i. IsAmong i (open_next f k)) r.3 (use_opens f k r.0 r.1 (subst (λ vs. Contains vs (r.0, r.1)) (sym are) r.2))) stay_open)
 
 -- a resource whose owner has no identifier
 pub refused_owner : (f : Collection) (a : Merging) (r o : Id) (x : ResourceContent) (e : AggregateError) → slice_get f.resources r.index ≡ Some x → owner_at f r ≡ Some o → identifier f o ≡ None → said e ≡ Some (owner_without_identifier x.name) → MayRefuse f a (resource_key r ∷ []) e
@@ -115,9 +99,3 @@ refused_use f a us i name u e at none says k are ne = record {
         unidentified = subst (λ c. identifier c u.interface ≡ None) (sym trial.types) none;
       });
 }
-
--- what refuses a used interface refuses the entry
-pub refused_used : (f : Collection) (a : Merging) (us : List (Text × UseContent)) (i : ℕ) (name : Text) (u : UseContent) (e : AggregateError) → slice_get us i ≡ Some (name, u) → MayRefuse f a (interface_key u.interface ∷ []) e → AreRefusedUses f a us e
-refused_used f a us i name u e at h k are =
-    let opens = use_opens f k name u (subst (λ vs. Contains vs (name, u)) (sym are) (contains_at us i (name, u) at)) in
-    refused_within f a (interface_key u.interface ∷ []) (k ∷ []) e (λ j m. among_each (OpenlyFrom f (k ∷ [])) j (interface_key u.interface ∷ []) m ((k, here, step opens stay_open), tt)) h

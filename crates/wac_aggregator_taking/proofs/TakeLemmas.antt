@@ -241,15 +241,6 @@ module _ (f : Collection) {near : List Key} where
       Takes-more a c top top ls ls (λ t. Unit {0} × P t) P (omega arith) (within_all f ls) may (λ t kept q. q.1)
       (Takes-then a b c top top top ls ls ls (λ t. Unit {0}) P (omega arith) (omega arith) (within_all f ls) (within_all f ls) may (λ s t kept run q. q) (Takes-more a b low top ks ls Q (λ t. Unit {0}) below first may (λ t kept q. tt) g) h)
 
-  -- it was taken in before
-  pub Takes-hit : (a : Merging) (theirs own : Key) (top : ℕ) → MayTake f a → theirs.id.number ≡ f.number → memo_of a.taken theirs ≡ Some own → TakesBy near f a a top (theirs ∷ []) (λ t. IsTakenKey class_of f t theirs own)
-  Takes-hit a theirs own top may number is = Takes-none a top (theirs ∷ []) (λ t. IsTakenKey class_of f t theirs own) may record {
-    remembered = may.truly.taken theirs own is number;
-    noted = is;
-    covered = (may.kept.taken theirs own is).1;
-    closed = λ t n walk at. may.truly.closed theirs own t n is number walk at;
-  }
-
 module _ (f : Collection) where
   -- the same, where other ids are near if these are
   pub Takes-near : (near others : List Key) (a b : Merging) (top : ℕ) (ks : List Key) (Q : State → Type 0) → ((at : Attempt) → IsAccounted at (state_of a) → AreNear at a others → AreNear at a near) → TakesBy near f a b top ks Q → TakesBy others f a b top ks Q

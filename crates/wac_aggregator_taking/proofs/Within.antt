@@ -1,15 +1,14 @@
 -- Ids to which open walks lead from others.
 use Rattle.std.proofs.Common.{◌≡◌, ◌++◌, ◌∙◌, refl, zero, suc, ℕ, List, [], ◌∷◌, Option, Some, None, slice_get, String, Global, ap, sym, subst}
 use Rattle.std.specs.List.{flat_map}
-use Rattle.std.specs.Option.{option_and_then, option_map, option_to_list}
-use Rattle.wac_component.specs.declared.items.ValueType.{ValueType}
+use Rattle.std.specs.Option.{option_and_then, option_map}
 use Rattle.wac_model.specs.Text.{Text}
 use Rattle.wac_component.specs.Collection.{Collection, AliasContent, ResourceContent}
 use Rattle.wac_component.specs.Content.{named, types_of, use_content}
 use Rattle.wac_component.specs.declared.interfaces.UsedType.{UsedType}
 use Rattle.wac_component.specs.Entries.{owner_at}
 use Rattle.wac_component.specs.Id.{Id}
-use Rattle.wac_component.specs.Key.{Key, Stands, AllStand, alias_keys, optional_keys, other_keys, named_keys, value_keys, use_keys, resource_key, interface_key}
+use Rattle.wac_component.specs.Key.{Key, Stands, AllStand, alias_keys, optional_keys, other_keys, named_keys, use_keys, resource_key, interface_key}
 use Rattle.wac_component.specs.Open.{open_next, stay, step}
 use Rattle.wac_component.specs.Reach.{IsAmong, here}
 use Rattle.wac_component.proofs.Among.{among_left, among_right}
@@ -22,9 +21,6 @@ use Rattle.wac_aggregator_taking.specs.Takes.{OpenlyFrom, AreWithin, LeadsToOwne
 module _ (f : Collection) where
   pub within_all : (ks : List Key) → AreWithin f ks ks
   within_all ks k m = (k, m, stay)
-
-  pub within_same : (ks js : List Key) → ks ≡ js → AreWithin f ks js
-  within_same ks js same k m = (k, subst (IsAmong k) same m, stay)
 
   pub within_left : (ks js : List Key) → AreWithin f ks (ks ++ js)
   within_left ks js k m = (k, among_left ks js m, stay)
@@ -67,30 +63,6 @@ module _ (f : Collection) where
 
   pub alias_within : (r : Id) (a : AliasContent) → alias_at f r ≡ Some a → AreWithin f (alias_keys a) (resource_key r ∷ [])
   alias_within r a h = within_parts (resource_key r) (alias_keys a) (alias_next r a h)
-
-  pub alias_owner : (r : Id) (a : AliasContent) → alias_at f r ≡ Some a → owner_at f r ≡ a.owner
-  alias_owner r a h = at (slice_get f.resources r.index) h
-    where
-      at : (o : Option ResourceContent) → option_and_then (λ e. e.alias) o ≡ Some a → option_and_then (λ e. option_and_then (λ b. b.owner) e.alias) o ≡ a.owner
-      at None k = absurd (cc)
-      at (Some e) k = ap (option_and_then (λ (b : AliasContent). b.owner)) k
-
-  -- the members of a content
-  pub within_first : (o : Option ValueType) (vs : List ValueType) → AreWithin f (optional_keys value_keys o) (flat_map value_keys (option_to_list o ++ vs))
-  within_first None vs k m = elim m [ ]
-  within_first (Some v) vs k m = within_left (value_keys v) (flat_map value_keys vs) k m
-
-  pub within_others : (o : Option ValueType) (vs : List ValueType) → AreWithin f (flat_map value_keys vs) (flat_map value_keys (option_to_list o ++ vs))
-  within_others None vs = within_all (flat_map value_keys vs)
-  within_others (Some v) vs = within_right (value_keys v) (flat_map value_keys vs)
-
-  pub within_option : (o : Option ValueType) → AreWithin f (optional_keys value_keys o) (flat_map value_keys (option_to_list o))
-  within_option None k m = elim m [ ]
-  within_option (Some v) k m = within_left (value_keys v) [] k m
-
-  pub within_params : (es : List (String Global × ValueType)) (o : Option ValueType) → AreWithin f (flat_map value_keys (types_of es)) (named_keys value_keys (named (λ v. v) es) ++ optional_keys value_keys o)
-  within_params es o = within_trans (flat_map value_keys (types_of es)) (named_keys value_keys (named (λ v. v) es)) (named_keys value_keys (named (λ v. v) es) ++ optional_keys value_keys o)
-      (within_same (flat_map value_keys (types_of es)) (named_keys value_keys (named (λ v. v) es)) (sym (named_flat value_keys (λ v. v) es))) (within_left (named_keys value_keys (named (λ v. v) es)) (optional_keys value_keys o))
 
   pub within_used : (es : List (String Global × UsedType)) (i : ℕ) (p : Id) → option_map (λ u. u.interface) (slice_get (types_of es) i) ≡ Some p → AreWithin f (interface_key p ∷ []) (named_keys use_keys (named use_content es))
   within_used es i p at =

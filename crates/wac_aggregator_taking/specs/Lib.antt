@@ -3,3 +3,4 @@ pub mod Growing
 pub mod Serving
 pub mod Refused
 pub mod Members
+pub mod Steps

@@ -33,12 +33,16 @@ IsOfUnidentified (no_identifier used) = Unit {0}
 IsOfUnidentified (owner_without_identifier resource) = Unit {0}
 IsOfUnidentified r = ⊥
 
+-- it says so, if anything
+abbrev pub IsUnidentified : AggregateError → Type 0
+IsUnidentified e = (r : CallRefusal) → said e ≡ Some r → IsOfUnidentified r
+
 -- the ids aren't plain; where all was taken in that they openly lead to and that has an identifier,
 -- it is for the want of one; and whatever call is tried whose item openly reaches them, where all
 -- is accounted for, and what is near is open and comes from sources, there is reason
 pub record IsRefusal (near : List Key) (f : Collection) (a : Merging) (ks : List Key) (e : AggregateError) : Type 0 where
   pub plain : ¬ (ArePlain f ks)
-  pub known : AreKnown f a ks → (r : CallRefusal) → said e ≡ Some r → IsOfUnidentified r
+  pub known : AreKnown f a ks → IsUnidentified e
   pub reason : (at : Attempt) → IsTrial at f ks → IsAccounted at (state_of a) → AreNear at a near → HasReason at e
 
 -- that is so unless an allocation fails

@@ -159,6 +159,11 @@ pub record TakesBy (near : List Key) (f : Collection) (a b : Merging) (top : ℕ
 abbrev pub Takes : Collection → Merging → Merging → ℕ → List Key → (State → Type 0) → Type 0
 Takes f a b top ks Holds = TakesBy [] f a b top ks Holds
 
+-- an own interface is imported for each id that leads to an owner with an identifier on its track
+abbrev pub ImportsOwner : Merging → Merging → Id → Type 0
+ImportsOwner a b own = (f : Collection) (ks : List Key) (from : Key) (n m : Text) → MayTake f a → IsAmong from ks → LeadsToOwner f from n
+    → identifier_at a.types (interface_key own) ≡ Some m → class_of m ≡ class_of n → Takes f a b 0 ks (λ t. IsSome (t.imports n))
+
 -- what the resource is another name of, if it is
 abbrev pub alias_at : Collection → Id → Option AliasContent
 alias_at c r = option_and_then (λ e. e.alias) (slice_get c.resources r.index)

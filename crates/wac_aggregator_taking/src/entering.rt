@@ -1,6 +1,6 @@
 //! Interfaces and worlds all of whose parts were taken in.
 
-ghost use Rattle.std.specs.Prelude.{◌≡◌, [], ◌∷◌, Some, None, MatchResult, string_bytes};
+ghost use Rattle.std.specs.Prelude.{◌≡◌, [], ◌∷◌, None, Some, MatchResult, string_bytes};
 ghost use Rattle.std.specs.Option.{option_map};
 ghost use Rattle.wac_component.specs.Content.{named, use_content};
 ghost use Rattle.wac_component.specs.Entries.{identifier_at};
@@ -14,7 +14,6 @@ ghost use Rattle.wac_aggregator_taking.specs.Refused.{MayRefuse};
 ghost use Rattle.wac_aggregator_taking.specs.Takes.{MayTake, MayPut, MayPutWorld, Takes, shared_in};
 
 use super::growing::merge_shared;
-use super::identity::identifier;
 use super::state::Merging;
 use indexmap::IndexMap;
 use wac_aggregator_copies::copy_externs;
@@ -30,24 +29,33 @@ pub(crate) fn put_interface(
     types: &Types,
     id: InterfaceId,
     class: Option<NameClass>,
-    uses: IndexMap<String, UsedType>,
-    exports: IndexMap<String, ItemKind>,
+    interface: Interface,
 ) -> Result<InterfaceId, AggregateError>
     requires state { MayTake types.now state.old }
+    requires named { option_map string_bytes interface.id ≡ identifier_at types.now (interface_key id) }
     requires class { class ≡ option_map class_of (identifier_at types.now (interface_key id)) }
-    requires taken { MayPut types.now state.old id (named use_content uses.entries) (named (λ k. k) exports.entries) }
+    requires taken { MayPut types.now state.old id (named use_content interface.uses.entries) (named (λ k. k) interface.exports.entries) }
     ensures taken { MatchResult result (λ r. Takes types.now state.old state.new (height types.now (interface_key id)) (interface_key id ∷ []) (λ t. IsTakenKey class_of types.now t (interface_key id) (interface_key r))) (MayRefuse types.now state.old (interface_key id ∷ [])) }
     ensures members { AnswersMembers result types.now state.old state.new (ReachesByUses types.now id) }
 {
     let Some(class) = class else {
+        let Interface {
+            id: _,
+            uses,
+            exports,
+        } = interface;
         return put_plain(state, types, id, uses, exports);
     };
     match state.shared.get(&class).copied() {
-        Some(own) => merge_shared(state, types, id, own, uses, &exports),
-        None => {
-            let name = identifier(types, id)?;
-            put_shared(state, types, id, class, name, uses, exports)
+        Some(own) => {
+            let Interface {
+                id: _,
+                uses,
+                exports,
+            } = interface;
+            merge_shared(state, types, id, own, uses, &exports)
         }
+        None => put_shared(state, types, id, class, interface),
     }
 }
 
@@ -80,26 +88,19 @@ pub(crate) fn put_shared(
     types: &Types,
     id: InterfaceId,
     class: NameClass,
-    name: String,
-    uses: IndexMap<String, UsedType>,
-    exports: IndexMap<String, ItemKind>,
+    interface: Interface,
 ) -> Result<InterfaceId, AggregateError>
     requires state { MayTake types.now state.old }
-    requires identified { identifier_at types.now (interface_key id) ≡ Some (string_bytes name) }
-    requires of { class ≡ class_of (string_bytes name) }
+    requires named { option_map string_bytes interface.id ≡ identifier_at types.now (interface_key id) }
+    requires of { Some class ≡ option_map class_of (identifier_at types.now (interface_key id)) }
     requires new { shared_in state.old.shared.entries class ≡ None }
-    requires taken { MayPut types.now state.old id (named use_content uses.entries) (named (λ k. k) exports.entries) }
+    requires taken { MayPut types.now state.old id (named use_content interface.uses.entries) (named (λ k. k) interface.exports.entries) }
     ensures taken { MatchResult result (λ r. Takes types.now state.old state.new (height types.now (interface_key id)) (interface_key id ∷ []) (λ t. IsTakenKey class_of types.now t (interface_key id) (interface_key r))) (MayRefuse types.now state.old (interface_key id ∷ [])) }
     ensures members { AnswersMembers result types.now state.old state.new (ReachesByUses types.now id) }
 {
-    let entry = Interface {
-        id: Some(name),
-        uses,
-        exports,
-    };
     // A name stands once in a map, so that what stands under it is what a look-up finds.
-    names_in_an_interface_are_distinct(&entry);
-    let own = state.types.add_interface(entry)?;
+    names_in_an_interface_are_distinct(&interface);
+    let own = state.types.add_interface(interface)?;
     state.shared.insert(class, own)?;
     state.taken.put_interface(id, own)?;
     Ok(own)

@@ -28,7 +28,7 @@ use indexmap::IndexMap;
 use std::alloc::{AllocError, Global};
 use wac_aggregator_errors::{AggregateError, MergeFrame, check_uses, check_uses_of, mismatch};
 use wac_component::laws::names_in_an_interface_are_distinct;
-use wac_component::{Interface, InterfaceId, ItemKind, ReplaceError, Types, UsedType};
+use wac_component::{Interface, InterfaceId, ItemKind, ReplaceError, Type, Types, UsedType};
 use wac_core_merge::add_new;
 use wac_merge::{extern_named, put_extern};
 use wac_mismatch::SubtypeCheck;
@@ -43,21 +43,33 @@ struct Place {
 }
 
 // The place of the exports of an interface with this identifier.
-fn place_of(state: &Merging, name: &String) -> Result<Place, AllocError> {
+fn place_of(state: &Merging, types: &Types, name: &String) -> Result<Place, AllocError> {
     let check = state.check;
-    if let Some(handed_in) = &state.handed_in {
-        if are_semver_compatible(state.alloc(), handed_in.as_str(), name.as_str())? {
-            return Ok(Place {
-                check,
-                interface: None,
-            });
-        }
+    if is_handed_in(state, types, name)? {
+        return Ok(Place {
+            check,
+            interface: None,
+        });
     }
     let interface = name.clone()?;
     Ok(Place {
         check,
         interface: Some(interface),
     })
+}
+
+// Whether the interface that was handed in has an identifier on the track of this one.
+fn is_handed_in(state: &Merging, types: &Types, name: &String) -> Result<bool, AllocError> {
+    let Some(id) = state.handed_in else {
+        return Ok(false);
+    };
+    if !types.contains(Type::Interface(id)) {
+        return Ok(false);
+    }
+    let Some(handed_in) = &types[id].id else {
+        return Ok(false);
+    };
+    are_semver_compatible(state.alloc(), handed_in.as_str(), name.as_str())
 }
 
 // Merges an interface of which all parts were taken in into the shared entry on its track,
@@ -107,7 +119,7 @@ fn grow(
     names_in_an_interface_are_distinct(&entry);
     check_uses(alloc, &state.types, &entry.uses, &uses)?;
     add_new(&mut entry.uses, uses)?;
-    let place = place_of(state, &name)?;
+    let place = place_of(state, types, &name)?;
     meet_exports(alloc, &place, &mut state.types, &mut entry.exports, exports)?;
     // So it does in the maps that were added to.
     names_in_an_interface_are_distinct(&entry);

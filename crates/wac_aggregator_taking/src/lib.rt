@@ -2,15 +2,20 @@
 #![tactic(auto)]
 
 mod entering;
+mod entries;
 mod growing;
 mod identity;
+mod interfaces;
 mod meeting;
 mod near;
+mod noting;
 mod owners;
+mod ready;
 mod serving;
 mod state;
-mod taking;
+mod steps;
+mod worlds;
 
 pub use meeting::meet_own;
 pub use state::Merging;
-pub use taking::take_item;
+pub use steps::take_item;

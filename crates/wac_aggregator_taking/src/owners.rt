@@ -1,19 +1,22 @@
 //! The owners of resources.
 
-ghost use Rattle.std.specs.Prelude.{◌≡◌, ◌<◌, List, Some, IsSome, IfOk, IfSome, length, slice_get};
+ghost use Rattle.std.specs.Prelude.{◌≡◌, ◌<◌, [], ◌∷◌, None, Some, IsTrue, IfOk, IfErr, OnOk, IfSome, MatchResult, length, map, slice_get};
 ghost use Rattle.std.specs.Option.{option_map};
-ghost use Rattle.wac_model.specs.Text.{Text};
-ghost use Rattle.wac_component.specs.Collection.{Collection};
 ghost use Rattle.wac_component.specs.Content.{alias_content};
-ghost use Rattle.wac_component.specs.Entries.{identifier_at, owner_at};
-ghost use Rattle.wac_component.specs.Key.{Key, Stands, interface_key, resource_key};
+ghost use Rattle.wac_component.specs.Entries.{owner_at};
+ghost use Rattle.wac_component.specs.Height.{height};
+ghost use Rattle.wac_component.specs.Key.{AllStand, Stands, interface_key, resource_key};
 ghost use Rattle.wac_component.specs.Reach.{IsAmong};
-ghost use Rattle.wac_names.specs.Class.{class_of};
 ghost use Rattle.wac_aggregator_narrowing.specs.State.{IsStateKept};
-ghost use Rattle.wac_aggregator_taking.specs.Takes.{shared_keys, state_of, LeadsToOwner, MayTake, Takes, alias_at};
+ghost use Rattle.wac_aggregator_taking.specs.Members.{AnswersMembers};
+ghost use Rattle.wac_aggregator_taking.specs.Refused.{MayRefuse, IsUnidentified};
+ghost use Rattle.wac_aggregator_taking.specs.Steps.{IsReachedFrom, ArePut, AreNext, ImportsOnly, IsOwnerTold};
+ghost use Rattle.wac_aggregator_taking.specs.Takes.{ImportsOwner, shared_keys, state_of, MayTake, Takes, AreOwnersTaken, alias_at};
 
 use super::state::Merging;
+use super::steps::{TakeStep, push_before, push_step};
 use std::alloc::AllocError;
+use wac_aggregator_errors::AggregateError;
 use wac_component::{InterfaceId, ItemKind, ResourceAlias, ResourceId, Types};
 use wac_names::NameClass;
 
@@ -46,7 +49,8 @@ pub(crate) fn resource_at(resources: &Vec<ResourceId>, index: usize) -> Resource
 pub(crate) fn import_owner(state: &mut Merging, own: InterfaceId) -> Result<(), AllocError>
     requires state { IsStateKept (state_of state.old) }
     requires shared { IsAmong (interface_key own) (shared_keys state.old.shared.entries) }
-    ensures { IfOk result (λ u. (f : Collection) (ks : List Key) (from : Key) (n m : Text) → MayTake f state.old → IsAmong from ks → LeadsToOwner f from n → identifier_at state.old.types (interface_key own) ≡ Some m → class_of m ≡ class_of n → Takes f state.old state.new 0 ks (λ t. IsSome (t.imports n))) }
+    ensures imported { IfOk result (λ u. ImportsOwner state.old state.new own) }
+    ensures others { ImportsOnly state.old state.new }
 {
     let Some(name) = state.types[own].id.clone()? else {
         return Ok(());
@@ -56,5 +60,95 @@ pub(crate) fn import_owner(state: &mut Merging, own: InterfaceId) -> Result<(), 
         return Ok(());
     }
     state.imports.put(class, name, ItemKind::Instance(own))?;
+    Ok(())
+}
+
+// Imports the owner of a resource, if it has one, once that was taken in. The answer is an owner
+// that is yet to be taken in.
+pub(crate) fn import_owner_of(
+    state: &mut Merging,
+    types: &Types,
+    id: ResourceId,
+) -> Result<Option<InterfaceId>, AggregateError>
+    requires source { Stands types.now (resource_key id) }
+    requires state { MayTake types.now state.old }
+    ensures taken { MatchResult result (λ r. Takes types.now state.old state.new 0 (resource_key id ∷ []) (IsOwnerTold types.now (owner_at types.now id) r)) (MayRefuse types.now state.old (resource_key id ∷ [])) }
+    ensures unidentified { IfErr result IsUnidentified }
+    ensures others { ImportsOnly state.old state.new }
+{
+    let Some(owner) = owner_of(types, id) else {
+        return Ok(None);
+    };
+    if types[owner].id.is_none() {
+        let resource = types[id].name.clone()?;
+        return Err(AggregateError::OwnerWithoutIdentifier { resource });
+    }
+    let Some(own) = state.taken.interface(owner) else {
+        return Ok(Some(owner));
+    };
+    import_owner(state, own)?;
+    Ok(None)
+}
+
+// Imports the owners of resources, as long as they were taken in; says whether all were.
+pub(crate) fn import_owners(
+    state: &mut Merging,
+    types: &Types,
+    resources: &Vec<ResourceId>,
+) -> Result<bool, AggregateError>
+    requires source { AllStand types.now (map resource_key resources.now.items) }
+    requires state { MayTake types.now state.old }
+    ensures taken { MatchResult result (λ all. Takes types.now state.old state.new 0 (map resource_key resources.now.items) (λ t. IsTrue all → AreOwnersTaken types.now resources.now.items t)) (MayRefuse types.now state.old (map resource_key resources.now.items)) }
+    ensures unidentified { IfErr result IsUnidentified }
+    ensures others { ImportsOnly state.old state.new }
+{
+    for i in 0..resources.len() {
+        let id = resource_at(resources, i);
+        let told = match import_owner_of(state, types, id) {
+            Ok(told) => told,
+            Err(refusal) => return Err(refusal),
+        };
+        if told.is_some() {
+            return Ok(false);
+        }
+    }
+    Ok(true)
+}
+
+// Takes in the owner of a resource, if it has one, and imports it.
+pub(crate) fn take_owner(
+    state: &mut Merging,
+    types: &Types,
+    steps: &mut Vec<TakeStep>,
+    id: ResourceId,
+) -> Result<(), AggregateError>
+    requires source { Stands types.now (resource_key id) }
+    requires state { MayTake types.now state.old }
+    ensures taken { MatchResult result (λ u. Takes types.now state.old state.new (height types.now (resource_key id)) (resource_key id ∷ []) (λ t. Unit {0})) (MayRefuse types.now state.old (resource_key id ∷ [])) }
+    ensures members { AnswersMembers result types.now state.old state.new (IsReachedFrom types.now (resource_key id)) }
+    ensures steps { OnOk result (AreNext types.now state.new (resource_key id) None steps.old.items steps.new.items) }
+{
+    let told = match import_owner_of(state, types, id) {
+        Ok(told) => told,
+        Err(refusal) => return Err(refusal),
+    };
+    let Some(owner) = told else {
+        return Ok(());
+    };
+    push_before(steps, TakeStep::Owner(id), TakeStep::Uses(owner, 0))?;
+    Ok(())
+}
+
+// Puts the steps that take in the owners of resources last, so that the first comes next.
+pub(crate) fn push_owners(
+    steps: &mut Vec<TakeStep>,
+    resources: &Vec<ResourceId>,
+) -> Result<(), AllocError>
+    ensures { OnOk result (ArePut (map resource_key resources.now.items) None steps.old.items steps.new.items) }
+{
+    for i in 0..resources.len() {
+        let id = resource_at(resources, resources.len() - 1 - i);
+        push_step(steps, TakeStep::Owner(id))?;
+    }
     Ok(())
 }

@@ -1,10 +1,9 @@
 //! Shared entries that serve as they stand what is merged into them.
 
-ghost use Rattle.std.specs.Prelude.{◌≡◌, ◌↔◌, Some, IsTrue, string_bytes};
+ghost use Rattle.std.specs.Prelude.{◌≡◌, Some, IsTrue, string_bytes};
 ghost use Rattle.std.specs.Str.{bytes_eq};
 ghost use Rattle.wac_model.specs.Order.{Fits};
 ghost use Rattle.wac_model.specs.Text.{lookup};
-ghost use Rattle.wac_component.specs.Collection.{InterfaceContent};
 ghost use Rattle.wac_component.specs.Content.{named, use_content};
 ghost use Rattle.wac_component.specs.Key.{Stands, AllStand, item_keys, interface_key, named_keys, use_keys};
 ghost use Rattle.wac_component.specs.Tree.{item_tree};

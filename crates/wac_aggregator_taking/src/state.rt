@@ -22,8 +22,8 @@ pub struct Merging {
     pub copies: Memo,
     /// The direction in which a mismatch is told.
     pub check: SubtypeCheck,
-    /// The identifier of the interface that was handed in, if it is one that has an identifier.
-    pub handed_in: Option<String>,
+    /// The interface that was handed in, if it is one.
+    pub handed_in: Option<InterfaceId>,
 }
 
 // By hand, as of `Types`.

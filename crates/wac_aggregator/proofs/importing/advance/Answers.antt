@@ -17,15 +17,15 @@ pub import-requires-clause-state : goal.import-requires-clause-state
 import-requires-clause-state c =
     subst (λ (m : Merging). MayTake c.args.types.now m) (sym c.note_handed_in.ensures) (told_may c.args.state.now c.note_handed_in.new.state.handed_in c.args.types.now c.requires.state)
 
-pub returns-in-Ok-clause-advances : goal.returns-in-Ok-clause-advances
-returns-in-Ok-clause-advances c =
+pub returns-clause-advances : goal.returns-clause-advances
+returns-clause-advances c =
     let call : Call = record { name = c.args.name.now; types = c.args.types.now; kind = c.args.kind } in
     MatchResult-weaker c.import.result c.import.ensures.advances
     (λ u h. told_advances c.args.state.now c.note_handed_in.new.state.handed_in call c.import.new.state (subst (λ (m : Merging). Advances call m c.import.new.state) c.note_handed_in.ensures h))
     (λ e h. told_refused c.args.state.now c.note_handed_in.new.state.handed_in call e (subst (λ (m : Merging). IsRefusedCall call m e) c.note_handed_in.ensures h))
 
-pub returns-in-Ok-clause-members : goal.returns-in-Ok-clause-members
-returns-in-Ok-clause-members c = λ i hand.
+pub returns-clause-members : goal.returns-clause-members
+returns-clause-members c = λ i hand.
     let call : Call = record { name = c.args.name.now; types = c.args.types.now; kind = c.args.kind } in
     let a = c.args.state.now in
     let told = c.note_handed_in.new.state.handed_in in

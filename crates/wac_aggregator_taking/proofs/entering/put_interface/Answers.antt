@@ -1,8 +1,6 @@
-use Rattle.std.proofs.Common.{◌≡◌, Some, string_bytes, refl, ap, sym, subst, ◌∙◌}
-use Rattle.std.specs.Prelude.{IsSome}
+use Rattle.std.proofs.Common.{◌≡◌, Some, sym, subst, ◌∙◌}
 use Rattle.wac_component.specs.Entries.{identifier_at}
 use Rattle.wac_component.specs.Key.{interface_key}
-use Rattle.wac_names.specs.Class.{class_of}
 use Rattle.wac_aggregator_taking.specs.Takes.{shared_in}
 use Rattle.wac_aggregator_taking.proofs.Identifiers.{identified_by, unidentified}
 use Rattle.wac_aggregator_taking.proofs.MemberPuts.{no_plain}
@@ -16,20 +14,8 @@ merge_shared-requires-clause-shared c =
     let k = identified_by (identifier_at c.args.types.now (interface_key c.args.id)) c.in-Some.class (sym c.in-Some.is ∙ c.requires.class) in
     (k.0, k.1, subst (λ q. shared_in c.args.state.now.shared.entries q ≡ Some c.in-Some-copied.own) k.2 (sym c.get.ensures.value ∙ sym c.copied.ensures ∙ c.in-Some-copied.is))
 
-pub identifier-requires : goal.identifier-requires
-identifier-requires c =
-    let k = identified_by (identifier_at c.args.types.now (interface_key c.args.id)) c.in-Some.class (sym c.in-Some.is ∙ c.requires.class) in
-    record { stands = c.requires.taken.taken.stands; has = subst (λ o. IsSome o) (sym k.1) refl }
-
-pub put_shared-requires-clause-identified : goal.put_shared-requires-clause-identified
-put_shared-requires-clause-identified c = c.in_ok-name-in-None.ensures
-
 pub put_shared-requires-clause-of : goal.put_shared-requires-clause-of
-put_shared-requires-clause-of c =
-    let k = identified_by (identifier_at c.args.types.now (interface_key c.args.id)) c.in-Some.class (sym c.in-Some.is ∙ c.requires.class) in
-    let both : Some k.0 ≡ Some (string_bytes c.in_ok-name-in-None.name) = sym k.1 ∙ c.in_ok-name-in-None.ensures in
-    let same : k.0 ≡ string_bytes c.in_ok-name-in-None.name = cc in
-    k.2 ∙ ap class_of same
+put_shared-requires-clause-of c = sym c.in-Some.is ∙ c.requires.class
 
 pub put_shared-requires-clause-new : goal.put_shared-requires-clause-new
 put_shared-requires-clause-new c = sym c.get.ensures.value ∙ sym c.copied.ensures ∙ c.in-None.is

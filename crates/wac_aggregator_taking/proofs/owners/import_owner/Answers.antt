@@ -13,15 +13,15 @@ use Rattle.wac_aggregator_taking.proofs.owners.import_owner.Goals as goal
 pub index-requires : goal.index-requires
 index-requires c = shared_stands (state_of c.args.state.now) c.requires.state (interface_key c.args.own) c.requires.shared
 
-pub returns-in_default : goal.returns-in_default
-returns-in_default c = λ f ks from n m may among leads named of.
+pub returns-in_default-clause-imported : goal.returns-in_default-clause-imported
+returns-in_default-clause-imported c = λ f ks from n m may among leads named of.
     let none : identifier_at c.args.state.now.types (interface_key c.args.own) ≡ None =
     content_identifier c.args.state.now.types c.args.own (interface_content c.index.result.now) c.index.ensures.entry
     ∙ sym (option_map-clone string_bytes (λ v w same. same) c.index.result.now.id c.in_ok-name.field-0 c.in_ok-name.ensures.cases) ∙ ap (option_map string_bytes) c.in_default.is in
     absurd (let both : None ≡ Some m = sym none ∙ named in cc)
 
-pub returns-then-is_some : goal.returns-then-is_some
-returns-then-is_some c = λ f ks from n m may among leads named of.
+pub returns-then-is_some-clause-imported : goal.returns-then-is_some-clause-imported
+returns-then-is_some-clause-imported c = λ f ks from n m may among leads named of.
     let is = c.args.state.now.imports in
     let identified = content_identifier c.args.state.now.types c.args.own (interface_content c.index.result.now) c.index.ensures.entry
     ∙ sym (option_map-clone string_bytes (λ v w same. same) c.index.result.now.id c.in_ok-name.field-0 c.in_ok-name.ensures.cases) ∙ ap (option_map string_bytes) c.in-Some.is in
@@ -30,8 +30,8 @@ returns-then-is_some c = λ f ks from n m may among leads named of.
     Takes-imported_before f c.args.state.now ks n
     (subst (λ q. IsSome (option_map (λ (i : ImportContent). i.1) (import_of is q))) on (ap is_some (sym c.kind_of.ensures) ∙ sym c.is_some.ensures ∙ c.if-is_some.true)) may
 
-pub returns : goal.returns
-returns c = λ f ks from n m may among leads named of.
+pub returns-clause-imported : goal.returns-clause-imported
+returns-clause-imported c = λ f ks from n m may among leads named of.
     let identified = content_identifier c.args.state.now.types c.args.own (interface_content c.index.result.now) c.index.ensures.entry
     ∙ sym (option_map-clone string_bytes (λ v w same. same) c.index.result.now.id c.in_ok-name.field-0 c.in_ok-name.ensures.cases) ∙ ap (option_map string_bytes) c.in-Some.is in
     let same : string_bytes c.in-Some.name ≡ m = let both : Some (string_bytes c.in-Some.name) ≡ Some m = sym identified ∙ named in cc in
