@@ -143,7 +143,7 @@ module _ (at : Attempt) (f : Collection) (s : State) (p e : Id) (x : InterfaceCo
     old_uses_open = subst (AreOpenUses at s) old_uses stood_open.1
 
   -- the entry grows by what was met
-  module _ (old new : InterfaceContent) (was : slice_get s.own.interfaces e.index ≡ Some old) (d : Collection) (met : AreMetWith s.own d old.exports es new.exports) (uses_are : new.uses ≡ uses_of_both old.uses us) (found : AreFound es) (new_found : AreFound new.exports) where
+  module _ (old new : InterfaceContent) (was : slice_get s.own.interfaces e.index ≡ Some old) (d : Collection) (met : AreMetWith s.own d old.exports es new.exports) (found : AreFound es) where
     mid : State
     mid = with_own s d
 
@@ -152,26 +152,6 @@ module _ (at : Attempt) (f : Collection) (s : State) (p e : Id) (x : InterfaceCo
 
     kept_mid : IsStateKept (with_own s d)
     kept_mid = kept_on s.own d met.on s kept
-
-    uses_open : AreOpenUses at (with_own s d) new.uses
-    uses_open n u m0 =
-        let steps = met.on.steps s.shared kept.good in
-        elim (Contains-with_new bytes_eq old.uses us (n, u) (subst (λ l. Contains l (n, u)) uses_are m0)) [
-          | inl first ↦ uses_stay at s (with_own s d) steps.narrows steps.stops met_now.0.stays.keys old.uses (old_uses_open old was) n u first
-          | inr later ↦ uses_stay at s (with_own s d) steps.narrows steps.stops met_now.0.stays.keys us new_uses_open n u later
-        ]
-
-    from_new : IsFromSources (IsSource at.sources) d (interface_entry new)
-    from_new = interface_from (IsSource at.sources) d new new_found (λ n y is. (met_now.1 n y is).item) (λ n u m0. (uses_open n u m0).use_sourced)
-
-    parts_open : Each (IsOpenKey (with_own s d)) (interface_keys new)
-    parts_open = each_among (IsOpenKey (with_own s d)) (interface_keys new) (λ j q. elim (among_either (named_keys use_keys new.uses) (named_keys item_keys new.exports) q) [
-      | inl of_use ↦ let r = among_uses new.uses j of_use in subst (IsOpenKey (with_own s d)) r.3 (uses_open r.0 r.1 r.2).opens
-      | inr of_item ↦
-          let r = among_items new.exports j of_item in
-          let is : lookup bytes_eq new.exports r.0 ≡ Some r.1 = All-contains (λ (q : Text × ItemKind). lookup bytes_eq new.exports q.0 ≡ Some q.1) new.exports (r.0, r.1) new_found r.2 in
-          among_each (IsOpenKey (with_own s d)) j (item_keys r.1) r.3 (met_now.1 r.0 r.1 is).opens
-    ])
 
     taken_along_track : Each (LeadsAlongArrows s.own s.shared all.roots (class_of m)) (interface_keys z)
     taken_along_track = subst (λ t. Each (LeadsAlongArrows s.own s.shared all.roots t) (interface_keys z)) (sym same) (parts_along at f s p x z name kept trial all h identified)
@@ -182,14 +162,36 @@ module _ (at : Attempt) (f : Collection) (s : State) (p e : Id) (x : InterfaceCo
         subst (λ rs. Each (LeadsAlongArrows d s.shared rs (class_of m)) (interface_keys new)) (sym met_now.0.roots)
         (grown_along s e old new z m kept among was own_is d met names old_stand named all.roots all.arrowed taken_along_track)
 
-    -- all stays accounted for once the entry has grown
-    pub grown_accounted : (t : State) (old_stand : AllStand s.own (interface_keys old)) (names : (P : Key → Type 0) → Each P (named_keys use_keys old.uses) → Each P (named_keys use_keys us) → Each P (named_keys use_keys new.uses)) → CanGrow d s.shared e old new
-        → ¬ (NamesReach d (interface_keys new) (interface_key e)) → t.own ≡ grown d e new → t.shared ≡ s.shared → t.imports ≡ s.imports → t.copies ≡ s.copies → AddsPair s.taken t.taken (interface_key p) (interface_key e) → old.id ≡ Some m → StaysAccounted at s t
-    grown_accounted t old_stand names can none own shared imports copies adds is =
-        accounted_then at s (with_own s d) t met.on.grows.standing met_now.0.stays
-        (accounted_grown at (with_own s d) t (interface_key p) e old new m kept_mid can none own shared imports copies adds is met_now.0.stays.now from_new parts_open (new_along old_stand names) grows_touching)
-
     -- where the grown entry would lead back to itself, there is reason for a cycle
     pub cycle_refused : (old_stand : AllStand s.own (interface_keys old)) (names : (P : Key → Type 0) → Each P (named_keys use_keys old.uses) → Each P (named_keys use_keys us) → Each P (named_keys use_keys new.uses)) → AllStand d (interface_keys new) → NamesReach d (interface_keys new) (interface_key e) → IsReason at (cycle name)
     cycle_refused old_stand names stand reach =
         leads_back at (with_own s d) f p e name m (interface_keys new) kept_mid met_now.0.stays.now trial identified among ((met.on.steps s.shared kept.good).stops.identifiers (interface_key e) (shared_stands s kept (interface_key e) among) ∙ own_is) same stand (new_along old_stand names) reach
+
+    -- as what both use, and with exports that are found by their names
+    module _ (uses_are : new.uses ≡ uses_of_both old.uses us) (new_found : AreFound new.exports) where
+      uses_open : AreOpenUses at (with_own s d) new.uses
+      uses_open n u m0 =
+          let steps = met.on.steps s.shared kept.good in
+          elim (Contains-with_new bytes_eq old.uses us (n, u) (subst (λ l. Contains l (n, u)) uses_are m0)) [
+            | inl first ↦ uses_stay at s (with_own s d) steps.narrows steps.stops met_now.0.stays.keys old.uses (old_uses_open old was) n u first
+            | inr later ↦ uses_stay at s (with_own s d) steps.narrows steps.stops met_now.0.stays.keys us new_uses_open n u later
+          ]
+
+      from_new : IsFromSources (IsSource at.sources) d (interface_entry new)
+      from_new = interface_from (IsSource at.sources) d new new_found (λ n y is. (met_now.1 n y is).item) (λ n u m0. (uses_open n u m0).use_sourced)
+
+      parts_open : Each (IsOpenKey (with_own s d)) (interface_keys new)
+      parts_open = each_among (IsOpenKey (with_own s d)) (interface_keys new) (λ j q. elim (among_either (named_keys use_keys new.uses) (named_keys item_keys new.exports) q) [
+        | inl of_use ↦ let r = among_uses new.uses j of_use in subst (IsOpenKey (with_own s d)) r.3 (uses_open r.0 r.1 r.2).opens
+        | inr of_item ↦
+            let r = among_items new.exports j of_item in
+            let is : lookup bytes_eq new.exports r.0 ≡ Some r.1 = All-contains (λ (q : Text × ItemKind). lookup bytes_eq new.exports q.0 ≡ Some q.1) new.exports (r.0, r.1) new_found r.2 in
+            among_each (IsOpenKey (with_own s d)) j (item_keys r.1) r.3 (met_now.1 r.0 r.1 is).opens
+      ])
+
+      -- all stays accounted for once the entry has grown
+      pub grown_accounted : (t : State) (old_stand : AllStand s.own (interface_keys old)) (names : (P : Key → Type 0) → Each P (named_keys use_keys old.uses) → Each P (named_keys use_keys us) → Each P (named_keys use_keys new.uses)) → CanGrow d s.shared e old new
+          → ¬ (NamesReach d (interface_keys new) (interface_key e)) → t.own ≡ grown d e new → t.shared ≡ s.shared → t.imports ≡ s.imports → t.copies ≡ s.copies → AddsPair s.taken t.taken (interface_key p) (interface_key e) → old.id ≡ Some m → StaysAccounted at s t
+      grown_accounted t old_stand names can none own shared imports copies adds is =
+          accounted_then at s (with_own s d) t met.on.grows.standing met_now.0.stays
+          (accounted_grown at (with_own s d) t (interface_key p) e old new m kept_mid can none own shared imports copies adds is met_now.0.stays.now from_new parts_open (new_along old_stand names) grows_touching)

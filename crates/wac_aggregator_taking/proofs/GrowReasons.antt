@@ -7,7 +7,6 @@ use Rattle.wac_component.specs.Id.{Id}
 use Rattle.wac_component.specs.Key.{Key, Each, AllStand, interface_key, interface_keys, named_keys, use_keys}
 use Rattle.wac_component.specs.Reach.{IsAmong}
 use Rattle.wac_component.specs.Replacing.{NamesReach}
-use Rattle.wac_merge.specs.Built.{uses_of_both}
 use Rattle.wac_merge.specs.Items.{Externs, AreFound}
 use Rattle.wac_aggregator_promises.specs.Reason.{cycle}
 use Rattle.wac_names.specs.Class.{class_of}
@@ -63,12 +62,12 @@ module _ (f : Collection) (a : Merging) (may : MayTake f a) (p e : Id) (name : T
   -- it would lead back to itself
   pub grown_cycle_refused : (new : InterfaceContent) (old_named : AllStand a.types (interface_keys old)) (same_id : new.id ≡ old.id)
       (uses : (P : Key → Type 0) → Each P (named_keys use_keys old.uses) → Each P (named_keys use_keys us) → Each P (named_keys use_keys new.uses)) (d : Collection) (met : AreMetWith a.types d old.exports es new.exports)
-      → new.uses ≡ uses_of_both old.uses us → AreFound es → AreFound new.exports → NamesReach d (interface_keys new) (interface_key e) → (r : AggregateError) → said r ≡ Some (cycle name) → MayRefuse f a (interface_key p ∷ []) r
-  grown_cycle_refused new old_named same_id uses d met uses_are found new_found reach r says ne = record {
+      → AreFound es → NamesReach d (interface_keys new) (interface_key e) → (r : AggregateError) → said r ≡ Some (cycle name) → MayRefuse f a (interface_key p ∷ []) r
+  grown_cycle_refused new old_named same_id uses d met found reach r says ne = record {
     plain = not_plain_interface f p name identified;
     known = λ all. absurd (not_known f a (interface_key p) name identified put.absent all);
     reason = λ at trial all by.
         one_reason at r (cycle name) says
-        (cycle_refused at f (state_of a) p e put.content us es name filed.0 may.kept trial all put.taken put.used identified put.absent among filed.1 filed.2 old new was d met uses_are found new_found old_named uses
+        (cycle_refused at f (state_of a) p e put.content us es name filed.0 may.kept trial all put.taken put.used identified put.absent among filed.1 filed.2 old new was d met found old_named uses
         (new_named f a may p e name us es put identified shared old new was old_named same_id uses d met) reach);
   }

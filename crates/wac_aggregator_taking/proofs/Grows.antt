@@ -4,6 +4,7 @@ use Rattle.std.specs.Option.{option_map}
 use Rattle.wac_model.specs.Text.{Text}
 use Rattle.wac_component.specs.Collection.{Collection, UseContent, InterfaceContent}
 use Rattle.wac_component.specs.Entries.{identifier_at}
+use Rattle.wac_component.specs.Growth.{Extends}
 use Rattle.wac_component.specs.Height.{height}
 use Rattle.wac_component.specs.Id.{Id}
 use Rattle.wac_component.specs.Key.{Key, Each, Stands, AllStand, interface_entry, entry_at, interface_key, interface_keys, named_keys, use_keys, optional_keys, other_keys}
@@ -47,6 +48,12 @@ entry_of c e x h = at (slice_get c.interfaces e.index) (sym (slice_get-map inter
     at : (o : Option InterfaceContent) → option_map interface_entry o ≡ Some (interface_entry x) → o ≡ Some x
     at None k = absurd (cc)
     at (Some y) k = let same : y ≡ x = cc in ap Some same
+
+-- the entry that stood is what stands there once the collection has been added to
+pub same_entry_still : (c d : Collection) (e : Id) (x y : InterfaceContent) → Extends c d → Stands c (interface_key e) → slice_get c.interfaces e.index ≡ Some x → slice_get d.interfaces e.index ≡ Some y → y ≡ x
+same_entry_still c d e x y grows st was is =
+    let both : Some y ≡ Some x = sym is ∙ entry_of d e x (grows.same_entry (interface_key e) st ∙ interface_at c e x was) in
+    cc
 
 -- an interface that was taken in is so after every run
 pub interface_taken_still : (f : Collection) (s t : State) → IsStateKept s → RunsTaking (RemembersTruly class_of) f s t → (p : Id) (x z : InterfaceContent) → InterfaceIsTaken class_of f s p x z → InterfaceIsTaken class_of f t p x z
@@ -140,4 +147,4 @@ module _ (f : Collection) (a : Merging) (may : MayTake f a) (p e : Id) (name : T
       Takes-entered f a (record a { types = w; taken = n }) (interface_key p) (interface_key e) put.taken.sound put.taken.stands adds refl (AreFiledIn-run f (state_of a) t a.shared.entries may.kept refl whole may.filed) (λ k m. inl m) settled
       (λ all. absurd (not_known f a (interface_key p) name identified put.absent all))
       (interface_owners f (state_of a) put.taken.sound may.kept p put.content z put.taken) (record { run = whole; taken = enters.taken })
-      (λ at trial all. grown_accounted at f (state_of a) p e put.content us es name filed.0 may.kept trial all put.taken put.used identified put.absent among filed.1 filed.2 old new was d met uses_are found new_found t old_named uses can acyclic is refl refl refl adds own_is)
+      (λ at trial all. grown_accounted at f (state_of a) p e put.content us es name filed.0 may.kept trial all put.taken put.used identified put.absent among filed.1 filed.2 old new was d met found uses_are new_found t old_named uses can acyclic is refl refl refl adds own_is)

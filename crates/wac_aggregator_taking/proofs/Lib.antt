@@ -1,8 +1,11 @@
 pub mod PartHeights
 pub mod TakeLemmas
 pub mod GrowLemmas
+pub mod PutLemmas
+pub mod PutGrown
 pub mod GrowAccounts
 pub mod MergeReasons
+pub mod MetThere
 pub mod Grows
 pub mod GrowReasons
 pub mod Parts

@@ -1,23 +1,28 @@
 -- What becomes of the exports of a shared entry.
-use Rattle.std.specs.Prelude.{◌≡◌, List, [], ◌∷◌, Contains, Option, Some, None, Result}
+use Rattle.std.specs.Prelude.{◌≡◌, All, List, [], ◌∷◌, Contains, Option, Some, None, Result, slice_get}
 use Rattle.std.specs.declared.alloc.AllocError.{AllocError}
 use Rattle.std.specs.Option.{option_map}
 use Rattle.std.specs.Str.{bytes_eq}
+use Rattle.indexmap.specs.IndexMap.{insert_entry}
 use Rattle.wac_model.specs.CoreTree.{Serves}
 use Rattle.wac_model.specs.Text.{Text, lookup}
 use Rattle.wac_model.specs.ItemTree.{ItemTree}
 use Rattle.wac_model.specs.Order.{Fits}
 use Rattle.wac_bounds.specs.Bounds.{IsLowerBound}
 use Rattle.wac_bounds.specs.MeetIn.{IsMeetIn}
-use Rattle.wac_component.specs.Collection.{Collection}
+use Rattle.wac_component.specs.Collection.{Collection, InterfaceContent, UseContent}
+use Rattle.wac_component.specs.Distinct.{HasDistinctNames}
 use Rattle.wac_component.specs.Entries.{identifier_at}
 use Rattle.wac_component.specs.Growth.{Extends}
-use Rattle.wac_component.specs.Key.{Key, Each, Stands, AllStand, item_keys}
+use Rattle.wac_component.specs.Id.{Id}
+use Rattle.wac_component.specs.Key.{Key, Each, Stands, AllStand, item_keys, interface_entry, interface_key, interface_keys}
+use Rattle.wac_component.specs.Replacing.{NamesReach}
 use Rattle.wac_component.specs.Tree.{item_tree}
 use Rattle.wac_component.specs.declared.items.ItemKind.{ItemKind}
 use Rattle.wac_checker.specs.Externs.{AreServed}
 use Rattle.wac_merge.specs.Items.{Externs, extern_keys}
-use Rattle.wac_merge.specs.Built.{Builds, IsBuilt}
+use Rattle.wac_merge.specs.Built.{Builds, IsBuilt, uses_of_both}
+use Rattle.wac_merge.specs.Reads.{exports_at}
 use Rattle.wac_names.specs.Class.{Class}
 use Rattle.wac_aggregator_promises.specs.Attempt.{Attempt}
 use Rattle.wac_aggregator_narrowing.specs.Apart.{IsGood}
@@ -26,7 +31,7 @@ use Rattle.wac_aggregator_narrowing.specs.State.{State, IsStateKept}
 use Rattle.wac_aggregator_narrowing.specs.Traced.{Root}
 use Rattle.wac_aggregator_reasons.specs.Trial.{IsAccounted, IsOpenItem, AreOpenItems, StaysAccounted}
 use Rattle.wac_aggregator_narrowing.specs.Identified.{IsCovered}
-use Rattle.wac_aggregator_narrowing.specs.Narrows.{IsGoodStep}
+use Rattle.wac_aggregator_narrowing.specs.Narrows.{IsGoodStep, grown}
 
 -- d is c with entries added to it, none of which has an identifier: a step whatever is shared
 pub record StepsOn (c d : Collection) : Type 0 where
@@ -84,3 +89,29 @@ pub record AreMetWith (c d : Collection) (es ts ms : Externs) : Type 0 where
   pub accounts : (at : Attempt) (s : State) → IsStateKept (with_own s c) → (all : IsAccounted at (with_own s c)) → AreOpenItems at (with_own s c) es → AreAllOpen at (with_own s c) ts → StaysAlong at (with_own s c) (with_own s d) all × AreOpenItems at (with_own s d) ms
   pub along : (ss : List Key) (rs : List Root) (from : Class) → IsGood c ss → Each (LeadsAlongArrows c ss rs from) (extern_keys es) → Each (LeadsAlongArrows c ss rs from) (extern_keys ts) → Each (LeadsAlongArrows d ss rs from) (extern_keys ms)
   pub covered : (ss : List Key) → IsGood c ss → Each (IsCovered c ss) (extern_keys es) → Each (IsCovered c ss) (extern_keys ts) → Each (IsCovered d ss) (extern_keys ms)
+
+-- m stands for the item among whatever items: those that are under its name what the interface
+-- exports there are met with it when m is put there
+abbrev pub IsMetThere : Collection → Collection → Id → Text → ItemKind → ItemKind → Type 0
+IsMetThere c d e n a m = (es : Externs) → AllStand c (extern_keys es) → lookup bytes_eq es n ≡ lookup bytes_eq (exports_at c (interface_key e)) n → AreMetWith c d es ((n, a) ∷ []) (insert_entry bytes_eq es n m)
+
+-- the list once these items are put under their names: in the place of what stands there, else last
+abbrev pub with_put : Externs → Externs → Externs
+with_put es [] = es
+with_put es (m ∷ ms) = with_put (insert_entry bytes_eq es m.0 m.1) ms
+
+-- so each of these is what stands under its name
+abbrev pub AreAllPut : Externs → Externs → Type 0
+AreAllPut es ms = All (λ (m : Text × ItemKind). lookup bytes_eq (with_put es ms) m.0 ≡ Some m.1) ms
+
+-- in d the interface uses and exports this as well, from which no walk leads back to it
+pub record IsGrownBy (c : Collection) (e : Id) (us : List (Text × UseContent)) (ms : Externs) (d : Collection) : Type 0 where
+  pub old : InterfaceContent
+  pub new : InterfaceContent
+  pub was : slice_get c.interfaces e.index ≡ Some old
+  pub same_identifier : new.id ≡ old.id
+  pub uses : new.uses ≡ uses_of_both old.uses us
+  pub exports : new.exports ≡ with_put old.exports ms
+  pub distinct : HasDistinctNames (interface_entry new)
+  pub acyclic : ¬ (NamesReach c (interface_keys new) (interface_key e))
+  pub grows : d ≡ grown c e new

@@ -4,7 +4,8 @@ use Rattle.std.specs.Str.{bytes_eq}
 use Rattle.wac_model.specs.Text.{Text, lookup}
 use Rattle.wac_component.specs.Collection.{Collection, UseContent}
 use Rattle.wac_component.specs.Entries.{uses_at}
-use Rattle.wac_component.specs.Key.{Key, item_keys}
+use Rattle.wac_component.specs.Id.{Id}
+use Rattle.wac_component.specs.Key.{Key, AllStand, interface_key, item_keys}
 use Rattle.wac_component.specs.Tree.{item_tree}
 use Rattle.wac_component.specs.declared.items.ItemKind.{ItemKind}
 use Rattle.wac_aggregator_promises.specs.Attempt.{Attempt, Touches}
@@ -12,7 +13,8 @@ use Rattle.wac_aggregator_promises.specs.PlainList.{ArePlain}
 use Rattle.wac_aggregator_promises.specs.Reason.{CallRefusal, mismatch, no_identifier, owner_without_identifier, IsReason}
 use Rattle.wac_aggregator_promises.specs.TreeSets.{HaveNoLowerBound}
 use Rattle.wac_aggregator_promises.specs.WitList.{IsLeafItem}
-use Rattle.wac_merge.specs.Items.{Externs}
+use Rattle.wac_merge.specs.Items.{Externs, extern_keys}
+use Rattle.wac_merge.specs.Reads.{exports_at}
 use Rattle.wac_aggregator_narrowing.specs.State.{State, IsStateKept}
 use Rattle.wac_aggregator_reasons.specs.Trial.{IsTrial, IsAccounted, AreOpenItems}
 use Rattle.wac_aggregator_errors.specs.declared.error.AggregateError.{AggregateError}
@@ -89,3 +91,7 @@ pub record IsItemsRefusal (c : Collection) (es ts : Externs) (e : AggregateError
 -- such items are refused, unless an allocation fails
 abbrev pub AreRefusedItems : Collection → Externs → Externs → AggregateError → Type 0
 AreRefusedItems c es ts e = e ≢ Memory → IsItemsRefusal c es ts e
+
+-- the item is refused among whatever items are under its name what the interface exports there
+abbrev pub IsRefusedThere : Collection → Id → Text → ItemKind → AggregateError → Type 0
+IsRefusedThere c e n a r = (es : Externs) → AllStand c (extern_keys es) → lookup bytes_eq es n ≡ lookup bytes_eq (exports_at c (interface_key e)) n → AreRefusedItems c es ((n, a) ∷ []) r

@@ -1,23 +1,23 @@
 //! Shared entries that grow.
 
-ghost use Rattle.std.specs.Prelude.{◌≡◌, ◌≢◌, [], ◌∷◌, Some, IfErr, MatchResult, OnOk, string_bytes};
+ghost use Rattle.std.specs.Prelude.{◌≡◌, ◌≢◌, [], ◌∷◌, ◌++◌, Some, IfErr, IfOk, MatchResult, OnOk, string_bytes};
 ghost use Rattle.wac_model.specs.Text.{Text};
-ghost use Rattle.wac_component.specs.Content.{named, use_content, interface_content};
+ghost use Rattle.wac_component.specs.Content.{named, use_content};
 ghost use Rattle.wac_component.specs.Entries.{identifier_at};
 ghost use Rattle.wac_component.specs.Height.{height};
-ghost use Rattle.wac_component.specs.Key.{Stands, AllStand, item_keys, interface_key, interface_keys};
+ghost use Rattle.wac_component.specs.Key.{Stands, AllStand, item_keys, interface_key, named_keys, use_keys};
 ghost use Rattle.wac_component.specs.Replacing.{NamesReach};
 ghost use Rattle.wac_aggregator_promises.specs.Entries.{ReachesByUses};
 ghost use Rattle.wac_aggregator_promises.specs.Reason.{cycle as closes};
 ghost use Rattle.wac_aggregator_errors.specs.declared.error.AggregateError.TheVariants.{Memory};
 ghost use Rattle.wac_merge.specs.Items.{AreFound, extern_keys, extern_list};
+ghost use Rattle.wac_merge.specs.Reads.{exports_at};
 ghost use Rattle.wac_names.specs.Class.{class_of};
-ghost use Rattle.wac_aggregator_narrowing.specs.Narrows.{grown};
 ghost use Rattle.wac_aggregator_narrowing.specs.Taking.{IsTakenKey};
-ghost use Rattle.wac_aggregator_taking.specs.Growing.{IsOwnMeet, AreMetWith};
+ghost use Rattle.wac_aggregator_taking.specs.Growing.{IsOwnMeet, AreMetWith, IsMetThere, AreAllPut, with_put, IsGrownBy};
 ghost use Rattle.wac_aggregator_taking.specs.Members.{AnswersMembers};
 ghost use Rattle.wac_aggregator_errors.specs.Said.{said};
-ghost use Rattle.wac_aggregator_taking.specs.Refused.{MayRefuse, IsMergeRefusal, AreRefusedItems};
+ghost use Rattle.wac_aggregator_taking.specs.Refused.{MayRefuse, IsMergeRefusal, AreRefusedItems, IsRefusedThere};
 ghost use Rattle.wac_aggregator_taking.specs.Takes.{MayTake, MayPut, Takes, shared_in};
 
 use super::identity::identifier;
@@ -28,7 +28,9 @@ use indexmap::IndexMap;
 use std::alloc::{AllocError, Global};
 use wac_aggregator_errors::{AggregateError, MergeFrame, check_uses, check_uses_of, mismatch};
 use wac_component::laws::names_in_an_interface_are_distinct;
-use wac_component::{Interface, InterfaceId, ItemKind, ReplaceError, Type, Types, UsedType};
+use wac_component::{
+    InterfaceId, ItemKind, Type, Types, UsedType, contents_ids, lead_to, put_back, take_out,
+};
 use wac_core_merge::add_new;
 use wac_merge::{extern_named, put_extern};
 use wac_mismatch::SubtypeCheck;
@@ -96,7 +98,8 @@ pub(crate) fn merge_shared(
     grow(state, types, id, own, name, uses, exports)
 }
 
-// Puts what the shared entry lacks into it, and meets what it exports otherwise.
+// Puts what the shared entry lacks into it, and meets what it exports otherwise. It is neither
+// cloned nor gone through: what that takes goes with what is put.
 fn grow(
     state: &mut Merging,
     types: &Types,
@@ -114,58 +117,98 @@ fn grow(
     ensures members { AnswersMembers result types.now state.old state.new (ReachesByUses types.now id) }
 {
     let alloc = state.alloc();
-    let mut entry = state.types[own].clone()?;
+    let entry = &state.types[own];
     // A name stands once in a map, so that what stands under it is what a look-up finds.
-    names_in_an_interface_are_distinct(&entry);
+    names_in_an_interface_are_distinct(entry);
     check_uses(alloc, &state.types, &entry.uses, &uses)?;
-    add_new(&mut entry.uses, uses)?;
     let place = place_of(state, types, &name)?;
-    meet_exports(alloc, &place, &mut state.types, &mut entry.exports, exports)?;
-    // So it does in the maps that were added to.
-    names_in_an_interface_are_distinct(&entry);
-    replace(&mut state.types, own, entry, name)?;
+    let met = met_exports(alloc, &place, &mut state.types, own, exports)?;
+    put_grown(&mut state.types, own, uses, &met, name)?;
     state.taken.put_interface(id, own)?;
     Ok(own)
 }
 
-// Puts exports among those of an entry; what stands there under the name of one is met with it.
-fn meet_exports(
+// What is exported, each met with what the entry of an interface has under its name.
+fn met_exports(
     alloc: Global,
     place: &Place,
     types: &mut Types,
-    existing: &mut IndexMap<String, ItemKind>,
+    own: InterfaceId,
     exports: &IndexMap<String, ItemKind>,
-) -> Result<(), AggregateError>
-    requires existing { AllStand types.old (extern_keys (extern_list existing.old)) }
+) -> Result<IndexMap<String, ItemKind>, AggregateError>
+    requires own { Stands types.old (interface_key own) }
     requires new { AllStand types.old (extern_keys (extern_list exports.now)) }
-    ensures met { MatchResult result (λ u. AreMetWith types.old types.new (extern_list existing.old) (extern_list exports.now) (extern_list existing.new)) (AreRefusedItems types.old (extern_list existing.old) (extern_list exports.now)) }
+    ensures met { MatchResult result (λ m. AreMetWith types.old types.new (exports_at types.old (interface_key own)) (extern_list exports.now) (with_put (exports_at types.old (interface_key own)) (extern_list m))) (AreRefusedItems types.old (exports_at types.old (interface_key own)) (extern_list exports.now)) }
     ensures found { AreFound (extern_list exports.now) }
+    ensures put { IfOk result (λ m. AreAllPut (exports_at types.old (interface_key own)) (extern_list m)) }
 {
+    types.sound();
+    let mut met = IndexMap::new(alloc);
     for (name, kind) in exports {
-        meet_export(alloc, place, types, existing, name, *kind)?;
+        let item = met_export(alloc, place, types, own, name, *kind)?;
+        put_extern(&mut met, name, item)?;
     }
+    Ok(met)
+}
+
+// The same of one export, whatever else was put under other names.
+fn met_export(
+    alloc: Global,
+    place: &Place,
+    types: &mut Types,
+    own: InterfaceId,
+    name: &String,
+    kind: ItemKind,
+) -> Result<ItemKind, AggregateError>
+    requires own { Stands types.old (interface_key own) }
+    requires new { AllStand types.old (item_keys kind) }
+    ensures { MatchResult result (IsMetThere types.old types.new own (string_bytes name.now) kind) (IsRefusedThere types.old own (string_bytes name.now) kind) }
+{
+    let Some(existing) = extern_named(&types[own].exports, name) else {
+        return Ok(kind);
+    };
+    meet_items(alloc, place, types, name, existing, kind)
+}
+
+// Puts uses of new names last in the entry of an interface, and exports in the place of those of
+// their names, or last.
+fn put_grown(
+    types: &mut Types,
+    own: InterfaceId,
+    uses: IndexMap<String, UsedType>,
+    exports: &IndexMap<String, ItemKind>,
+    interface: String,
+) -> Result<(), AggregateError>
+    requires own { Stands types.old (interface_key own) }
+    requires uses { AllStand types.old (named_keys use_keys (named use_content uses.entries)) }
+    requires exports { AllStand types.old (extern_keys (extern_list exports.now)) }
+    ensures grown { OnOk result (IsGrownBy types.old own (named use_content uses.entries) (extern_list exports.now) types.new) }
+    ensures cycle { IfErr result (λ e. e ≢ Memory → NamesReach types.old (named_keys use_keys (named use_content uses.entries) ++ extern_keys (extern_list exports.now)) (interface_key own) × (said e ≡ Some (closes (string_bytes interface)))) }
+{
+    types.sound();
+    let ids = contents_ids(*uses.allocator(), &uses, exports)?;
+    if lead_to(types, &ids, own)? {
+        return Err(AggregateError::Cycle { interface });
+    }
+    let mut entry = take_out(types, own);
+    add_new(&mut entry.uses, uses)?;
+    put_externs(&mut entry.exports, exports)?;
+    // A name stands once in the maps that were added to.
+    names_in_an_interface_are_distinct(&entry);
+    put_back(types, own, entry);
     Ok(())
 }
 
-// The same of one export.
-fn meet_export(
-    alloc: Global,
-    place: &Place,
-    types: &mut Types,
-    existing: &mut IndexMap<String, ItemKind>,
-    name: &String,
-    kind: ItemKind,
-) -> Result<(), AggregateError>
-    requires existing { AllStand types.old (extern_keys (extern_list existing.old)) }
-    requires new { AllStand types.old (item_keys kind) }
-    ensures { MatchResult result (λ u. AreMetWith types.old types.new (extern_list existing.old) ((string_bytes name.now, kind) ∷ []) (extern_list existing.new)) (AreRefusedItems types.old (extern_list existing.old) ((string_bytes name.now, kind) ∷ [])) }
+// Puts items under their names.
+fn put_externs(
+    externs: &mut IndexMap<String, ItemKind>,
+    more: &IndexMap<String, ItemKind>,
+) -> Result<(), AllocError>
+    ensures { OnOk result (extern_list externs.new ≡ with_put (extern_list externs.old) (extern_list more.now)) }
 {
-    let Some(other) = extern_named(existing, name) else {
-        put_extern(existing, name, kind)?;
-        return Ok(());
-    };
-    let met = meet_items(alloc, place, types, name, other, kind)?;
-    put_extern(existing, name, met)?;
+    for (name, kind) in more {
+        put_extern(externs, name, *kind)?;
+    }
     Ok(())
 }
 
@@ -201,25 +244,4 @@ fn frames_to(alloc: Global, place: &Place, export: &String) -> Result<Vec<MergeF
     }
     frames.push(MergeFrame::Export(export.clone()?))?;
     Ok(frames)
-}
-
-// Puts an interface in the place of a shared one.
-fn replace(
-    types: &mut Types,
-    own: InterfaceId,
-    entry: Interface,
-    interface: String,
-) -> Result<(), AggregateError>
-    requires own { Stands types.old (interface_key own) }
-    requires named { AllStand types.old (interface_keys (interface_content entry)) }
-    ensures grown { OnOk result (types.new ≡ grown types.old own (interface_content entry)) }
-    ensures acyclic { OnOk result (¬ (NamesReach types.old (interface_keys (interface_content entry)) (interface_key own))) }
-    ensures cycle { IfErr result (λ e. e ≢ Memory → NamesReach types.old (interface_keys (interface_content entry)) (interface_key own) × (said e ≡ Some (closes (string_bytes interface)))) }
-{
-    match types.replace_interface(own, entry) {
-        Ok(()) => Ok(()),
-        Err(ReplaceError::Cycle(_)) => Err(AggregateError::Cycle { interface }),
-        Err(ReplaceError::Memory(_)) => Err(AggregateError::Memory),
-        Err(ReplaceError::Limits(_)) => unreachable!(),
-    }
 }

@@ -138,7 +138,7 @@ fn a_benchmark_of_no_size_is_refused(rt: HostRuntime) {
 }
 
 // Benchmarks, and how many operations each has at size 3.
-static BENCHMARKS: [(&str, u32); 11] = [
+static BENCHMARKS: [(&str, u32); 13] = [
     ("1-subtype-instances", 3),
     ("1b-asked-again", 1),
     ("2-tuple-chain", 1),
@@ -150,6 +150,8 @@ static BENCHMARKS: [(&str, u32); 11] = [
     ("5b-namemap-get-exact", 3),
     ("5c-namemap-get-track", 3),
     ("6-refusal-at-depth", 1),
+    ("7-growing-import", 3),
+    ("7b-growing-identified", 3),
 ];
 
 #[test]

@@ -33,6 +33,11 @@ pub enum Benchmark {
     /// With an empty cache, that a list of lists, n deep, doesn't fit where one is asked
     /// for that has other elements.
     RefusalAtDepth,
+    /// Hands n instances to a new aggregator under one name. Each exports one function, under a
+    /// name of its own, so that the import has one export more after each.
+    GrowingImport,
+    /// The same with instances of interfaces that the name identifies.
+    GrowingIdentified,
 }
 
 impl Benchmark {
@@ -50,6 +55,8 @@ impl Benchmark {
             "5b-namemap-get-exact" => Some(Benchmark::GetExact),
             "5c-namemap-get-track" => Some(Benchmark::GetTrack),
             "6-refusal-at-depth" => Some(Benchmark::RefusalAtDepth),
+            "7-growing-import" => Some(Benchmark::GrowingImport),
+            "7b-growing-identified" => Some(Benchmark::GrowingIdentified),
             _ => None,
         }
     }
@@ -68,6 +75,8 @@ impl Benchmark {
             Benchmark::GetExact => "5b-namemap-get-exact",
             Benchmark::GetTrack => "5c-namemap-get-track",
             Benchmark::RefusalAtDepth => "6-refusal-at-depth",
+            Benchmark::GrowingImport => "7-growing-import",
+            Benchmark::GrowingIdentified => "7b-growing-identified",
         }
     }
 
@@ -80,8 +89,12 @@ impl Benchmark {
             | Benchmark::RefusalAtDepth => 1,
             Benchmark::TwoVersions | Benchmark::ValidatePlain | Benchmark::ValidateVersions =>
                 u64::from(n) * 2,
-            Benchmark::Instances | Benchmark::Insert | Benchmark::GetExact | Benchmark::GetTrack =>
-                u64::from(n),
+            Benchmark::Instances
+            | Benchmark::Insert
+            | Benchmark::GetExact
+            | Benchmark::GetTrack
+            | Benchmark::GrowingImport
+            | Benchmark::GrowingIdentified => u64::from(n),
         }
     }
 }

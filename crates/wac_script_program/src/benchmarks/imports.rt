@@ -52,6 +52,27 @@ fn push_instances(
     Ok(())
 }
 
+// Hands the instances of a session to an aggregator.
+fn aggregate(alloc: Global, session: &Session) -> Result<TypeAggregator, BenchError> {
+    match session.aggregate_calls(alloc) {
+        Ok(Ok(aggregator)) => Ok(aggregator),
+        Ok(Err(refusal)) if matches!(&refusal.error, AggregateError::Memory) => Err(
+            BenchError::Memory,
+        ),
+        Ok(Err(_)) => Err(BenchError::Answer),
+        Err(error) => Err(BenchError::from(error)),
+    }
+}
+
+// How many imports there are.
+fn import_count(aggregator: &TypeAggregator) -> usize {
+    let mut imports = 0usize;
+    for _ in aggregator.imports() {
+        imports = imports.saturating_add(1);
+    }
+    imports
+}
+
 impl TwoVersions {
     /// n instances in each version.
     pub(crate) fn new(alloc: Global, n: u32) -> Result<TwoVersions, BenchError> {
@@ -64,25 +85,9 @@ impl TwoVersions {
         })
     }
 
-    // Hands all instances to an aggregator.
-    fn aggregate(&self, alloc: Global) -> Result<(), BenchError> {
-        match self.session.aggregate_calls(alloc) {
-            Ok(Ok(aggregator)) => self.look_at(&aggregator),
-            Ok(Err(refusal)) if matches!(&refusal.error, AggregateError::Memory) => Err(
-                BenchError::Memory,
-            ),
-            Ok(Err(_)) => Err(BenchError::Answer),
-            Err(error) => Err(BenchError::from(error)),
-        }
-    }
-
     // Whether the instances became as many imports as they should.
     fn look_at(&self, aggregator: &TypeAggregator) -> Result<(), BenchError> {
-        let mut imports = 0usize;
-        for _ in aggregator.imports() {
-            imports = imports.saturating_add(1);
-        }
-        if imports == self.imports {
+        if import_count(aggregator) == self.imports {
             Ok(())
         } else {
             Err(BenchError::Answer)
@@ -93,7 +98,79 @@ impl TwoVersions {
 impl Work for TwoVersions {
     fn run(&mut self, alloc: Global, times: u64) -> Result<(), BenchError> {
         for _ in 0..times {
-            self.aggregate(alloc)?;
+            self.look_at(&aggregate(alloc, &self.session)?)?;
+        }
+        Ok(())
+    }
+}
+
+/// Instances with one function each, which are handed to a new aggregator under one name each time.
+#[derive(Drop)]
+pub(crate) struct Growing {
+    // Has the instances, and the calls that hand them in.
+    session: Session,
+    // How many functions the import exports then.
+    exports: usize,
+}
+
+// Adds n instances that export a function under a name of their own, of interfaces with this
+// identifier, and puts the calls that hand them in under this name last.
+fn push_growing(
+    alloc: Global,
+    session: &mut Session,
+    name: &str,
+    identifier: &str,
+    n: u32,
+) -> Result<(), BenchError> {
+    build(alloc, session, "coll 1")?;
+    build(alloc, session, "func sync -")?;
+    for i in 0..n {
+        let interface = format!(in alloc; "iface {identifier} e:f{i}=F:fn0")?;
+        build(alloc, session, &interface)?;
+        build(alloc, session, &format!(in alloc; "call {name} 1 I:i{i}")?)?;
+    }
+    Ok(())
+}
+
+impl Growing {
+    /// n instances of interfaces without identifier.
+    pub(crate) fn plain(alloc: Global, n: u32) -> Result<Growing, BenchError> {
+        let mut session = Session::new(alloc);
+        push_growing(alloc, &mut session, "grown", "-", n)?;
+        Ok(Growing {
+            session,
+            exports: n as usize,
+        })
+    }
+
+    /// n instances of interfaces that the name identifies.
+    pub(crate) fn identified(alloc: Global, n: u32) -> Result<Growing, BenchError> {
+        let mut session = Session::new(alloc);
+        push_growing(alloc, &mut session, "a:b/grown@1.0.0", "a:b/grown@1.0.0", n)?;
+        Ok(Growing {
+            session,
+            exports: n as usize,
+        })
+    }
+
+    // Whether the instances became one import, of an interface that exports what they should.
+    fn look_at(&self, aggregator: &TypeAggregator) -> Result<(), BenchError> {
+        let mut exports = 0usize;
+        for interface in aggregator.types().interfaces() {
+            exports = exports.max(interface.exports.len());
+        }
+        if import_count(aggregator) == 1 && exports == self.exports {
+            Ok(())
+        } else {
+            Err(BenchError::Answer)
+        }
+    }
+}
+
+impl Work for Growing {
+    fn run(&mut self, alloc: Global, times: u64) -> Result<(), BenchError> {
+        for _ in 0..times {
+            self.look_at(&aggregate(alloc, &self.session)?)?;
         }
         Ok(())
     }

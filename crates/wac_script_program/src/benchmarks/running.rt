@@ -3,7 +3,7 @@
 use super::benchmark::Benchmark;
 use super::chains::{Refusals, instances, tuples};
 use super::error::BenchError;
-use super::imports::TwoVersions;
+use super::imports::{Growing, TwoVersions};
 use super::instances::{AskAfresh, AskAgain};
 use super::measuring::{Measured, measure};
 use super::name_maps::{Gets, Insertions};
@@ -30,6 +30,8 @@ fn measured<C: Clock>(
         Benchmark::GetExact => measure(clock, alloc, &mut Gets::exact(alloc, n)?),
         Benchmark::GetTrack => measure(clock, alloc, &mut Gets::on_tracks(alloc, n)?),
         Benchmark::RefusalAtDepth => measure(clock, alloc, &mut Refusals::new(alloc, n)?),
+        Benchmark::GrowingImport => measure(clock, alloc, &mut Growing::plain(alloc, n)?),
+        Benchmark::GrowingIdentified => measure(clock, alloc, &mut Growing::identified(alloc, n)?),
     }
 }
 
