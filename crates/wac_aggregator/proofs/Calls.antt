@@ -1,5 +1,5 @@
 -- A call whose item was taken in advances the state.
-use Rattle.std.proofs.Common.{◌≡◌, [], ◌∷◌, Option, Some, None, IsSome, IfSome, Result, Ok, Err, OnOk, IfOk, String, Global, refl, ap, sym, ◌∙◌, subst}
+use Rattle.std.proofs.Common.{◌≡◌, [], ◌∷◌, Option, Some, None, IsSome, IfSome, Result, Ok, Err, OnOk, IfOk, refl, ap, sym, ◌∙◌, subst}
 use Rattle.std.specs.Option.{option_map}
 use Rattle.wac_model.specs.Text.{Text}
 use Rattle.wac_model.specs.ItemTree.{ItemTree}

@@ -1,5 +1,5 @@
 -- A call that hands in an instance of an interface as WIT gives it, under its identifier.
-use Rattle.std.proofs.Common.{◌≡◌, [], ◌∷◌, List, Option, Some, None, Result, Ok, Err, String, Global, ℕ, inl, refl, ap, sym, ◌∙◌, subst}
+use Rattle.std.proofs.Common.{◌≡◌, [], ◌∷◌, List, Option, Some, None, Result, Ok, Err, ℕ, inl, refl, ap, sym, ◌∙◌, subst}
 use Rattle.std.proofs.lemmas.Result.{MatchResult-weaker}
 use Rattle.std.specs.Result.{MatchResult, IfErr}
 use Rattle.std.specs.Option.{option_map}

@@ -23,6 +23,7 @@ ghost use Rattle.wac_aggregator_taking.specs.Refused.{HasReason};
 ghost use Rattle.wac_aggregator_taking.specs.Takes.{OwnersImported};
 ghost use Rattle.wac_aggregator.specs.Content.{shown, state_in};
 
+use super::all::Call;
 use super::importing::advance;
 use super::start::no_imports;
 use std::alloc::Global;
@@ -143,7 +144,7 @@ impl TypeAggregator {
         checker.forget(state.types.number());
         state.check = checker.direction();
         types.sound();
-        advance(&mut state, name, types, kind)?;
+        advance(&mut state, &Call { name, types, kind })?;
         state.imports.filed();
         Ok(TypeAggregator { state })
     }

@@ -93,7 +93,7 @@ pub fn aggregate_all(
     for at in 0..calls.len() {
         let call = &calls[at];
         call.types.sound();
-        if let Err(error) = advance(&mut state, call.name, call.types, call.kind) {
+        if let Err(error) = advance(&mut state, call) {
             return Err(AggregateAllError { at, error });
         }
         state.imports.filed();

@@ -15,9 +15,11 @@ ghost use Rattle.wac_aggregator_errors.specs.declared.error.AggregateError.TheVa
 ghost use Rattle.wac_aggregator_taking.specs.Members.{AnswersMembers};
 ghost use Rattle.wac_aggregator_errors.specs.Said.{said};
 ghost use Rattle.wac_aggregator_taking.specs.Takes.{MayTake};
+ghost use Rattle.wac_aggregator.specs.HandedIn.{called};
 ghost use Rattle.wac_aggregator.specs.Advances.{Advances, PutsLast, IsRefusedCall};
 ghost use Rattle.wac_aggregator.specs.Wit.{MayHandIn};
 
+use super::all::Call;
 use super::cases::{as_interface, same_case};
 use super::noting::note_import;
 use std::alloc::AllocError;
@@ -27,19 +29,14 @@ use wac_component::{ItemKind, Types};
 use wac_names::NameClass;
 
 /// Imports an item under a name, and notes what is told of a mismatch.
-pub(crate) fn advance(
-    state: &mut Merging,
-    name: &str,
-    types: &Types,
-    kind: ItemKind,
-) -> Result<(), AggregateError>
-    requires source { AllStand types.now (item_keys kind) }
-    requires state { MayTake types.now state.old }
-    ensures advances { MatchResult result (λ u. Advances (record { name = name.now; types = types.now; kind = kind }) state.old state.new) (IsRefusedCall (record { name = name.now; types = types.now; kind = kind }) state.old) }
-    ensures members { (i : Id) → MayHandIn (record { name = name.now; types = types.now; kind = kind }) state.old i → AnswersMembers result types.now state.old state.new (ReachesByUses types.now i) }
+pub(crate) fn advance(state: &mut Merging, call: &Call<'_>) -> Result<(), AggregateError>
+    requires source { AllStand call.now.types.now (item_keys call.now.kind) }
+    requires state { MayTake call.now.types.now state.old }
+    ensures advances { MatchResult result (λ u. Advances (called call.now) state.old state.new) (IsRefusedCall (called call.now) state.old) }
+    ensures members { (i : Id) → MayHandIn (called call.now) state.old i → AnswersMembers result call.now.types.now state.old state.new (ReachesByUses call.now.types.now i) }
 {
-    note_handed_in(state, &kind);
-    import(state, name, types, kind)
+    note_handed_in(state, &call.kind);
+    import(state, call)
 }
 
 // Notes the interface that is handed in, for what is told of a mismatch.
@@ -50,41 +47,30 @@ fn note_handed_in(state: &mut Merging, kind: &ItemKind)
 }
 
 // Imports an item under a name: into the import on the name's track, if there is one.
-fn import(
-    state: &mut Merging,
-    name: &str,
-    types: &Types,
-    kind: ItemKind,
-) -> Result<(), AggregateError>
-    requires source { AllStand types.now (item_keys kind) }
-    requires state { MayTake types.now state.old }
-    ensures advances { MatchResult result (λ u. Advances (record { name = name.now; types = types.now; kind = kind }) state.old state.new) (IsRefusedCall (record { name = name.now; types = types.now; kind = kind }) state.old) }
-    ensures members { (i : Id) → MayHandIn (record { name = name.now; types = types.now; kind = kind }) state.old i → AnswersMembers result types.now state.old state.new (ReachesByUses types.now i) }
+fn import(state: &mut Merging, call: &Call<'_>) -> Result<(), AggregateError>
+    requires source { AllStand call.now.types.now (item_keys call.now.kind) }
+    requires state { MayTake call.now.types.now state.old }
+    ensures advances { MatchResult result (λ u. Advances (called call.now) state.old state.new) (IsRefusedCall (called call.now) state.old) }
+    ensures members { (i : Id) → MayHandIn (called call.now) state.old i → AnswersMembers result call.now.types.now state.old state.new (ReachesByUses call.now.types.now i) }
 {
-    let class = NameClass::of(state.alloc(), name)?;
+    let class = NameClass::of(state.alloc(), call.name)?;
     match state.imports.kind_of(&class) {
-        Some(existing) => merge_import(state, class, name, existing, types, kind),
-        None => add_import(state, class, name, types, kind),
+        Some(existing) => merge_import(state, class, existing, call),
+        None => add_import(state, class, call),
     }
 }
 
 // Takes in an item, and makes it an import.
-fn add_import(
-    state: &mut Merging,
-    class: NameClass,
-    name: &str,
-    types: &Types,
-    kind: ItemKind,
-) -> Result<(), AggregateError>
-    requires source { AllStand types.now (item_keys kind) }
-    requires state { MayTake types.now state.old }
-    requires of { class ≡ class_of name.now }
+fn add_import(state: &mut Merging, class: NameClass, call: &Call<'_>) -> Result<(), AggregateError>
+    requires source { AllStand call.now.types.now (item_keys call.now.kind) }
+    requires state { MayTake call.now.types.now state.old }
+    requires of { class ≡ class_of call.now.name.now }
     requires new { import_of state.old.imports class ≡ None }
-    ensures advances { MatchResult result (λ u. Advances (record { name = name.now; types = types.now; kind = kind }) state.old state.new) (IsRefusedCall (record { name = name.now; types = types.now; kind = kind }) state.old) }
-    ensures members { (i : Id) → MayHandIn (record { name = name.now; types = types.now; kind = kind }) state.old i → AnswersMembers result types.now state.old state.new (ReachesByUses types.now i) }
+    ensures advances { MatchResult result (λ u. Advances (called call.now) state.old state.new) (IsRefusedCall (called call.now) state.old) }
+    ensures members { (i : Id) → MayHandIn (called call.now) state.old i → AnswersMembers result call.now.types.now state.old state.new (ReachesByUses call.now.types.now i) }
 {
-    match take_item(state, types, kind, None) {
-        Ok(own) => put_import(state, class, name, own),
+    match take_item(state, call.types, call.kind, None) {
+        Ok(own) => put_import(state, class, call.name, own),
         Err(error) => Err(error),
     }
 }
@@ -111,20 +97,18 @@ fn put_import(
 fn merge_import(
     state: &mut Merging,
     class: NameClass,
-    name: &str,
     existing: ItemKind,
-    types: &Types,
-    kind: ItemKind,
+    call: &Call<'_>,
 ) -> Result<(), AggregateError>
-    requires source { AllStand types.now (item_keys kind) }
-    requires state { MayTake types.now state.old }
-    requires of { class ≡ class_of name.now }
+    requires source { AllStand call.now.types.now (item_keys call.now.kind) }
+    requires state { MayTake call.now.types.now state.old }
+    requires of { class ≡ class_of call.now.name.now }
     requires found { option_map (λ i. i.1) (import_of state.old.imports class) ≡ Some existing }
-    ensures advances { MatchResult result (λ u. Advances (record { name = name.now; types = types.now; kind = kind }) state.old state.new) (IsRefusedCall (record { name = name.now; types = types.now; kind = kind }) state.old) }
-    ensures members { (i : Id) → MayHandIn (record { name = name.now; types = types.now; kind = kind }) state.old i → AnswersMembers result types.now state.old state.new (ReachesByUses types.now i) }
+    ensures advances { MatchResult result (λ u. Advances (called call.now) state.old state.new) (IsRefusedCall (called call.now) state.old) }
+    ensures members { (i : Id) → MayHandIn (called call.now) state.old i → AnswersMembers result call.now.types.now state.old state.new (ReachesByUses call.now.types.now i) }
 {
-    match check_case(&state.types, &existing, types, &kind) {
-        Ok(()) => merge_taken(state, class, name, existing, types, kind),
+    match check_case(&state.types, &existing, call.types, &call.kind) {
+        Ok(()) => merge_taken(state, class, existing, call),
         Err(error) => Err(error),
     }
 }
@@ -133,21 +117,19 @@ fn merge_import(
 fn merge_taken(
     state: &mut Merging,
     class: NameClass,
-    name: &str,
     existing: ItemKind,
-    types: &Types,
-    kind: ItemKind,
+    call: &Call<'_>,
 ) -> Result<(), AggregateError>
-    requires source { AllStand types.now (item_keys kind) }
-    requires state { MayTake types.now state.old }
-    requires of { class ≡ class_of name.now }
+    requires source { AllStand call.now.types.now (item_keys call.now.kind) }
+    requires state { MayTake call.now.types.now state.old }
+    requires of { class ≡ class_of call.now.name.now }
     requires found { option_map (λ i. i.1) (import_of state.old.imports class) ≡ Some existing }
-    ensures advances { MatchResult result (λ u. Advances (record { name = name.now; types = types.now; kind = kind }) state.old state.new) (IsRefusedCall (record { name = name.now; types = types.now; kind = kind }) state.old) }
-    ensures members { (i : Id) → MayHandIn (record { name = name.now; types = types.now; kind = kind }) state.old i → AnswersMembers result types.now state.old state.new (ReachesByUses types.now i) }
+    ensures advances { MatchResult result (λ u. Advances (called call.now) state.old state.new) (IsRefusedCall (called call.now) state.old) }
+    ensures members { (i : Id) → MayHandIn (called call.now) state.old i → AnswersMembers result call.now.types.now state.old state.new (ReachesByUses call.now.types.now i) }
 {
     let near = as_interface(&existing);
-    match take_item(state, types, kind, near) {
-        Ok(own) => note_import(state, class, name, existing, own),
+    match take_item(state, call.types, call.kind, near) {
+        Ok(own) => note_import(state, class, call.name, existing, own),
         Err(error) => Err(error),
     }
 }

@@ -11,6 +11,7 @@ use Rattle.wac_aggregator_taking.specs.Members.{TakesMembers}
 use Rattle.wac_aggregator_taking.specs.declared.state.Merging.{Merging}
 use Rattle.wac_aggregator_taking.proofs.GrowLemmas.{StepsOn-refl}
 use Rattle.wac_aggregator.proofs.Members.{members_onward, member_apart, member_memory}
+use Rattle.wac_aggregator.specs.HandedIn.{called}
 use Rattle.wac_aggregator.proofs.importing.add_import.Goals as goal
 
 pub take_item-requires-clause-near : goal.take_item-requires-clause-near
@@ -19,16 +20,16 @@ take_item-requires-clause-near c = IsNear-none c.args.state.now
 pub returns-in-Ok-clause-advances : goal.returns-in-Ok-clause-advances
 returns-in-Ok-clause-advances c =
     MatchResult-weaker c.put_import.result c.put_import.ensures (λ u h.
-    added_advances (record { name = c.args.name.now; types = c.args.types.now; kind = c.args.kind }) c.args.state.now c.take_item.new.state c.in-Ok.own c.requires.state c.in-Ok.ensures.taken c.put_import.new.state h
+    added_advances (called c.args.call.now) c.args.state.now c.take_item.new.state c.in-Ok.own c.requires.state c.in-Ok.ensures.taken c.put_import.new.state h
     (subst (λ q. import_of c.args.state.now.imports q ≡ None) c.requires.of c.requires.new))
-    (λ e h. not_added (record { name = c.args.name.now; types = c.args.types.now; kind = c.args.kind }) c.args.state.now c.take_item.new.state c.in-Ok.own c.requires.state c.in-Ok.ensures.taken e (subst (λ q. import_of c.args.state.now.imports q ≡ None) c.requires.of c.requires.new) h)
+    (λ e h. not_added (called c.args.call.now) c.args.state.now c.take_item.new.state c.in-Ok.own c.requires.state c.in-Ok.ensures.taken e (subst (λ q. import_of c.args.state.now.imports q ≡ None) c.requires.of c.requires.new) h)
 
 pub returns-in-Err-clause-advances : goal.returns-in-Err-clause-advances
-returns-in-Err-clause-advances c = item_refused (record { name = c.args.name.now; types = c.args.types.now; kind = c.args.kind }) c.args.state.now c.in-Err.error c.requires.state c.in-Err.ensures.taken
+returns-in-Err-clause-advances c = item_refused (called c.args.call.now) c.args.state.now c.in-Err.error c.requires.state c.in-Err.ensures.taken
 
 pub returns-in-Ok-clause-members : goal.returns-in-Ok-clause-members
 returns-in-Ok-clause-members c = λ i hand taken wit has all.
-    let f = c.args.types.now in
+    let f = c.args.call.now.types.now in
     let a = c.args.state.now in
     let mid = c.take_item.new.state in
     let P : Id → Type 0 = ReachesByUses f i in
@@ -37,7 +38,7 @@ returns-in-Ok-clause-members c = λ i hand taken wit has all.
     (λ u h. subst (λ (m : Merging). TakesMembers f a m P taken) (sym h.same) (members_onward f a mid (record mid { imports = c.put_import.new.state.imports }) P taken (c.in-Ok.ensures.taken.run.kept c.requires.state.kept) (StepsOn-refl mid.types) refl g))
     (λ e h. elim h [
       | inl memory ↦ member_memory f P taken e memory
-      | inr came ↦ member_apart f P taken e (is_taken c.args.name.now) came.1 (λ merging. merging)
+      | inr came ↦ member_apart f P taken e (is_taken c.args.call.now.name.now) came.1 (λ merging. merging)
     ])
 
 pub returns-in-Err-clause-members : goal.returns-in-Err-clause-members

@@ -3,6 +3,7 @@ use Rattle.std.proofs.lemmas.Result.{MatchResult-weaker}
 use Rattle.wac_aggregator_promises.specs.Call.{Call}
 use Rattle.wac_aggregator_taking.specs.Takes.{MayTake}
 use Rattle.wac_aggregator_taking.specs.declared.state.Merging.{Merging}
+use Rattle.wac_aggregator.specs.HandedIn.{called}
 use Rattle.wac_aggregator.specs.Advances.{Advances, IsRefusedCall}
 use Rattle.wac_aggregator.proofs.Calls.{told_may, told_advances}
 use Rattle.wac_aggregator.proofs.Refusing.{told_refused}
@@ -15,18 +16,18 @@ use Rattle.wac_aggregator.proofs.importing.advance.Goals as goal
 
 pub import-requires-clause-state : goal.import-requires-clause-state
 import-requires-clause-state c =
-    subst (λ (m : Merging). MayTake c.args.types.now m) (sym c.note_handed_in.ensures) (told_may c.args.state.now c.note_handed_in.new.state.handed_in c.args.types.now c.requires.state)
+    subst (λ (m : Merging). MayTake c.args.call.now.types.now m) (sym c.note_handed_in.ensures) (told_may c.args.state.now c.note_handed_in.new.state.handed_in c.args.call.now.types.now c.requires.state)
 
 pub returns-clause-advances : goal.returns-clause-advances
 returns-clause-advances c =
-    let call : Call = record { name = c.args.name.now; types = c.args.types.now; kind = c.args.kind } in
+    let call : Call = called c.args.call.now in
     MatchResult-weaker c.import.result c.import.ensures.advances
     (λ u h. told_advances c.args.state.now c.note_handed_in.new.state.handed_in call c.import.new.state (subst (λ (m : Merging). Advances call m c.import.new.state) c.note_handed_in.ensures h))
     (λ e h. told_refused c.args.state.now c.note_handed_in.new.state.handed_in call e (subst (λ (m : Merging). IsRefusedCall call m e) c.note_handed_in.ensures h))
 
 pub returns-clause-members : goal.returns-clause-members
 returns-clause-members c = λ i hand.
-    let call : Call = record { name = c.args.name.now; types = c.args.types.now; kind = c.args.kind } in
+    let call : Call = called c.args.call.now in
     let a = c.args.state.now in
     let told = c.note_handed_in.new.state.handed_in in
     let h : (j : Id) → MayHandIn call (record a { handed_in = told }) j → AnswersMembers c.import.result call.types (record a { handed_in = told }) c.import.new.state (ReachesByUses call.types j)

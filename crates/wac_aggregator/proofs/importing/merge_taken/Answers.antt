@@ -15,16 +15,17 @@ use Rattle.wac_component.specs.Id.{Id}
 use Rattle.wac_aggregator_promises.specs.Entries.{ReachesByUses}
 use Rattle.wac_aggregator_errors.specs.declared.error.AggregateError.TheVariants.{Memory}
 use Rattle.wac_aggregator.proofs.Members.{match_with, members_onward, member_memory, the_instance, import_is_own}
+use Rattle.wac_aggregator.specs.HandedIn.{called}
 use Rattle.wac_aggregator.proofs.importing.merge_taken.Goals as goal
 
 pub take_item-requires-clause-near : goal.take_item-requires-clause-near
 take_item-requires-clause-near c =
     let found = subst (λ q. option_map (λ (i : ImportContent). i.1) (import_of c.args.state.now.imports q) ≡ Some c.args.existing) c.requires.of c.requires.found in
-    near_import c.args.state.now c.args.name.now c.args.existing c.requires.state.kept found c.as_interface-near.result c.as_interface-near.ensures
+    near_import c.args.state.now c.args.call.now.name.now c.args.existing c.requires.state.kept found c.as_interface-near.result c.as_interface-near.ensures
 
 pub returns-in-Ok-clause-advances : goal.returns-in-Ok-clause-advances
 returns-in-Ok-clause-advances c =
-    let call : Call = record { name = c.args.name.now; types = c.args.types.now; kind = c.args.kind } in
+    let call : Call = called c.args.call.now in
     let found = subst (λ q. option_map (λ (i : ImportContent). i.1) (import_of c.args.state.now.imports q) ≡ Some c.args.existing) c.requires.of c.requires.found in
     let takes : Takes call.types c.args.state.now c.take_item.new.state (keys_height call.types (item_keys call.kind)) (item_keys call.kind) (λ t. IsTakenItem class_of call.types t call.kind c.in-Ok.own)
     = taken_near call c.args.state.now c.requires.state c.args.existing found c.as_interface-near.result c.as_interface-near.ensures c.take_item.new.state _ _ _ c.in-Ok.ensures.taken in
@@ -33,26 +34,26 @@ returns-in-Ok-clause-advances c =
 
 pub returns-in-Err-clause-advances : goal.returns-in-Err-clause-advances
 returns-in-Err-clause-advances c =
-    let call : Call = record { name = c.args.name.now; types = c.args.types.now; kind = c.args.kind } in
+    let call : Call = called c.args.call.now in
     let found = subst (λ q. option_map (λ (i : ImportContent). i.1) (import_of c.args.state.now.imports q) ≡ Some c.args.existing) c.requires.of c.requires.found in
-    item_refused call c.args.state.now c.in-Err.error c.requires.state (refused_by_near call c.args.state.now c.requires.state c.args.existing found c.as_interface-near.result c.as_interface-near.ensures (item_keys c.args.kind) c.in-Err.error c.in-Err.ensures.taken)
+    item_refused call c.args.state.now c.in-Err.error c.requires.state (refused_by_near call c.args.state.now c.requires.state c.args.existing found c.as_interface-near.result c.as_interface-near.ensures (item_keys c.args.call.now.kind) c.in-Err.error c.in-Err.ensures.taken)
 
 pub note_import-requires-clause-existing : goal.note_import-requires-clause-existing
 note_import-requires-clause-existing c =
-    let call : Call = record { name = c.args.name.now; types = c.args.types.now; kind = c.args.kind } in
+    let call : Call = called c.args.call.now in
     let found = subst (λ q. option_map (λ (i : ImportContent). i.1) (import_of c.args.state.now.imports q) ≡ Some c.args.existing) c.requires.of c.requires.found in
     existing_stands call c.args.state.now c.take_item.new.state c.in-Ok.own c.requires.state (taken_near call c.args.state.now c.requires.state c.args.existing found c.as_interface-near.result c.as_interface-near.ensures c.take_item.new.state _ _ _ c.in-Ok.ensures.taken) c.args.existing found
 
 pub note_import-requires-clause-found : goal.note_import-requires-clause-found
 note_import-requires-clause-found c =
-    let call : Call = record { name = c.args.name.now; types = c.args.types.now; kind = c.args.kind } in
+    let call : Call = called c.args.call.now in
     let found = subst (λ q. option_map (λ (i : ImportContent). i.1) (import_of c.args.state.now.imports q) ≡ Some c.args.existing) c.requires.of c.requires.found in
     subst (λ q. IsSome (import_of c.take_item.new.state.imports q)) (sym c.requires.of)
     (some_still call c.args.state.now c.take_item.new.state c.in-Ok.own c.requires.state (taken_near call c.args.state.now c.requires.state c.args.existing found c.as_interface-near.result c.as_interface-near.ensures c.take_item.new.state _ _ _ c.in-Ok.ensures.taken) c.args.existing found)
 
 pub returns-in-Ok-clause-members : goal.returns-in-Ok-clause-members
 returns-in-Ok-clause-members c = λ i hand taken wit has all.
-    let call : Call = record { name = c.args.name.now; types = c.args.types.now; kind = c.args.kind } in
+    let call : Call = called c.args.call.now in
     let found = subst (λ q. option_map (λ (i : ImportContent). i.1) (import_of c.args.state.now.imports q) ≡ Some c.args.existing) c.requires.of c.requires.found in
     let a = c.args.state.now in
     let mid = c.take_item.new.state in
