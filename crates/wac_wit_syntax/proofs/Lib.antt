@@ -11,3 +11,8 @@ pub mod Cutting
 pub mod Shown
 pub mod WholeTexts
 pub mod Keys
+pub mod Covering
+pub mod NameTokens
+pub mod TypeSteps
+pub mod TypesMade
+pub mod TypesRead

@@ -8,4 +8,9 @@ pub mod Positions
 pub mod Reading
 pub mod Faults
 pub mod Steps
+pub mod Productions
+pub mod Cursors
+pub mod Paths
+pub mod Types
+pub mod TypeParts
 pub mod Laws

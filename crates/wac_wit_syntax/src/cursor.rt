@@ -1,6 +1,9 @@
 //! Steps over tokens.
 
-ghost use Rattle.std.specs.Prelude.{IsOk};
+ghost use Rattle.std.specs.Prelude.{◌≡◌, ◌≢◌, ◌+◌, ◌-◌, ◌<◌, ◌≤◌, true, false, [], ◌∷◌, IfOk, IfSome, IsOk, OnOk, length, slice_range, string_bytes, vec_len};
+ghost use Rattle.wac_wit_syntax.specs.Cursors.{IsQuiet, Reads, ReadsKind, SpellsName, source};
+ghost use Rattle.wac_wit_syntax.specs.Productions.{◌▸◌, IsKind, IsName, IsWord, SaysWord, is_keyword, token_at};
+ghost use Rattle.wac_wit_syntax.specs.declared.error.Fault.TheVariants.{Refused};
 
 use super::error::{Fault, SyntaxError};
 use super::keywords::is_keyword;
@@ -50,8 +53,10 @@ impl Cursor {
     }
 
     /// The next token; the end stays.
-    pub(crate) fn peek(&self) -> Token {
-        self.ahead(0)
+    pub(crate) fn peek(&self) -> Token
+        ensures { result ≡ token_at (source self.now) self.now.next }
+    {
+        self.token_at(self.next)
     }
 
     /// The token so many behind the next.
@@ -60,7 +65,9 @@ impl Cursor {
     }
 
     // A token by its index, or the end of the text.
-    fn token_at(&self, index: usize) -> Token {
+    fn token_at(&self, index: usize) -> Token
+        ensures { result ≡ token_at (source self.now) index }
+    {
         match self.tokens.get(index) {
             Some(token) => *token,
             None => {
@@ -75,19 +82,30 @@ impl Cursor {
     }
 
     /// Where the last token stands that was taken.
-    pub(crate) fn last_span(&self) -> Span {
+    pub(crate) fn last_span(&self) -> Span
+        ensures { result ≡ (token_at (source self.now) (self.now.next - 1)).span }
+    {
         self.token_at(self.next.saturating_sub(1)).span
     }
 
     /// The text of a token.
-    pub(crate) fn text_of(&self, token: Token) -> &str {
-        self.text
-            .get(token.span.start..token.span.end)
-            .unwrap_or("")
+    pub(crate) fn text_of(&self, token: Token) -> &str
+        ensures { result.now ≢ [] → result.now ≡ slice_range (string_bytes self.now.text) token.span.start token.span.end }
+    {
+        self.spelling(token).unwrap_or("")
+    }
+
+    /// The text of a token, if it stands where one can be cut out.
+    pub(crate) fn spelling(&self, token: Token) -> Option<&str>
+        ensures { IfSome result (λ text. text.now ≡ slice_range (string_bytes self.now.text) token.span.start token.span.end) }
+    {
+        self.text.get(token.span.start..token.span.end)
     }
 
     /// The next token, if it is a word that stands without `%`; else nothing.
-    pub(crate) fn word(&self) -> &str {
+    pub(crate) fn word(&self) -> &str
+        ensures { result.now ≢ [] → SaysWord (source self.now) self.now.next result.now }
+    {
         let token = self.peek();
         if token.kind == TokenKind::Word {
             self.text_of(token)
@@ -97,19 +115,28 @@ impl Cursor {
     }
 
     /// Takes the next token.
-    pub(crate) fn take(&mut self) -> Token {
+    pub(crate) fn take(&mut self) -> Token
+        ensures token { result ≡ token_at (source self.old) self.old.next }
+        ensures rest { self.new ≡ record self.old { next = self.new.next } }
+        ensures next { result.kind ≢ TokenKind.End → self.new.next ≡ self.old.next + 1 }
+    {
         let token = self.peek();
         self.next = self.next.saturating_add(1).min(self.tokens.len());
         token
     }
 
     /// Whether the next token is of a kind.
-    pub(crate) fn sees(&self, kind: TokenKind) -> bool {
+    pub(crate) fn sees(&self, kind: TokenKind) -> bool
+        ensures { result ≡ true → (token_at (source self.now) self.now.next).kind ≡ kind }
+    {
         self.peek().kind == kind
     }
 
     /// Takes the next token if it is of a kind.
-    pub(crate) fn eat(&mut self, kind: TokenKind) -> bool {
+    pub(crate) fn eat(&mut self, kind: TokenKind) -> bool
+        ensures eaten { result ≡ true → ReadsKind kind self.old self.new }
+        ensures left { result ≡ false → self.new ≡ self.old }
+    {
         let found = self.sees(kind);
         if found {
             self.take();
@@ -118,7 +145,10 @@ impl Cursor {
     }
 
     /// Takes the next token if it is this word.
-    pub(crate) fn eat_word(&mut self, word: &str) -> bool {
+    pub(crate) fn eat_word(&mut self, word: &str) -> bool
+        ensures eaten { word.now ≢ [] → result ≡ true → Reads self.old self.new (IsWord word.now) }
+        ensures left { result ≡ false → self.new ≡ self.old }
+    {
         let found = self.word() == word;
         if found {
             self.take();
@@ -127,7 +157,9 @@ impl Cursor {
     }
 
     /// Takes the next token, which has to be of a kind.
-    pub(crate) fn expect(&mut self, kind: TokenKind) -> Result<Span, Fault> {
+    pub(crate) fn expect(&mut self, kind: TokenKind) -> Result<Span, Fault>
+        ensures { OnOk result (ReadsKind kind self.old self.new) }
+    {
         if self.sees(kind) {
             return Ok(self.take().span);
         }
@@ -135,14 +167,19 @@ impl Cursor {
     }
 
     /// Takes the next token, which has to be of a kind, behind what was read.
-    pub(crate) fn before<T: Drop>(&mut self, read: T, kind: TokenKind) -> Result<T, Fault> {
+    pub(crate) fn before<T: Drop>(&mut self, read: T, kind: TokenKind) -> Result<T, Fault>
+        ensures kind { OnOk result (ReadsKind kind self.old self.new) }
+        ensures value { IfOk result (λ value. value ≡ read) }
+    {
         self.expect(kind)?;
         Ok(read)
     }
 
     /// Takes the `;` of an item. Where it is missing and a line or what the item stands in ends,
     /// the item is read as if it stood there.
-    pub(crate) fn expect_end(&mut self) -> Result<(), Fault> {
+    pub(crate) fn expect_end(&mut self) -> Result<(), Fault>
+        ensures { OnOk result (Reads self.old self.new (IsKind TokenKind.Semicolon)) }
+    {
         if self.eat(TokenKind::Semicolon) {
             return Ok(());
         }
@@ -156,13 +193,18 @@ impl Cursor {
     }
 
     /// Takes the `;` of an item behind the rest of it.
-    pub(crate) fn ended<T: Drop>(&mut self, item: T) -> Result<T, Fault> {
+    pub(crate) fn ended<T: Drop>(&mut self, item: T) -> Result<T, Fault>
+        ensures end { OnOk result (Reads self.old self.new (IsKind TokenKind.Semicolon)) }
+        ensures value { IfOk result (λ value. value ≡ item) }
+    {
         self.expect_end()?;
         Ok(item)
     }
 
     // Refuses the next token, before which the last line lacks its `;`.
-    fn refuse_open_line(&mut self) -> Result<(), Fault> {
+    fn refuse_open_line(&mut self) -> Result<(), Fault>
+        ensures { OnOk result (0 < vec_len self.new.refusals.found) }
+    {
         let token = self.peek();
         if !self.refusals.takes(token.span.start) {
             return Ok(());
@@ -180,29 +222,46 @@ impl Cursor {
     }
 
     /// Takes a name.
-    pub(crate) fn ident(&mut self, expected: &str) -> Result<Ident, Fault> {
+    pub(crate) fn ident(&mut self, expected: &str) -> Result<Ident, Fault>
+        ensures { IfOk result (λ ident. Reads self.old self.new (IsName ident)) }
+    {
         let token = self.peek();
-        let text = self.text_of(token);
-        let name = match token.kind {
-            TokenKind::Word if is_keyword(text) => return Err(self.refuse_keyword(expected)),
-            TokenKind::Word => text,
-            TokenKind::Escaped => text.strip_prefix('%').unwrap_or(text),
-            _ => return Err(self.refuse(expected)),
+        let Some(text) = self.name_of(token) else {
+            return Err(self.refuse(expected));
         };
-        let name = String::from_str(self.alloc, name)?;
+        if is_bare_keyword(token, text) {
+            return Err(self.refuse_keyword(expected));
+        }
+        let name = String::from_str(self.alloc, text)?;
         let span = self.take().span;
         Ok(Ident { name, span })
     }
 
+    // The text of a name without the `%` that may stand before it, if the token is of such a kind.
+    fn name_of(&self, token: Token) -> Option<&str>
+        ensures { IfSome result (λ name. SpellsName (string_bytes self.now.text) token name.now) }
+    {
+        let Span { start, end } = token.span;
+        match token.kind {
+            TokenKind::Word => self.text.get(start..end),
+            TokenKind::Escaped if start < end => self.text.get(start + 1..end),
+            _ => None,
+        }
+    }
+
     /// Takes a name and the colon behind it.
-    pub(crate) fn label(&mut self, expected: &str) -> Result<Ident, Fault> {
+    pub(crate) fn label(&mut self, expected: &str) -> Result<Ident, Fault>
+        ensures { IfOk result (λ ident. Reads self.old self.new (IsName ident ▸ IsKind TokenKind.Colon)) }
+    {
         let name = self.ident(expected)?;
         self.expect(TokenKind::Colon)?;
         Ok(name)
     }
 
     /// Refuses the next token, where something else was expected.
-    pub(crate) fn refuse(&mut self, expected: &str) -> Fault {
+    pub(crate) fn refuse(&mut self, expected: &str) -> Fault
+        ensures { result ≡ Refused → 0 < vec_len self.new.refusals.found }
+    {
         let token = self.peek();
         // the search for an open brace is long, so it is for the first refusal at the end alone
         if !self.refusals.takes(token.span.start) {
@@ -261,7 +320,9 @@ impl Cursor {
     }
 
     /// Notes a refusal.
-    pub(crate) fn note(&mut self, span: Span, message: Result<String, AllocError>) -> Fault {
+    pub(crate) fn note(&mut self, span: Span, message: Result<String, AllocError>) -> Fault
+        ensures { result ≡ Refused → 0 < vec_len self.new.refusals.found }
+    {
         match self.refusals.add(span, message) {
             Ok(()) => Fault::Refused,
             Err(_) => Fault::Memory,
@@ -271,8 +332,12 @@ impl Cursor {
     /// Goes on behind a refused item, which begins at the token of this index.
     ///
     /// `Err` where nothing follows it, where enough is refused, and after a failed allocation.
-    pub(crate) fn recover(&mut self, fault: Fault, start: usize) -> Result<(), Fault> {
-        if matches!(fault, Fault::Memory) || self.refusals.is_full() {
+    pub(crate) fn recover(&mut self, fault: Fault, start: usize) -> Result<(), Fault>
+        ensures { OnOk result (0 < vec_len self.new.refusals.found) }
+    {
+        // where an item is refused, a refusal is noted
+        let is_over = self.refusals.is_empty() || self.refusals.is_full();
+        if matches!(fault, Fault::Memory) || is_over {
             return Err(fault);
         }
         self.next = self.end_of_item(start);
@@ -325,4 +390,11 @@ impl Cursor {
             _ => Err(self.refusals.into_error()),
         }
     }
+}
+
+// Whether a token with this text is a keyword, which `%` before it would make a name.
+fn is_bare_keyword(token: Token, text: &str) -> bool
+    ensures { result ≡ false → token.kind ≡ TokenKind.Word → is_keyword text.now ≡ false }
+{
+    token.kind == TokenKind::Word && is_keyword(text)
 }

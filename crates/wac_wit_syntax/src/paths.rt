@@ -1,5 +1,11 @@
 //! Reads the names of packages, and paths.
 
+ghost use Rattle.std.specs.Prelude.{IfOk};
+ghost use Rattle.wac_wit_syntax.specs.Cursors.{Reads};
+ghost use Rattle.wac_wit_syntax.specs.Paths.{IsPackageName, IsPath, IsSuffix};
+ghost use Rattle.wac_wit_syntax.specs.Productions.{IsName};
+ghost use Rattle.wac_wit_syntax.specs.declared.cursor.Cursor.{Cursor};
+
 use super::cursor::Cursor;
 use super::error::Fault;
 use super::token::TokenKind;
@@ -7,7 +13,9 @@ use super::tree::{Gate, Ident, PackageName, Path};
 use super::versions::read_version;
 
 // Reads `@VERSION`, if that comes next.
-fn read_suffix(cursor: &mut Cursor) -> Result<Option<Gate>, Fault> {
+fn read_suffix(cursor: &mut Cursor) -> Result<Option<Gate>, Fault>
+    ensures { IfOk result (λ version. Reads cursor.old cursor.new (IsSuffix version)) }
+{
     if cursor.eat(TokenKind::At) {
         Ok(Some(read_version(cursor)?))
     } else {
@@ -16,7 +24,9 @@ fn read_suffix(cursor: &mut Cursor) -> Result<Option<Gate>, Fault> {
 }
 
 /// Reads the name of a package.
-pub(crate) fn read_package_name(cursor: &mut Cursor) -> Result<PackageName, Fault> {
+pub(crate) fn read_package_name(cursor: &mut Cursor) -> Result<PackageName, Fault>
+    ensures { IfOk result (λ name. Reads cursor.old cursor.new (IsPackageName name)) }
+{
     let namespace = cursor.label("the namespace of a package, as in `ns:name`")?;
     let name = read_last_name(cursor)?;
     let version = read_suffix(cursor)?;
@@ -31,7 +41,9 @@ pub(crate) fn read_package_name(cursor: &mut Cursor) -> Result<PackageName, Faul
 
 // Reads the name of a package behind its namespace. The grammar has names of several namespaces,
 // which no tool supports yet.
-fn read_last_name(cursor: &mut Cursor) -> Result<Ident, Fault> {
+fn read_last_name(cursor: &mut Cursor) -> Result<Ident, Fault>
+    ensures { IfOk result (λ name. Reads cursor.old cursor.new (IsName name)) }
+{
     let name = cursor.ident("the name of a package")?;
     if cursor.sees(TokenKind::Colon) {
         let span = cursor.peek().span;
@@ -41,13 +53,17 @@ fn read_last_name(cursor: &mut Cursor) -> Result<Ident, Fault> {
 }
 
 /// Reads a path.
-pub(crate) fn read_path(cursor: &mut Cursor) -> Result<Path, Fault> {
+pub(crate) fn read_path(cursor: &mut Cursor) -> Result<Path, Fault>
+    ensures { IfOk result (λ path. Reads cursor.old cursor.new (IsPath path)) }
+{
     let first = cursor.ident("the name of an interface or a world, or a path to one")?;
     path_after(cursor, first)
 }
 
 /// Reads what follows the first name of a path.
-pub(crate) fn path_after(cursor: &mut Cursor, first: Ident) -> Result<Path, Fault> {
+pub(crate) fn path_after(cursor: &mut Cursor, first: Ident) -> Result<Path, Fault>
+    ensures { IfOk result (λ path. (before : Cursor) → Reads before cursor.old (IsName first) → Reads before cursor.new (IsPath path)) }
+{
     if !cursor.eat(TokenKind::Colon) {
         let span = first.span;
         return Ok(Path {
@@ -57,16 +73,16 @@ pub(crate) fn path_after(cursor: &mut Cursor, first: Ident) -> Result<Path, Faul
         });
     }
     let package_name = read_last_name(cursor)?;
-    let mut package = PackageName {
+    cursor.expect(TokenKind::Slash)?;
+    let name = cursor.ident("the name of an interface or a world")?;
+    let version = read_suffix(cursor)?;
+    let span = first.span.to(cursor.last_span());
+    let package = PackageName {
         span: first.span.to(package_name.span),
         namespace: first,
         name: package_name,
-        version: None,
+        version,
     };
-    cursor.expect(TokenKind::Slash)?;
-    let name = cursor.ident("the name of an interface or a world")?;
-    package.version = read_suffix(cursor)?;
-    let span = package.span.to(cursor.last_span());
     Ok(Path {
         package: Some(package),
         name,

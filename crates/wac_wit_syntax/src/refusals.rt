@@ -1,6 +1,6 @@
 //! What is refused of a text so far.
 
-ghost use Rattle.std.specs.Prelude.{◌≡◌, ◌<◌, ◌==◌, IsNone, OnOk, nat_le, vec_len};
+ghost use Rattle.std.specs.Prelude.{◌≡◌, ◌<◌, ◌==◌, false, IsNone, OnOk, nat_le, vec_len};
 
 use super::error::{MAX_REFUSALS, Refusal, SyntaxError};
 use super::positions::Span;
@@ -45,7 +45,9 @@ impl Refusals {
 
     /// Whether a refusal at a place would be noted: one follows from the other where two have the
     /// same place, as where a name is misspelled and then isn't the word that was expected.
-    pub(crate) fn takes(&self, start: usize) -> bool {
+    pub(crate) fn takes(&self, start: usize) -> bool
+        ensures { result ≡ false → 0 < vec_len self.now.found }
+    {
         self.index_for(start).is_some()
     }
 

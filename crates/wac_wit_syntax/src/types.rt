@@ -1,5 +1,14 @@
 //! Reads types.
 
+ghost use Rattle.std.specs.Prelude.{◌≡◌, true, false, [], ◌∷◌, ◌++◌, IfOk, IfSome, IsOk, OnOk};
+ghost use Rattle.wac_model.specs.Desc.{primitive_desc};
+ghost use Rattle.wac_wit_syntax.specs.Cursors.{Reads, ReadsBehind, source};
+ghost use Rattle.wac_wit_syntax.specs.Productions.{◌▸◌, IsKind, IsName, Nothing, SaysWord};
+ghost use Rattle.wac_wit_syntax.specs.TypeParts.{Begun, IsMade, Parted, HasKey, Stage, TakesLast, is_empty, is_first, may_end, may_go_on, next_is_type, word_text};
+ghost use Rattle.wac_wit_syntax.specs.Types.{IsLength, IsTypeOf, SaysLength, is_key};
+ghost use Rattle.wac_wit_syntax.specs.declared.cursor.Cursor.{Cursor};
+ghost use Rattle.wac_wit_syntax.specs.declared.positions.Span.{Span};
+
 use super::cursor::Cursor;
 use super::error::Fault;
 use super::positions::Span;
@@ -44,8 +53,25 @@ impl Drop for Parts {
 }
 
 impl Parts {
+    // Whether there is none so far.
+    fn is_empty(&self) -> bool
+        ensures { result ≡ is_empty self.now.types.items self.now.lacks_first }
+    {
+        self.types.is_empty() && !self.lacks_first
+    }
+
+    // Whether the only part is a type.
+    fn is_first(&self) -> bool
+        ensures { result ≡ is_first self.now.types.items self.now.lacks_first self.now.length }
+    {
+        self.types.len() == 1 && !self.lacks_first && self.length.is_none()
+    }
+
     // Takes the last of the types, if there is one.
-    fn take_last(&mut self, alloc: Global) -> Result<Option<Box<TypeExpr>>, AllocError> {
+    fn take_last(&mut self, alloc: Global) -> Result<Option<Box<TypeExpr>>, AllocError>
+        ensures last { IfOk result (λ last. TakesLast self.old.types.items self.new.types.items last) }
+        ensures rest { self.new ≡ record self.old { types = self.new.types } }
+    {
         match self.types.pop() {
             Some(ty) => Ok(Some(Box::new(alloc, ty)?)),
             None => Ok(None),
@@ -54,13 +80,17 @@ impl Parts {
 }
 
 /// Reads a type.
-pub(crate) fn read_type(cursor: &mut Cursor) -> Result<TypeExpr, Fault> {
+pub(crate) fn read_type(cursor: &mut Cursor) -> Result<TypeExpr, Fault>
+    ensures { IfOk result (λ t. Reads cursor.old cursor.new (IsTypeOf t)) }
+{
     type_within(cursor, MAX_DEPTH)
 }
 
 // Reads a type in which at most so many nest. This is the one function that calls itself, so the
 // stack is bounded by that number.
-fn type_within(cursor: &mut Cursor, depth: usize) -> Result<TypeExpr, Fault> {
+fn type_within(cursor: &mut Cursor, depth: usize) -> Result<TypeExpr, Fault>
+    ensures { IfOk result (λ t. Reads cursor.old cursor.new (IsTypeOf t)) }
+{
     let start = cursor.peek().span;
     let Some(word) = type_word(cursor) else {
         return read_plain(cursor);
@@ -74,22 +104,27 @@ fn type_within(cursor: &mut Cursor, depth: usize) -> Result<TypeExpr, Fault> {
         lacks_first: false,
         length: None,
     };
-    if opens(cursor, word)? {
-        for _turn in 0..cursor.len() {
-            if !read_other(cursor, word, &mut parts)? {
-                parts.types.push(type_within(cursor, depth - 1)?)?;
-            }
-            if !goes_on(cursor, word, &parts)? {
-                break;
-            }
+    let mut is_open = opens(cursor, word)?;
+    for _turn in 0..cursor.len() {
+        if !is_open {
+            break;
         }
+        if !read_other(cursor, word, &mut parts)? {
+            parts.types.push(type_within(cursor, depth - 1)?)?;
+        }
+        is_open = goes_on(cursor, word, &parts)?;
+    }
+    if is_open {
+        return Err(cursor.refuse("`>`"));
     }
     let span = start.to(cursor.last_span());
     build(cursor, word, &mut parts, span)
 }
 
 // The word that comes next, if it makes types. `map` may be a name too.
-fn type_word(cursor: &Cursor) -> Option<TypeWord> {
+fn type_word(cursor: &Cursor) -> Option<TypeWord>
+    ensures { IfSome result (λ word. SaysWord (source cursor.now) cursor.now.next (word_text word)) }
+{
     Some(match cursor.word() {
         "list" => TypeWord::List,
         "option" => TypeWord::Option,
@@ -103,7 +138,9 @@ fn type_word(cursor: &Cursor) -> Option<TypeWord> {
 }
 
 // Reads a type that is one word, or a handle.
-fn read_plain(cursor: &mut Cursor) -> Result<TypeExpr, Fault> {
+fn read_plain(cursor: &mut Cursor) -> Result<TypeExpr, Fault>
+    ensures { IfOk result (λ t. Reads cursor.old cursor.new (IsTypeOf t)) }
+{
     match cursor.word() {
         "own" => Ok(TypeExpr::Own(read_resource(cursor)?)),
         "borrow" => Ok(TypeExpr::Borrow(read_resource(cursor)?)),
@@ -115,7 +152,9 @@ fn read_plain(cursor: &mut Cursor) -> Result<TypeExpr, Fault> {
 }
 
 // Reads the name of the resource of a handle, from the word of the handle on.
-fn read_resource(cursor: &mut Cursor) -> Result<Ident, Fault> {
+fn read_resource(cursor: &mut Cursor) -> Result<Ident, Fault>
+    ensures { IfOk result (λ id. ReadsBehind cursor.old cursor.new (IsKind TokenKind.OpenAngle ▸ IsName id ▸ IsKind TokenKind.CloseAngle)) }
+{
     cursor.take();
     cursor.expect(TokenKind::OpenAngle)?;
     let resource = cursor.ident("the name of a resource")?;
@@ -140,7 +179,9 @@ static PRIMITIVES: [(&str, PrimitiveType); 14] = [
 ];
 
 // The primitive type of a name.
-fn primitive_of(word: &str) -> Option<PrimitiveType> {
+fn primitive_of(word: &str) -> Option<PrimitiveType>
+    ensures { IfSome result (λ primitive. word.now ≡ primitive_desc primitive) }
+{
     for (name, primitive) in &PRIMITIVES {
         if *name == word {
             return Some(*primitive);
@@ -150,7 +191,9 @@ fn primitive_of(word: &str) -> Option<PrimitiveType> {
 }
 
 // Takes the angle behind a word, which some words stand without.
-fn opens(cursor: &mut Cursor, word: TypeWord) -> Result<bool, Fault> {
+fn opens(cursor: &mut Cursor, word: TypeWord) -> Result<bool, Fault>
+    ensures { IfOk result (λ is_open. Reads cursor.old cursor.new (Stage is_open word [] false None)) }
+{
     if matches!(word, TypeWord::Result | TypeWord::Future | TypeWord::Stream) {
         return Ok(cursor.eat(TokenKind::OpenAngle));
     }
@@ -159,53 +202,132 @@ fn opens(cursor: &mut Cursor, word: TypeWord) -> Result<bool, Fault> {
 }
 
 // Reads the next part, if it is none of the types: the `_` of a result, the length of a list.
-fn read_other(cursor: &mut Cursor, word: TypeWord, parts: &mut Parts) -> Result<bool, Fault> {
-    let is_first = parts.types.is_empty() && !parts.lacks_first;
-    if matches!(word, TypeWord::Result) && is_first && cursor.eat(TokenKind::Underscore) {
+fn read_other(cursor: &mut Cursor, word: TypeWord, parts: &mut Parts) -> Result<bool, Fault>
+    ensures other { IfOk result (λ is_other. is_other ≡ true → (before : Cursor) → Reads before cursor.old (Begun word parts.old.types.items parts.old.lacks_first parts.old.length) → Reads before cursor.new (Parted word parts.new.types.items parts.new.lacks_first parts.new.length)) }
+    ensures left { IfOk result (λ is_other. is_other ≡ false → (cursor.new ≡ cursor.old) × (parts.new ≡ parts.old)) }
+    ensures ty { IfOk result (λ is_other. is_other ≡ false → next_is_type word parts.old.types.items parts.old.lacks_first ≡ true) }
+{
+    let may_lack = matches!(word, TypeWord::Result) && parts.is_empty();
+    if may_lack && cursor.eat(TokenKind::Underscore) {
         parts.lacks_first = true;
         return Ok(true);
     }
-    if matches!(word, TypeWord::List) && !is_first {
+    if !takes_type(word, parts) {
         parts.length = Some(read_length(cursor)?);
         return Ok(true);
     }
     Ok(false)
 }
 
-// Reads a number below 2^32.
-fn read_length(cursor: &mut Cursor) -> Result<u32, Fault> {
-    let token = cursor.peek();
-    if token.kind == TokenKind::Integer {
-        if let Ok(number) = cursor.text_of(token).parse::<u32>() {
-            cursor.take();
-            return Ok(number);
-        }
+// Whether the next part is a type or `_`.
+fn takes_type(word: TypeWord, parts: &Parts) -> bool
+    ensures { result ≡ next_is_type word parts.now.types.items parts.now.lacks_first }
+{
+    match word {
+        TypeWord::List => parts.is_empty(),
+        _ => true,
     }
-    Err(cursor.refuse("a length below 2^32"))
+}
+
+// Reads a number below 2^32.
+fn read_length(cursor: &mut Cursor) -> Result<u32, Fault>
+    ensures { IfOk result (λ length. Reads cursor.old cursor.new (IsLength length)) }
+{
+    match length_of(cursor) {
+        Some(length) => {
+            cursor.take();
+            Ok(length)
+        }
+        None => Err(cursor.refuse("a length below 2^32")),
+    }
+}
+
+// The number below 2^32 that comes next.
+fn length_of(cursor: &Cursor) -> Option<u32>
+    ensures { IfSome result (λ length. SaysLength (source cursor.now) cursor.now.next length) }
+{
+    let token = cursor.peek();
+    if token.kind != TokenKind::Integer {
+        return None;
+    }
+    match cursor.spelling(token)?.parse::<u32>() {
+        Ok(length) => Some(length),
+        Err(_) => None,
+    }
 }
 
 // Takes the comma or the angle behind a part; whether another part follows.
-fn goes_on(cursor: &mut Cursor, word: TypeWord, parts: &Parts) -> Result<bool, Fault> {
-    let is_first = parts.types.len() == 1 && !parts.lacks_first && parts.length.is_none();
-    let (may_go_on, may_end) = match word {
-        TypeWord::Tuple => (true, true),
-        TypeWord::Map => (is_first, !is_first),
-        TypeWord::List => (is_first, true),
-        TypeWord::Result => (is_first || parts.types.is_empty(), !parts.types.is_empty()),
-        TypeWord::Option | TypeWord::Future | TypeWord::Stream => (false, true),
-    };
-    if may_go_on && cursor.eat(TokenKind::Comma) {
-        let is_over = matches!(word, TypeWord::Tuple) && cursor.eat(TokenKind::CloseAngle);
-        return Ok(!is_over);
+fn goes_on(cursor: &mut Cursor, word: TypeWord, parts: &Parts) -> Result<bool, Fault>
+    ensures { IfOk result (λ is_open. (before : Cursor) → Reads before cursor.old (Parted word parts.now.types.items parts.now.lacks_first parts.now.length) → Reads before cursor.new (Stage is_open word parts.now.types.items parts.now.lacks_first parts.now.length)) }
+{
+    if eats_comma(cursor, word, parts) {
+        if ends_tuple(cursor, word) {
+            return Ok(false);
+        }
+        return Ok(true);
     }
-    if may_end && cursor.eat(TokenKind::CloseAngle) {
+    if eats_end(cursor, word, parts) {
         return Ok(false);
     }
-    Err(cursor.refuse(match (may_go_on, may_end) {
+    let message = match (may_go_on(word, parts), may_end(word, parts)) {
         (true, true) => "`,` or `>`",
         (true, false) => "`,`",
         _ => "`>`",
-    }))
+    };
+    Err(cursor.refuse(message))
+}
+
+// Takes a comma, if another part may follow.
+fn eats_comma(cursor: &mut Cursor, word: TypeWord, parts: &Parts) -> bool
+    ensures eaten { result ≡ true → Reads cursor.old cursor.new (IsKind TokenKind.Comma) }
+    ensures may { result ≡ true → may_go_on word parts.now.types.items parts.now.lacks_first parts.now.length ≡ true }
+    ensures left { result ≡ false → cursor.new ≡ cursor.old }
+{
+    may_go_on(word, parts) && cursor.eat(TokenKind::Comma)
+}
+
+// Takes the angle that closes a tuple, behind a comma.
+fn ends_tuple(cursor: &mut Cursor, word: TypeWord) -> bool
+    ensures eaten { result ≡ true → Reads cursor.old cursor.new (IsKind TokenKind.CloseAngle) }
+    ensures tuple { result ≡ true → word ≡ TypeWord.Tuple }
+    ensures left { result ≡ false → cursor.new ≡ cursor.old }
+{
+    match word {
+        TypeWord::Tuple => cursor.eat(TokenKind::CloseAngle),
+        _ => false,
+    }
+}
+
+// Takes the angle behind the parts, if no other needs to follow.
+fn eats_end(cursor: &mut Cursor, word: TypeWord, parts: &Parts) -> bool
+    ensures eaten { result ≡ true → Reads cursor.old cursor.new (IsKind TokenKind.CloseAngle) }
+    ensures may { result ≡ true → may_end word parts.now.types.items parts.now.lacks_first parts.now.length ≡ true }
+    ensures left { result ≡ false → cursor.new ≡ cursor.old }
+{
+    may_end(word, parts) && cursor.eat(TokenKind::CloseAngle)
+}
+
+// Whether another part may follow.
+fn may_go_on(word: TypeWord, parts: &Parts) -> bool
+    ensures { result ≡ may_go_on word parts.now.types.items parts.now.lacks_first parts.now.length }
+{
+    match word {
+        TypeWord::Tuple => true,
+        TypeWord::Map | TypeWord::List => parts.is_first(),
+        TypeWord::Result => parts.types.is_empty() || parts.is_first(),
+        TypeWord::Option | TypeWord::Future | TypeWord::Stream => false,
+    }
+}
+
+// Whether no other part needs to follow.
+fn may_end(word: TypeWord, parts: &Parts) -> bool
+    ensures { result ≡ may_end word parts.now.types.items parts.now.lacks_first parts.now.length }
+{
+    match word {
+        TypeWord::Map => !parts.is_first(),
+        TypeWord::Result => !parts.types.is_empty(),
+        _ => true,
+    }
 }
 
 // The type that a word makes out of its parts.
@@ -214,7 +336,10 @@ fn build(
     word: TypeWord,
     parts: &mut Parts,
     span: Span,
-) -> Result<TypeExpr, Fault> {
+) -> Result<TypeExpr, Fault>
+    ensures made { IfOk result (λ t. IsMade word parts.old.types.items parts.old.lacks_first parts.old.length span t) }
+    ensures rest { IsOk result → cursor.new ≡ cursor.old }
+{
     let alloc = cursor.alloc;
     match word {
         TypeWord::Tuple => {
@@ -226,18 +351,25 @@ fn build(
         TypeWord::Future => Ok(TypeExpr::Future(parts.take_last(alloc)?)),
         TypeWord::Stream => Ok(TypeExpr::Stream(parts.take_last(alloc)?)),
         TypeWord::Option => Ok(TypeExpr::Option(needed(cursor, parts, span)?)),
-        TypeWord::List => {
-            let element = needed(cursor, parts, span)?;
-            Ok(match parts.length {
-                Some(length) => TypeExpr::FixedList(element, length, span),
-                None => TypeExpr::List(element),
-            })
-        }
+        TypeWord::List => build_list(cursor, parts, span),
+    }
+}
+
+fn build_list(cursor: &mut Cursor, parts: &mut Parts, span: Span) -> Result<TypeExpr, Fault>
+    ensures made { IfOk result (λ t. IsMade TypeWord.List parts.old.types.items parts.old.lacks_first parts.old.length span t) }
+    ensures rest { IsOk result → cursor.new ≡ cursor.old }
+{
+    let element = needed(cursor, parts, span)?;
+    match parts.length {
+        Some(length) => Ok(TypeExpr::FixedList(element, length, span)),
+        None => Ok(TypeExpr::List(element)),
     }
 }
 
 // A result, of which an only type is that of an error where `_` stands before it.
-fn build_result(alloc: Global, parts: &mut Parts) -> Result<TypeExpr, Fault> {
+fn build_result(alloc: Global, parts: &mut Parts) -> Result<TypeExpr, Fault>
+    ensures { IfOk result (λ t. (span : Span) → IsMade TypeWord.Result parts.old.types.items parts.old.lacks_first parts.old.length span t) }
+{
     if parts.types.len() == 1 && !parts.lacks_first {
         return Ok(TypeExpr::Result(parts.take_last(alloc)?, None));
     }
@@ -246,7 +378,10 @@ fn build_result(alloc: Global, parts: &mut Parts) -> Result<TypeExpr, Fault> {
     Ok(TypeExpr::Result(first, second))
 }
 
-fn build_map(cursor: &mut Cursor, parts: &mut Parts, span: Span) -> Result<TypeExpr, Fault> {
+fn build_map(cursor: &mut Cursor, parts: &mut Parts, span: Span) -> Result<TypeExpr, Fault>
+    ensures made { IfOk result (λ t. IsMade TypeWord.Map parts.old.types.items parts.old.lacks_first parts.old.length span t) }
+    ensures rest { IsOk result → cursor.new ≡ cursor.old }
+{
     if !has_key(parts) {
         return Err(cursor.refuse_at(
             span,
@@ -259,7 +394,11 @@ fn build_map(cursor: &mut Cursor, parts: &mut Parts, span: Span) -> Result<TypeE
 }
 
 // Takes the last of the types, which is there: `goes_on` asks for the parts that a word needs.
-fn needed(cursor: &mut Cursor, parts: &mut Parts, span: Span) -> Result<Box<TypeExpr>, Fault> {
+fn needed(cursor: &mut Cursor, parts: &mut Parts, span: Span) -> Result<Box<TypeExpr>, Fault>
+    ensures last { IfOk result (λ last. parts.old.types.items ≡ parts.new.types.items ++ last.value ∷ []) }
+    ensures parts { parts.new ≡ record parts.old { types = parts.new.types } }
+    ensures rest { IsOk result → cursor.new ≡ cursor.old }
+{
     match parts.take_last(cursor.alloc)? {
         Some(ty) => Ok(ty),
         None => Err(cursor.refuse_at(span, "expected a type")),
@@ -267,12 +406,20 @@ fn needed(cursor: &mut Cursor, parts: &mut Parts, span: Span) -> Result<Box<Type
 }
 
 // Whether the first type can be the key of a map.
-fn has_key(parts: &Parts) -> bool {
+fn has_key(parts: &Parts) -> bool
+    ensures { result ≡ true → HasKey parts.now.types.items }
+{
     match parts.types.first() {
-        Some(TypeExpr::Primitive(primitive, _)) => !matches!(
-            primitive,
-            PrimitiveType::F32 | PrimitiveType::F64 | PrimitiveType::ErrorContext
-        ),
+        Some(TypeExpr::Primitive(primitive, _)) => is_key(*primitive),
         _ => false,
     }
+}
+
+fn is_key(primitive: PrimitiveType) -> bool
+    ensures { result ≡ is_key primitive }
+{
+    !matches!(
+        primitive,
+        PrimitiveType::F32 | PrimitiveType::F64 | PrimitiveType::ErrorContext
+    )
 }

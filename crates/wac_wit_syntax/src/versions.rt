@@ -1,11 +1,16 @@
 //! Reads versions.
 
+ghost use Rattle.std.specs.Prelude.{◌≡◌, IfOk, IfSome, IsOk, string_bytes};
+ghost use Rattle.semver.specs.Parse.{version_parts};
+ghost use Rattle.wac_wit_syntax.specs.Cursors.{Reads, SpellsVersion};
+ghost use Rattle.wac_wit_syntax.specs.Paths.{IsVersion};
+
 use super::cursor::Cursor;
 use super::error::Fault;
 use super::keywords::is_keyword;
 use super::positions::Span;
 use super::scanning::{Run, byte_at, quoted};
-use super::token::TokenKind;
+use super::token::{Token, TokenKind};
 use super::tree::Gate;
 use semver::Version;
 use std::alloc::AllocError;
@@ -19,21 +24,33 @@ struct Wrong {
 }
 
 /// Reads a version of SemVer 2.0.0, as `0.2.0`. Its numbers are below 2^64.
-pub(crate) fn read_version(cursor: &mut Cursor) -> Result<Gate, Fault> {
+pub(crate) fn read_version(cursor: &mut Cursor) -> Result<Gate, Fault>
+    ensures { IfOk result (λ version. Reads cursor.old cursor.new (IsVersion version)) }
+{
     let token = cursor.peek();
-    if !matches!(token.kind, TokenKind::Version | TokenKind::Integer) {
+    let Some(text) = version_text(cursor, token) else {
         return Err(cursor.refuse("a version, as `1.2.3`"));
-    }
-    if let Some(wrong) = fault_of_version(cursor.text_of(token)) {
+    };
+    if let Some(wrong) = fault_of_version(text) {
         let span = Span {
             start: token.span.start.saturating_add(wrong.start),
             end: token.span.start.saturating_add(wrong.end),
         };
         return Err(cursor.refuse_at(span, wrong.message));
     }
-    let text = String::from_str(cursor.alloc, cursor.text_of(token))?;
+    let text = String::from_str(cursor.alloc, text)?;
     let span = cursor.take().span;
     check_version(cursor, Gate { text, span })
+}
+
+// The text of a token that may be a version.
+fn version_text(cursor: &Cursor, token: Token) -> Option<&str>
+    ensures { IfSome result (λ text. SpellsVersion (string_bytes cursor.now.text) token text.now) }
+{
+    match token.kind {
+        TokenKind::Version | TokenKind::Integer => cursor.spelling(token),
+        _ => None,
+    }
 }
 
 // What is wrong with the form of a version: it has three numbers with dots between them, and none
@@ -87,7 +104,11 @@ fn keyword_in(text: &str, first: usize) -> Option<Wrong> {
 }
 
 // Refuses a text in the form of a version that is none.
-fn check_version(cursor: &mut Cursor, version: Gate) -> Result<Gate, Fault> {
+fn check_version(cursor: &mut Cursor, version: Gate) -> Result<Gate, Fault>
+    ensures same { IfOk result (λ checked. checked ≡ version) }
+    ensures valid { IfOk result (λ checked. IsOk (version_parts (string_bytes checked.text))) }
+    ensures rest { IsOk result → cursor.new ≡ cursor.old }
+{
     let error = match Version::parse(cursor.alloc, &version.text) {
         Ok(_parsed) => return Ok(version),
         Err(error) => error,
