@@ -13,35 +13,35 @@ use Rattle.wac_component.specs.Tree.{Externs as ExternTrees, externs, interface_
 use Rattle.wac_component.specs.declared.items.ItemKind.{ItemKind}
 use Rattle.wac_component.proofs.Members.{exports_stand, exports_lower, world_exports_stand, world_exports_lower}
 use Rattle.wac_checker.proofs.ExternLemmas.{named_stands, named_lower, item_at-items_of}
-use Rattle.wac_merge.specs.Items.{Externs, entry_item}
+use Rattle.wac_merge.specs.Items.{ExternKinds, entry_item}
 use Rattle.wac_aggregator_errors.specs.Clashes.{AreApart, HasNoClash}
 use Rattle.wac_aggregator_errors.specs.Found.{HasExportsAt, AreFoundIn, IsClashOf, HasNone, AreItemsApart, IsSearchOf, IsSearchBelow}
 use Rattle.wac_aggregator_errors.specs.declared.exports.ExportClash.{ExportClash}
 
-pub reads_interface : (c : Collection) (x : Id) (e : InterfaceContent) (es : Externs) → externs c (interface_key x) ≡ interface_externs (item_tree c) e
+pub reads_interface : (c : Collection) (x : Id) (e : InterfaceContent) (es : ExternKinds) → externs c (interface_key x) ≡ interface_externs (item_tree c) e
     → AllStand c (interface_keys e) → keys_height c (interface_keys e) < height c (interface_key x) → es ≡ e.exports → HasExportsAt c (interface_key x) es
 reads_interface c x e es tree stand lower same = record {
   imports = no_items;
-  tree = tree ∙ ap (λ (l : Externs). let r : ExternTrees = record { imports = no_items; exports = items_of (item_tree c) l } in r) (sym same);
+  tree = tree ∙ ap (λ (l : ExternKinds). let r : ExternTrees = record { imports = no_items; exports = items_of (item_tree c) l } in r) (sym same);
   standing = rw same (exports_stand c e stand);
   lower = rw same (omega (arith, lower, exports_lower c e));
 }
 
-pub reads_world : (c : Collection) (x : Id) (e : WorldContent) (es : Externs) → externs c (world_key x) ≡ world_externs (item_tree c) e
+pub reads_world : (c : Collection) (x : Id) (e : WorldContent) (es : ExternKinds) → externs c (world_key x) ≡ world_externs (item_tree c) e
     → AllStand c (world_keys e) → keys_height c (world_keys e) < height c (world_key x) → es ≡ e.exports → HasExportsAt c (world_key x) es
 reads_world c x e es tree stand lower same = record {
   imports = items_of (item_tree c) e.imports;
-  tree = tree ∙ ap (λ (l : Externs). let r : ExternTrees = record { imports = items_of (item_tree c) e.imports; exports = items_of (item_tree c) l } in r) (sym same);
+  tree = tree ∙ ap (λ (l : ExternKinds). let r : ExternTrees = record { imports = items_of (item_tree c) e.imports; exports = items_of (item_tree c) l } in r) (sym same);
   standing = rw same (world_exports_stand c e stand);
   lower = rw same (omega (arith, lower, world_exports_lower c e));
 }
 
 -- what the exports are as a tree
-exports_at : (c : Collection) (k : Key) (es : Externs) → HasExportsAt c k es → (n : Text) (x : ItemKind) → lookup bytes_eq es n ≡ Some x → item_at (externs c k).exports n ≡ Some (item_tree c x)
+exports_at : (c : Collection) (k : Key) (es : ExternKinds) → HasExportsAt c k es → (n : Text) (x : ItemKind) → lookup bytes_eq es n ≡ Some x → item_at (externs c k).exports n ≡ Some (item_tree c x)
 exports_at c k es h n x there = ap (λ (e : ExternTrees). item_at e.exports n) h.tree ∙ item_at-items_of (item_tree c) es n ∙ ap (option_map (item_tree c)) there
 
 -- what both have under a name is a clash of two interfaces or of two worlds
-module _ (c : Collection) (es ts : Externs) (found : ExportClash) (clash : AreFoundIn c es ts found) where
+module _ (c : Collection) (es ts : ExternKinds) (found : ExportClash) (clash : AreFoundIn c es ts found) where
   lower_of : (k : Key) → HasExportsAt c k es → keys_height c (item_keys found.existing) < max (height c k) 0
   lower_of k h = omega (arith, h.lower, named_lower c es _ found.existing clash.of_first)
 
@@ -87,27 +87,27 @@ module _ (c : Collection) (es ts : Externs) (found : ExportClash) (clash : AreFo
 
 -- what isn't found under a name isn't there
 
-item_there : (c : Collection) (k : Key) (es : Externs) → HasExportsAt c k es → (n : Text) (s : ItemTree) → item_at (externs c k).exports n ≡ Some s → (x : ItemKind) × (lookup bytes_eq es n ≡ Some x) × (item_tree c x ≡ s)
+item_there : (c : Collection) (k : Key) (es : ExternKinds) → HasExportsAt c k es → (n : Text) (s : ItemTree) → item_at (externs c k).exports n ≡ Some s → (x : ItemKind) × (lookup bytes_eq es n ≡ Some x) × (item_tree c x ≡ s)
 item_there c k es h n s first = go (lookup bytes_eq es n) refl (sym (ap (λ (e : ExternTrees). item_at e.exports n) h.tree ∙ item_at-items_of (item_tree c) es n) ∙ first)
   where
     go : (o : Option ItemKind) → lookup bytes_eq es n ≡ o → option_map (item_tree c) o ≡ Some s → (x : ItemKind) × (lookup bytes_eq es n ≡ Some x) × (item_tree c x ≡ s)
     go None is f = absurd (cc)
     go (Some x) is f = (x, is, cc)
 
-no_clash : (c : Collection) (k j : Key) (es ts : Externs) → HasExportsAt c k es → HasExportsAt c j ts → HasNone (AreItemsApart c) es ts
+no_clash : (c : Collection) (k j : Key) (es ts : ExternKinds) → HasExportsAt c k es → HasExportsAt c j ts → HasNone (AreItemsApart c) es ts
     → (n : Text) (s t : ItemTree) → item_at (externs c k).exports n ≡ Some s → item_at (externs c j).exports n ≡ Some t → ¬ (AreApart s t)
 no_clash c k j es ts h g none n s t first second apart =
     let x = item_there c k es h n s first in
     let y = item_there c j ts g n t second in
     none n x.0 y.0 x.1 y.1 (subst (λ a. AreApart a (item_tree c y.0)) (sym x.2) (subst (λ b. AreApart s b) (sym y.2) apart))
 
-pub interfaces_searched : (c : Collection) (es ts : Externs) (x y : Id) → HasExportsAt c (interface_key x) es → HasExportsAt c (interface_key y) ts → (o : Option ExportClash) → IsSearchOf c es ts o
+pub interfaces_searched : (c : Collection) (es ts : ExternKinds) (x y : Id) → HasExportsAt c (interface_key x) es → HasExportsAt c (interface_key y) ts → (o : Option ExportClash) → IsSearchOf c es ts o
     → (kind : Kind) → IsSearchBelow c (entry_item kind (interface_key x)) (entry_item kind (interface_key y)) o
 interfaces_searched c es ts x y h g (Some found) clash kind = interfaces_clash c es ts found clash x y h g kind
 interfaces_searched c es ts x y h g None none item = λ alike. no_clash c (interface_key x) (interface_key y) es ts h g none
 interfaces_searched c es ts x y h g None none type_item = λ alike. no_clash c (interface_key x) (interface_key y) es ts h g none
 
-pub worlds_searched : (c : Collection) (es ts : Externs) (x y : Id) → HasExportsAt c (world_key x) es → HasExportsAt c (world_key y) ts → (o : Option ExportClash) → IsSearchOf c es ts o
+pub worlds_searched : (c : Collection) (es ts : ExternKinds) (x y : Id) → HasExportsAt c (world_key x) es → HasExportsAt c (world_key y) ts → (o : Option ExportClash) → IsSearchOf c es ts o
     → (kind : Kind) → IsSearchBelow c (entry_item kind (world_key x)) (entry_item kind (world_key y)) o
 worlds_searched c es ts x y h g (Some found) clash kind = worlds_clash c es ts found clash x y h g kind
 worlds_searched c es ts x y h g None none item = λ alike. no_clash c (world_key x) (world_key y) es ts h g none

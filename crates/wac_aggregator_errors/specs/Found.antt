@@ -10,7 +10,7 @@ use Rattle.wac_component.specs.Height.{height, keys_height}
 use Rattle.wac_component.specs.Key.{Key, AllStand, item_keys}
 use Rattle.wac_component.specs.Tree.{externs, items_of, item_tree}
 use Rattle.wac_component.specs.declared.items.ItemKind.{ItemKind}
-use Rattle.wac_merge.specs.Items.{Externs, extern_keys}
+use Rattle.wac_merge.specs.Items.{ExternKinds, extern_keys}
 use Rattle.wac_mismatch.specs.Path.{AreAlike}
 use Rattle.wac_mismatch.specs.Place.{item_side}
 use Rattle.wac_mismatch.specs.declared.error.SubtypeError.{SubtypeError}
@@ -19,14 +19,14 @@ use Rattle.wac_aggregator_errors.specs.declared.exports.ExportClash.{ExportClash
 use Rattle.wac_aggregator_errors.specs.declared.modules.CoreClash.{CoreClash}
 
 -- an interface or a world has these exports, which stand and are lower
-pub record HasExportsAt (c : Collection) (k : Key) (es : Externs) : Type 0 where
+pub record HasExportsAt (c : Collection) (k : Key) (es : ExternKinds) : Type 0 where
   pub imports : Items
   pub tree : externs c k ≡ record { imports = imports; exports = items_of (item_tree c) es }
   pub standing : AllStand c (extern_keys es)
   pub lower : keys_height c (extern_keys es) < height c k
 
 -- both have the name, and what they have there has no meet
-pub record AreFoundIn (c : Collection) (es ts : Externs) (found : ExportClash) : Type 0 where
+pub record AreFoundIn (c : Collection) (es ts : ExternKinds) (found : ExportClash) : Type 0 where
   pub of_first : lookup bytes_eq es (string_bytes found.name) ≡ Some found.existing
   pub of_second : lookup bytes_eq ts (string_bytes found.name) ≡ Some found.new
   pub apart : AreApart (item_tree c found.existing) (item_tree c found.new)
@@ -79,7 +79,7 @@ abbrev pub AreItemsApart : Collection → ItemKind → ItemKind → Type 0
 AreItemsApart c x y = AreApart (item_tree c x) (item_tree c y)
 
 -- of named items, and of two items
-abbrev pub IsSearchOf : Collection → Externs → Externs → Option ExportClash → Type 0
+abbrev pub IsSearchOf : Collection → ExternKinds → ExternKinds → Option ExportClash → Type 0
 IsSearchOf c es ts o = MatchOption o (HasNone (AreItemsApart c) es ts) (AreFoundIn c es ts)
 
 abbrev pub IsSearchBelow : Collection → ItemKind → ItemKind → Option ExportClash → Type 0

@@ -18,7 +18,7 @@ use Rattle.wac_component.proofs.Keys.{Each-left, Each-right, Each-append}
 use Rattle.wac_component.proofs.Among.{among_each, each_among, each_found, each_named}
 use Rattle.wac_component.proofs.OpenWalks.{imports_stand, import_in_next, open_stands, open_in_next, import_or_open}
 use Rattle.wac_merge.specs.Built.{Origins, IsBuilt, first, second, fresh, IsBuiltAt, of_first, of_second, of_both, AreBuilt, uses_of_both, IsEntryFrom, of_interfaces, of_worlds, of_modules, IsAddedBuilt, OnlyBuilds}
-use Rattle.wac_merge.specs.Items.{Externs}
+use Rattle.wac_merge.specs.Items.{ExternKinds}
 use Rattle.wac_merge.proofs.ItemKeys.{each_entry_item, entry_item_each}
 use Rattle.wac_aggregator_narrowing.specs.Identified.{IsCovered}
 use Rattle.wac_aggregator_narrowing.specs.Apart.{IsKeyApart, AreKeysApart, IsGood}
@@ -74,15 +74,15 @@ module _ (c d : Collection) (o : Origins) (s : IsSound c) (only : OnlyBuilds c d
         let right = entry_item_each P k (o m).1 (subst (λ (x : ItemKind). Each P (item_keys x)) b_is hb.1) in
         subst (λ (x : ItemKind). Each IsBuiltFrom (item_keys x)) (sym is) (each_entry_item IsBuiltFrom k m (made stands new left right))
 
-    old_found : (es : Externs) (n : Text) (y : ItemKind) → lookup bytes_eq es n ≡ Some y → AreOld (named_keys item_keys es) → AreOld (item_keys y)
+    old_found : (es : ExternKinds) (n : Text) (y : ItemKind) → lookup bytes_eq es n ≡ Some y → AreOld (named_keys item_keys es) → AreOld (item_keys y)
     old_found es n y is h = (each_found (Stands c) es n y is h.0, each_found P es n y is h.1)
 
-    from_at : (es ts : Externs) (n : Text) (y : ItemKind) → IsBuiltAt c d o es ts n y → AreOld (named_keys item_keys es) → AreOld (named_keys item_keys ts) → Each IsBuiltFrom (item_keys y)
+    from_at : (es ts : ExternKinds) (n : Text) (y : ItemKind) → IsBuiltAt c d o es ts n y → AreOld (named_keys item_keys es) → AreOld (named_keys item_keys ts) → Each IsBuiltFrom (item_keys y)
     from_at es ts n y (of_first is) ha hb = from_old (item_keys y) (old_found es n y is ha)
     from_at es ts n y (of_second is) ha hb = from_old (item_keys y) (old_found ts n y is hb)
     from_at es ts n y (of_both {a = a} {b = b} a_is b_is h) ha hb = from_built a b y h (old_found es n a a_is ha) (old_found ts n b b_is hb)
 
-    from_externs : (es ts ms : Externs) → AreBuilt c d o es ts ms → AreOld (named_keys item_keys es) → AreOld (named_keys item_keys ts) → Each IsBuiltFrom (named_keys item_keys ms)
+    from_externs : (es ts ms : ExternKinds) → AreBuilt c d o es ts ms → AreOld (named_keys item_keys es) → AreOld (named_keys item_keys ts) → Each IsBuiltFrom (named_keys item_keys ms)
     from_externs es ts ms h ha hb =
         each_named IsBuiltFrom item_keys ms (All-weaker (λ (x : Text × ItemKind). IsBuiltAt c d o es ts x.0 x.1) (λ (x : Text × ItemKind). Each IsBuiltFrom (item_keys x.1)) (λ x b. from_at es ts x.0 x.1 b ha hb) ms h)
 

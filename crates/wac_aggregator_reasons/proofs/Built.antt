@@ -18,7 +18,7 @@ use Rattle.wac_component.specs.declared.items.ItemKind.{ItemKind}
 use Rattle.wac_component.proofs.Among.{among_each, each_among}
 use Rattle.wac_aggregator_promises.proofs.Read.{lookup_contains}
 use Rattle.wac_merge.specs.Built.{Origins, OnlyBuilds, IsBuilt, first, second, fresh, IsBuiltAt, of_first, of_second, of_both, IsAddedBuilt, IsEntryFrom, of_interfaces, of_worlds, of_modules, AreBuilt, uses_of_both}
-use Rattle.wac_merge.specs.Items.{Externs, entry_item}
+use Rattle.wac_merge.specs.Items.{ExternKinds, entry_item}
 use Rattle.wac_aggregator_narrowing.proofs.Adding.{identifier_kept}
 use Rattle.wac_aggregator_narrowing.proofs.Building.{IsBuiltFrom, stood, made, from_built, from_opens}
 use Rattle.wac_aggregator_reasons.specs.Sourced.{IsExportFrom, IsUseFrom, IsSourced}
@@ -36,7 +36,7 @@ module _ (P : Collection → Key → Type 0) where
 
   module _ (c d : Collection) (o : Origins) (s : IsSound c) (only : OnlyBuilds c d o) where
     -- of an entry that stood
-    abbrev Exports : Externs → Type 0
+    abbrev Exports : ExternKinds → Type 0
     Exports es = (n : Text) (x : ItemKind) → lookup bytes_eq es n ≡ Some x → IsExportFrom P n (item_tree c x) × AllStand c (item_keys x)
 
     same_tree : (n : Text) (x : ItemKind) → IsExportFrom P n (item_tree c x) × AllStand c (item_keys x) → IsExportFrom P n (item_tree d x)
@@ -57,12 +57,12 @@ module _ (P : Collection → Key → Type 0) where
           (bound_export n k m added (subst (λ x. IsExportFrom P n (item_tree c x)) a_is ha.0) (subst (λ x. IsExportFrom P n (item_tree c x)) b_is hb.0))
     ]
 
-    export_built_at : (es ts : Externs) (n : Text) (y : ItemKind) → IsBuiltAt c d o es ts n y → Exports es → Exports ts → IsExportFrom P n (item_tree d y)
+    export_built_at : (es ts : ExternKinds) (n : Text) (y : ItemKind) → IsBuiltAt c d o es ts n y → Exports es → Exports ts → IsExportFrom P n (item_tree d y)
     export_built_at es ts n y (of_first is) ha hb = same_tree n y (ha n y is)
     export_built_at es ts n y (of_second is) ha hb = same_tree n y (hb n y is)
     export_built_at es ts n y (of_both {a = a} {b = b} a_is b_is h) ha hb = built_export n a b y h (ha n a a_is) (hb n b b_is)
 
-    exports_built : (es ts ms : Externs) (n : Text) (y : ItemKind) → AreBuilt c d o es ts ms → Exports es → Exports ts → lookup bytes_eq ms n ≡ Some y → IsExportFrom P n (item_tree d y)
+    exports_built : (es ts ms : ExternKinds) (n : Text) (y : ItemKind) → AreBuilt c d o es ts ms → Exports es → Exports ts → lookup bytes_eq ms n ≡ Some y → IsExportFrom P n (item_tree d y)
     exports_built es ts ms n y h ha hb is = export_built_at es ts n y (All-contains (λ (e : Text × ItemKind). IsBuiltAt c d o es ts e.0 e.1) ms (n, y) h (lookup_contains ms n y is)) ha hb
 
     abbrev AreUsesFrom : List (Text × UseContent) → Type 0

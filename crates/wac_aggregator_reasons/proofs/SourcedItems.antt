@@ -17,7 +17,7 @@ use Rattle.wac_component.proofs.Keys.{Each-append}
 use Rattle.wac_component.proofs.Among.{among_each, each_among, each_named}
 use Rattle.wac_aggregator_promises.proofs.Read.{use_opens}
 use Rattle.wac_merge.specs.Built.{Builds, IsBuilt, uses_of_both}
-use Rattle.wac_merge.specs.Items.{AreFound}
+use Rattle.wac_merge.specs.Items.{AreUnhidden}
 use Rattle.wac_aggregator_narrowing.specs.Apart.{IsGood}
 use Rattle.wac_aggregator_narrowing.specs.Narrows.{Narrows, KeepsStops}
 use Rattle.wac_aggregator_narrowing.proofs.Adding.{Narrows-all_stand}
@@ -75,7 +75,7 @@ module _ (P : Collection → Key → Type 0) where
   }
 
   -- an interface, or a world, of such exports and uses
-  items_each : (c : Collection) (es : List (Text × ItemKind)) → AreFound es → AreSourcedItems P c es → Each (IsSourced P c) (named_keys item_keys es)
+  items_each : (c : Collection) (es : List (Text × ItemKind)) → AreUnhidden es → AreSourcedItems P c es → Each (IsSourced P c) (named_keys item_keys es)
   items_each c es found h =
       each_named (IsSourced P c) item_keys es (All-weaker (λ (e : Text × ItemKind). lookup bytes_eq es e.0 ≡ Some e.1) (λ (e : Text × ItemKind). Each (IsSourced P c) (item_keys e.1)) (λ e is. (h e.0 e.1 is).keys) es found)
 
@@ -83,14 +83,14 @@ module _ (P : Collection → Key → Type 0) where
   uses_each c us h =
       each_named (IsSourced P c) use_keys us (All-weaker (Contains us) (λ (e : Text × UseContent). Each (IsSourced P c) (use_keys e.1)) (λ e m. ((h e.0 e.1 m).key, tt)) us (All-contains_itself us))
 
-  pub interface_from : (c : Collection) (i : InterfaceContent) → AreFound i.exports → AreSourcedItems P c i.exports → AreSourcedUses P c i.uses → IsFromSources P c (interface_entry i)
+  pub interface_from : (c : Collection) (i : InterfaceContent) → AreUnhidden i.exports → AreSourcedItems P c i.exports → AreSourcedUses P c i.uses → IsFromSources P c (interface_entry i)
   interface_from c i found hx hu = record {
     parts = Each-append (IsSourced P c) (named_keys use_keys i.uses) (named_keys item_keys i.exports) (uses_each c i.uses hu) (items_each c i.exports found hx);
     exports = λ n x is. (hx n x is).export;
     uses = λ n u m. (hu n u m).use_from;
   }
 
-  pub world_from : (c : Collection) (w : WorldContent) → AreFound w.exports → AreSourcedItems P c w.exports → AreSourcedUses P c w.uses → IsFromSources P c (world_entry w)
+  pub world_from : (c : Collection) (w : WorldContent) → AreUnhidden w.exports → AreSourcedItems P c w.exports → AreSourcedUses P c w.uses → IsFromSources P c (world_entry w)
   world_from c w found hx hu = record {
     parts = Each-append (IsSourced P c) (named_keys use_keys w.uses) (named_keys item_keys w.exports) (uses_each c w.uses hu) (items_each c w.exports found hx);
     exports = λ n x is. (hx n x is).export;

@@ -24,7 +24,7 @@ use Rattle.wac_aggregator_promises.specs.Entries.{IsIdentifiedOn}
 use Rattle.wac_aggregator_promises.specs.Reason.{IsReason, mismatch, used_interface, used_name, cycle, Meets}
 use Rattle.wac_aggregator_promises.specs.TreeSets.{HaveNoLowerBound}
 use Rattle.wac_merge.specs.Built.{Builds, IsBuilt, uses_of_both}
-use Rattle.wac_merge.specs.Items.{AreFound}
+use Rattle.wac_merge.specs.Items.{AreUnhidden}
 use Rattle.wac_aggregator_narrowing.specs.Apart.{IsGood}
 use Rattle.wac_aggregator_narrowing.specs.Entering.{AddsEntry, AddsCopy}
 use Rattle.wac_aggregator_narrowing.specs.Last.{last_key}
@@ -92,11 +92,11 @@ UsesStaySourced = (sources : Sources) (c d : Collection) (ss ts : List Key) (nam
 
 -- an interface of exports and uses that come from sources does so too
 abbrev pub InterfacesAreFromSources : Type 0
-InterfacesAreFromSources = (sources : Sources) (c : Collection) (i : InterfaceContent) → AreFound i.exports → AreSourcedItems (IsSource sources) c i.exports → AreSourcedUses (IsSource sources) c i.uses → IsFromSources (IsSource sources) c (interface_entry i)
+InterfacesAreFromSources = (sources : Sources) (c : Collection) (i : InterfaceContent) → AreUnhidden i.exports → AreSourcedItems (IsSource sources) c i.exports → AreSourcedUses (IsSource sources) c i.uses → IsFromSources (IsSource sources) c (interface_entry i)
 
 -- so does a world
 abbrev pub WorldsAreFromSources : Type 0
-WorldsAreFromSources = (sources : Sources) (c : Collection) (w : WorldContent) → AreFound w.exports → AreSourcedItems (IsSource sources) c w.exports → AreSourcedUses (IsSource sources) c w.uses → IsFromSources (IsSource sources) c (world_entry w)
+WorldsAreFromSources = (sources : Sources) (c : Collection) (w : WorldContent) → AreUnhidden w.exports → AreSourcedItems (IsSource sources) c w.exports → AreSourcedUses (IsSource sources) c w.uses → IsFromSources (IsSource sources) c (world_entry w)
 
 -- ---- changes
 

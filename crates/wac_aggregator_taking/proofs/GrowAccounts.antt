@@ -16,7 +16,7 @@ use Rattle.wac_component.proofs.Reading.{interface_at}
 use Rattle.wac_core_merge.proofs.NameLemmas.{Contains-with_new}
 use Rattle.wac_merge.specs.Built.{uses_of_both}
 use Rattle.wac_component.proofs.Keys.{Each-left, Each-right}
-use Rattle.wac_merge.specs.Items.{Externs, AreFound}
+use Rattle.wac_merge.specs.Items.{ExternKinds, AreUnhidden}
 use Rattle.wac_aggregator_promises.specs.Attempt.{Attempt, IsSource, Touches}
 use Rattle.wac_names.specs.Class.{class_of}
 use Rattle.wac_aggregator_narrowing.specs.Entering.{AddsEntry, InterfaceIsTaken}
@@ -72,7 +72,7 @@ used_key P (v ∷ us) n u m h = elim (Contains-cases (n, u) v us m) [
 ]
 
 -- an id that named items name is one of an item
-among_items : (es : Externs) (j : Key) → IsAmong j (named_keys item_keys es) → (n : Text) × (y : ItemKind) × Contains es (n, y) × IsAmong j (item_keys y)
+among_items : (es : ExternKinds) (j : Key) → IsAmong j (named_keys item_keys es) → (n : Text) × (y : ItemKind) × Contains es (n, y) × IsAmong j (item_keys y)
 among_items [] j m = elim m [ ]
 among_items ((n, y) ∷ es) j m = elim (among_either (item_keys y) (named_keys item_keys es) m) [
   | inl first ↦ (n, y, Contains-first (n, y) es, first)
@@ -80,7 +80,7 @@ among_items ((n, y) ∷ es) j m = elim (among_either (item_keys y) (named_keys i
 ]
 
 -- an interface that was taken in, for which a shared entry stands on its track
-module _ (at : Attempt) (f : Collection) (s : State) (p e : Id) (x : InterfaceContent) (us : List (Text × UseContent)) (es : Externs) (name m : Text) (kept : IsStateKept s) (trial : IsTrial at f (interface_key p ∷ [])) (all : IsAccounted at s)
+module _ (at : Attempt) (f : Collection) (s : State) (p e : Id) (x : InterfaceContent) (us : List (Text × UseContent)) (es : ExternKinds) (name m : Text) (kept : IsStateKept s) (trial : IsTrial at f (interface_key p ∷ [])) (all : IsAccounted at s)
     (h : InterfaceIsTaken class_of f s p x (record { id = None; uses = us; exports = es })) (used : AreMapped (IsOwnUse f s) x.uses us) (identified : identifier_at f (interface_key p) ≡ Some name) (absent : s.taken (interface_key p) ≡ None)
     (among : IsAmong (interface_key e) s.shared) (own_is : identifier_at s.own (interface_key e) ≡ Some m) (same : class_of m ≡ class_of name) where
   abbrev z : InterfaceContent
@@ -117,7 +117,7 @@ module _ (at : Attempt) (f : Collection) (s : State) (p e : Id) (x : InterfaceCo
     opens = used_key (IsOpenKey s) us n u mu (Each-left (IsOpenKey s) (named_keys use_keys us) (named_keys item_keys es) opens);
   }
 
-  pub new_items_open : AreFound es → AreAllOpen at s es
+  pub new_items_open : AreUnhidden es → AreAllOpen at s es
   new_items_open found n y my =
       let is : lookup bytes_eq es n ≡ Some y = All-contains (λ (q : Text × ItemKind). lookup bytes_eq es q.0 ≡ Some q.1) es (n, y) found my in
       record {
@@ -143,7 +143,7 @@ module _ (at : Attempt) (f : Collection) (s : State) (p e : Id) (x : InterfaceCo
     old_uses_open = subst (AreOpenUses at s) old_uses stood_open.1
 
   -- the entry grows by what was met
-  module _ (old new : InterfaceContent) (was : slice_get s.own.interfaces e.index ≡ Some old) (d : Collection) (met : AreMetWith s.own d old.exports es new.exports) (found : AreFound es) where
+  module _ (old new : InterfaceContent) (was : slice_get s.own.interfaces e.index ≡ Some old) (d : Collection) (met : AreMetWith s.own d old.exports es new.exports) (found : AreUnhidden es) where
     mid : State
     mid = with_own s d
 
@@ -168,7 +168,7 @@ module _ (at : Attempt) (f : Collection) (s : State) (p e : Id) (x : InterfaceCo
         leads_back at (with_own s d) f p e name m (interface_keys new) kept_mid met_now.0.stays.now trial identified among ((met.on.steps s.shared kept.good).stops.identifiers (interface_key e) (shared_stands s kept (interface_key e) among) ∙ own_is) same stand (new_along old_stand names) reach
 
     -- as what both use, and with exports that are found by their names
-    module _ (uses_are : new.uses ≡ uses_of_both old.uses us) (new_found : AreFound new.exports) where
+    module _ (uses_are : new.uses ≡ uses_of_both old.uses us) (new_found : AreUnhidden new.exports) where
       uses_open : AreOpenUses at (with_own s d) new.uses
       uses_open n u m0 =
           let steps = met.on.steps s.shared kept.good in

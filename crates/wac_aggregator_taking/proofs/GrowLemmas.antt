@@ -36,9 +36,9 @@ use Rattle.wac_checker.specs.Externs.{AreServed}
 use Rattle.wac_core_merge.specs.Names.{with_new}
 use Rattle.wac_core_merge.proofs.EntryLemmas.{All-found}
 use Rattle.wac_core_merge.proofs.NameLemmas.{lookup-append, with_new-shown}
-use Rattle.wac_merge.specs.Bounded.{IsKept as IsKeptOf}
+use Rattle.wac_merge.specs.Bounded.{KeepsFitting as IsKeptOf}
 use Rattle.wac_merge.specs.Built.{Origins, OnlyBuilds, AreOnes, IsBuilt, uses_of_both}
-use Rattle.wac_merge.specs.Items.{Externs, AreFound, extern_keys}
+use Rattle.wac_merge.specs.Items.{ExternKinds, AreUnhidden, extern_keys}
 use Rattle.wac_merge.proofs.PutLemmas.{lookup-insert_entry}
 use Rattle.wac_aggregator_narrowing.specs.Apart.{IsGood}
 use Rattle.wac_aggregator_narrowing.specs.Identified.{IsCovered}
@@ -76,7 +76,7 @@ module _ (c d : Collection) (on : StepsOn c d) where
   covered_on ss good (k ∷ ks) st h = ((on.steps ss good).stops.covered k st.0 h.0, covered_on ss good ks st.1 h.1)
 
   -- what is asked for has the tree that it had
-  pub served_on : (b : Collection) (es ts : Externs) → AllStand c (extern_keys ts) → AreServed b c es ts → AreServed b d es ts
+  pub served_on : (b : Collection) (es ts : ExternKinds) → AllStand c (extern_keys ts) → AreServed b c es ts → AreServed b d es ts
   served_on b es ts st h n = at (lookup bytes_eq es n) (lookup bytes_eq ts n) (λ y is. on.grows.trees y (each_found (Stands c) ts n y is st)) (h n)
     where
       at : (o q : Option ItemKind) → ((y : ItemKind) → q ≡ Some y → item_tree d y ≡ item_tree c y) → Serves (λ x y. Fits (item_tree b x) (item_tree c y)) o q → Serves (λ x y. Fits (item_tree b x) (item_tree d y)) o q
@@ -84,7 +84,7 @@ module _ (c d : Collection) (on : StepsOn c d) where
       at None (Some y) same g = absurd g
       at (Some x) (Some y) same g = subst (λ t. Fits (item_tree b x) t) (sym (same y refl)) g
 
-  pub served_from : (b : Collection) (es ts : Externs) → AllStand c (extern_keys ts) → AreServed b d es ts → AreServed b c es ts
+  pub served_from : (b : Collection) (es ts : ExternKinds) → AllStand c (extern_keys ts) → AreServed b d es ts → AreServed b c es ts
   served_from b es ts st h n = at (lookup bytes_eq es n) (lookup bytes_eq ts n) (λ y is. on.grows.trees y (each_found (Stands c) ts n y is st)) (h n)
     where
       at : (o q : Option ItemKind) → ((y : ItemKind) → q ≡ Some y → item_tree d y ≡ item_tree c y) → Serves (λ x y. Fits (item_tree b x) (item_tree d y)) o q → Serves (λ x y. Fits (item_tree b x) (item_tree c y)) o q
@@ -93,7 +93,7 @@ module _ (c d : Collection) (on : StepsOn c d) where
       at (Some x) (Some y) same g = subst (λ t. Fits (item_tree b x) t) (same y refl) g
 
 -- names of two lists are served where those of each are
-pub served_append : (c d : Collection) (es xs ys : Externs) → AreServed c d es xs → AreServed c d es ys → AreServed c d es (xs ++ ys)
+pub served_append : (c d : Collection) (es xs ys : ExternKinds) → AreServed c d es xs → AreServed c d es ys → AreServed c d es (xs ++ ys)
 served_append c d es xs ys h g n = rw (lookup-append bytes_eq xs ys n) (at (lookup bytes_eq xs n) (h n))
   where
     at : (o : Option ItemKind) → Serves (λ x y. Fits (item_tree c x) (item_tree d y)) (lookup bytes_eq es n) o → Serves (λ x y. Fits (item_tree c x) (item_tree d y)) (lookup bytes_eq es n) (option_or o (lookup bytes_eq ys n))
@@ -104,16 +104,16 @@ served_append c d es xs ys h g n = rw (lookup-append bytes_eq xs ys n) (at (look
 
 module _ (P : Key → Type 0) where
   -- ids in the first of two lists of items, and in the second
-  pub first_externs : (xs ys : Externs) → Each P (extern_keys (xs ++ ys)) → Each P (extern_keys xs)
+  pub first_externs : (xs ys : ExternKinds) → Each P (extern_keys (xs ++ ys)) → Each P (extern_keys xs)
   first_externs [] ys h = tt
   first_externs (x ∷ xs) ys h = Each-append P (item_keys x.1) (extern_keys xs) (Each-left P (item_keys x.1) (extern_keys (xs ++ ys)) h) (first_externs xs ys (Each-right P (item_keys x.1) (extern_keys (xs ++ ys)) h))
 
-  pub last_externs : (xs ys : Externs) → Each P (extern_keys (xs ++ ys)) → Each P (extern_keys ys)
+  pub last_externs : (xs ys : ExternKinds) → Each P (extern_keys (xs ++ ys)) → Each P (extern_keys ys)
   last_externs [] ys h = h
   last_externs (x ∷ xs) ys h = last_externs xs ys (Each-right P (item_keys x.1) (extern_keys (xs ++ ys)) h)
 
   -- after an item is put under a name
-  pub each_put : (es : Externs) (n : Text) (m : ItemKind) → Each P (extern_keys es) → Each P (item_keys m) → Each P (extern_keys (insert_entry bytes_eq es n m))
+  pub each_put : (es : ExternKinds) (n : Text) (m : ItemKind) → Each P (extern_keys es) → Each P (item_keys m) → Each P (extern_keys (insert_entry bytes_eq es n m))
   each_put [] n m h p = Each-append P (item_keys m) [] p tt
   each_put (e ∷ es) n m h p = at (bytes_eq n e.0) (each_put es n m (Each-right P (item_keys e.1) (extern_keys es) h) p)
     where
@@ -249,7 +249,7 @@ meet_then a None z m n g h new = (serves_trans n m a h.0 g.0, h.1, λ t p q. h.2
 meet_then a (Some x) z m n g h new = (serves_trans n m a h.0 g.0, serves_trans n m (Some x) h.0 g.1, λ t p q. h.2 t (g.2 t p q) (subst (Serves Fits t) (sym (new x refl)) tt))
 
 -- of exports with no others, with one, and with one more
-pub met_none : (c : Collection) (es : Externs) → AllStand c (extern_keys es) → AreMetWith c c es [] es
+pub met_none : (c : Collection) (es : ExternKinds) → AllStand c (extern_keys es) → AreMetWith c c es [] es
 met_none c es st = record {
   on = StepsOn-refl c;
   stand = st;
@@ -262,7 +262,7 @@ met_none c es st = record {
   along = λ ss rs from g h k. h;
 }
 
-pub met_put : (c d : Collection) (es ms : Externs) (n : Text) (a m : ItemKind) → StepsOn c d → AllStand c (extern_keys es) → AllStand d (item_keys m) → Fits (item_tree d m) (item_tree c a)
+pub met_put : (c d : Collection) (es ms : ExternKinds) (n : Text) (a m : ItemKind) → StepsOn c d → AllStand c (extern_keys es) → AllStand d (item_keys m) → Fits (item_tree d m) (item_tree c a)
     → ((b : ItemKind) → lookup bytes_eq es n ≡ Some b → Fits (item_tree d m) (item_tree c b))
     → ((t : ItemTree) → ((b : ItemKind) → lookup bytes_eq es n ≡ Some b → Fits t (item_tree c b)) → Fits t (item_tree c a) → Fits t (item_tree d m))
     → ((ss : List Key) → IsGood c ss → Each (IsCovered c ss) (extern_keys es) → Each (IsCovered c ss) (item_keys a) → Each (IsCovered d ss) (item_keys m))
@@ -318,7 +318,7 @@ met_put c d es ms n a m on st sm fits before greatest covers opens leads put = r
     second true o = fits
     second false o = tt
 
-pub met_then : (c d e : Collection) (es xs ms ns : Externs) (n : Text) (a : ItemKind) → lookup bytes_eq xs n ≡ None → AllStand c (extern_keys es) → AllStand c (item_keys a) → AreMetWith c d es xs ms → AreMetWith d e ms ((n, a) ∷ []) ns → AreMetWith c e es (xs ++ (n, a) ∷ []) ns
+pub met_then : (c d e : Collection) (es xs ms ns : ExternKinds) (n : Text) (a : ItemKind) → lookup bytes_eq xs n ≡ None → AllStand c (extern_keys es) → AllStand c (item_keys a) → AreMetWith c d es xs ms → AreMetWith d e ms ((n, a) ∷ []) ns → AreMetWith c e es (xs ++ (n, a) ∷ []) ns
 met_then c d e es xs ms ns n a absent st sa g h = record {
   on = StepsOn-trans c d e g.on h.on;
   stand = h.stand;
@@ -371,11 +371,11 @@ met_then c d e es xs ms ns n a absent st sa g h = record {
     none_or (Some y) z h = absurd (cc)
 
 -- what stands under distinct names is found by them
-pub found_among : (es : Externs) → IsDistinct bytes_eq (keys_of es) → AreFound es
+pub found_among : (es : ExternKinds) → IsDistinct bytes_eq (keys_of es) → AreUnhidden es
 found_among es h = All-found bytes_eq bytes_eq-Decides es h
 
 -- names of a map are distinct
-pub found_by : (es : List (String Global × ItemKind)) → IsDistinct (λ s t. bytes_eq (string_bytes s) (string_bytes t)) (keys_of es) → AreFound (named (λ k. k) es)
+pub found_by : (es : List (String Global × ItemKind)) → IsDistinct (λ s t. bytes_eq (string_bytes s) (string_bytes t)) (keys_of es) → AreUnhidden (named (λ k. k) es)
 found_by es h = found_among (named (λ k. k) es) (IsDistinct-shown string_bytes (λ s t. bytes_eq (string_bytes s) (string_bytes t)) bytes_eq (λ k l. refl) (λ k. k) es h)
 
 -- uses that were put last

@@ -7,7 +7,7 @@ use Rattle.wac_component.specs.Id.{Id}
 use Rattle.wac_component.specs.Key.{Key, Each, AllStand, interface_key, interface_keys, named_keys, use_keys}
 use Rattle.wac_component.specs.Reach.{IsAmong}
 use Rattle.wac_component.specs.Replacing.{NamesReach}
-use Rattle.wac_merge.specs.Items.{Externs, AreFound}
+use Rattle.wac_merge.specs.Items.{ExternKinds, AreUnhidden}
 use Rattle.wac_aggregator_promises.specs.Reason.{cycle}
 use Rattle.wac_names.specs.Class.{class_of}
 use Rattle.wac_aggregator_narrowing.specs.State.{State}
@@ -24,7 +24,7 @@ use Rattle.wac_aggregator_taking.proofs.MergeReasons.{one_reason, uses_refused}
 use Rattle.wac_aggregator_taking.proofs.Plain.{not_plain_interface}
 use Rattle.wac_aggregator_taking.proofs.TakeLemmas.{lookup-shared, not_known}
 
-module _ (f : Collection) (a : Merging) (may : MayTake f a) (p e : Id) (name : Text) (us : List (Text × UseContent)) (es : Externs) (put : MayPut f a p us es) (identified : identifier_at f (interface_key p) ≡ Some name) (shared : shared_in a.shared.entries (class_of name) ≡ Some e)
+module _ (f : Collection) (a : Merging) (may : MayTake f a) (p e : Id) (name : Text) (us : List (Text × UseContent)) (es : ExternKinds) (put : MayPut f a p us es) (identified : identifier_at f (interface_key p) ≡ Some name) (shared : shared_in a.shared.entries (class_of name) ≡ Some e)
     (old : InterfaceContent) (was : slice_get a.types.interfaces e.index ≡ Some old) where
   s : State
   s = state_of a
@@ -48,7 +48,7 @@ module _ (f : Collection) (a : Merging) (may : MayTake f a) (p e : Id) (name : T
   }
 
   -- its exports can't be met with those of the entry
-  pub grown_items_refused : (r : AggregateError) → AreFound es → AreRefusedItems a.types old.exports es r → MayRefuse f a (interface_key p ∷ []) r
+  pub grown_items_refused : (r : AggregateError) → AreUnhidden es → AreRefusedItems a.types old.exports es r → MayRefuse f a (interface_key p ∷ []) r
   grown_items_refused r found h ne = record {
     plain = not_plain_interface f p name identified;
     known = λ all. absurd (not_known f a (interface_key p) name identified put.absent all);
@@ -62,7 +62,7 @@ module _ (f : Collection) (a : Merging) (may : MayTake f a) (p e : Id) (name : T
   -- it would lead back to itself
   pub grown_cycle_refused : (new : InterfaceContent) (old_named : AllStand a.types (interface_keys old)) (same_id : new.id ≡ old.id)
       (uses : (P : Key → Type 0) → Each P (named_keys use_keys old.uses) → Each P (named_keys use_keys us) → Each P (named_keys use_keys new.uses)) (d : Collection) (met : AreMetWith a.types d old.exports es new.exports)
-      → AreFound es → NamesReach d (interface_keys new) (interface_key e) → (r : AggregateError) → said r ≡ Some (cycle name) → MayRefuse f a (interface_key p ∷ []) r
+      → AreUnhidden es → NamesReach d (interface_keys new) (interface_key e) → (r : AggregateError) → said r ≡ Some (cycle name) → MayRefuse f a (interface_key p ∷ []) r
   grown_cycle_refused new old_named same_id uses d met found reach r says ne = record {
     plain = not_plain_interface f p name identified;
     known = λ all. absurd (not_known f a (interface_key p) name identified put.absent all);

@@ -18,7 +18,7 @@ use Rattle.wac_component.proofs.Keys.{Each-left, Each-right, Each-append}
 use Rattle.wac_component.proofs.Lists.{slice_get-map}
 use Rattle.wac_component.proofs.Reading.{interface_at}
 use Rattle.wac_merge.specs.Built.{uses_of_both}
-use Rattle.wac_merge.specs.Items.{Externs, extern_keys, AreFound}
+use Rattle.wac_merge.specs.Items.{ExternKinds, extern_keys, AreUnhidden}
 use Rattle.wac_names.specs.Class.{class_of}
 use Rattle.wac_aggregator_narrowing.specs.Entering.{InterfaceIsTaken}
 use Rattle.wac_aggregator_narrowing.specs.Identified.{IsCovered}
@@ -72,7 +72,7 @@ parts_covered c ss e x was h =
     subst (λ ks. Each (IsCovered c ss) ks) (ap (optional_keys other_keys) (interface_at c e x was))
     (each_among (IsCovered c ss) (open_next c (interface_key e)) (λ j among t n walk is. h t n (step among walk) is))
 
-module _ (f : Collection) (a : Merging) (may : MayTake f a) (p e : Id) (name : Text) (us : List (Text × UseContent)) (es : Externs) (put : MayPut f a p us es) (identified : identifier_at f (interface_key p) ≡ Some name) (shared : shared_in a.shared.entries (class_of name) ≡ Some e)
+module _ (f : Collection) (a : Merging) (may : MayTake f a) (p e : Id) (name : Text) (us : List (Text × UseContent)) (es : ExternKinds) (put : MayPut f a p us es) (identified : identifier_at f (interface_key p) ≡ Some name) (shared : shared_in a.shared.entries (class_of name) ≡ Some e)
     (old new : InterfaceContent) (was : slice_get a.types.interfaces e.index ≡ Some old) (old_named : AllStand a.types (interface_keys old)) (same_id : new.id ≡ old.id)
     (uses : (P : Key → Type 0) → Each P (named_keys use_keys old.uses) → Each P (named_keys use_keys us) → Each P (named_keys use_keys new.uses)) (d : Collection) (met : AreMetWith a.types d old.exports es new.exports) where
   abbrev mid : State
@@ -131,7 +131,7 @@ module _ (f : Collection) (a : Merging) (may : MayTake f a) (p e : Id) (name : T
     exports = served_on a.types d met.on d new.exports old.exports (Each-right (Stands a.types) (named_keys use_keys old.uses) (extern_keys old.exports) old_named) met.serve_first;
   }
 
-  pub Takes-grown : new.uses ≡ uses_of_both old.uses us → AreFound es → AreFound new.exports → (w : Collection) (n : Memo) → ¬ (NamesReach d (interface_keys new) (interface_key e)) → w ≡ grown d e new → AddsPair (memo_of a.taken) (memo_of n) (interface_key p) (interface_key e)
+  pub Takes-grown : new.uses ≡ uses_of_both old.uses us → AreUnhidden es → AreUnhidden new.exports → (w : Collection) (n : Memo) → ¬ (NamesReach d (interface_keys new) (interface_key e)) → w ≡ grown d e new → AddsPair (memo_of a.taken) (memo_of n) (interface_key p) (interface_key e)
       → Takes f a (record a { types = w; taken = n }) (height f (interface_key p)) (interface_key p ∷ []) (λ t. IsTakenKey class_of f t (interface_key p) (interface_key e))
   Takes-grown uses_are found new_found w n acyclic is adds =
       let filed = may.filed.on_class (class_of name) e shared in

@@ -8,7 +8,7 @@ use Rattle.wac_component.specs.Key.{Key, Each, AllStand, interface_key, interfac
 use Rattle.wac_component.specs.Reach.{IsAmong}
 use Rattle.wac_component.specs.Replacing.{NamesReach}
 use Rattle.wac_component.proofs.Among.{among_each}
-use Rattle.wac_merge.specs.Items.{Externs}
+use Rattle.wac_merge.specs.Items.{ExternKinds}
 use Rattle.wac_names.specs.Class.{class_of}
 use Rattle.wac_aggregator_promises.specs.Shared.{TakenIds}
 use Rattle.wac_aggregator_narrowing.specs.Apart.{IsGood}
@@ -25,7 +25,7 @@ use Rattle.wac_aggregator_taking.proofs.Arrowed.{arrowed_more, parts_along, grow
 use Rattle.wac_aggregator_taking.proofs.Grows.{can, new_named}
 use Rattle.wac_aggregator_taking.proofs.TakeLemmas.{content_identifier, lookup-shared, shared_stands}
 
-module _ (f : Collection) (a : Merging) (may : MayTake f a) (p e : Id) (name : Text) (us : List (Text × UseContent)) (es : Externs) (put : MayPut f a p us es) (identified : identifier_at f (interface_key p) ≡ Some name) (shared : shared_in a.shared.entries (class_of name) ≡ Some e)
+module _ (f : Collection) (a : Merging) (may : MayTake f a) (p e : Id) (name : Text) (us : List (Text × UseContent)) (es : ExternKinds) (put : MayPut f a p us es) (identified : identifier_at f (interface_key p) ≡ Some name) (shared : shared_in a.shared.entries (class_of name) ≡ Some e)
     (old new : InterfaceContent) (was : slice_get a.types.interfaces e.index ≡ Some old) (old_named : AllStand a.types (interface_keys old)) (same_id : new.id ≡ old.id)
     (uses : (P : Key → Type 0) → Each P (named_keys use_keys old.uses) → Each P (named_keys use_keys us) → Each P (named_keys use_keys new.uses)) (d : Collection) (met : AreMetWith a.types d old.exports es new.exports)
     (taken : TakenIds) (has : HasTakenIn a taken) where

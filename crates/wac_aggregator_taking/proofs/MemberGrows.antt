@@ -28,7 +28,7 @@ use Rattle.wac_core_merge.specs.Names.{is_new}
 use Rattle.wac_core_merge.proofs.EntryLemmas.{All-found}
 use Rattle.wac_core_merge.proofs.NameLemmas.{lookup-with_new}
 use Rattle.wac_merge.specs.Built.{uses_of_both}
-use Rattle.wac_merge.specs.Items.{Externs, AreFound}
+use Rattle.wac_merge.specs.Items.{ExternKinds, AreUnhidden}
 use Rattle.wac_names.specs.Class.{class_of}
 use Rattle.wac_aggregator_promises.specs.Entries.{IsIdentifiedOn, ReachesByUses, stay}
 use Rattle.wac_aggregator_promises.specs.Shared.{TakenIds, AreShared, IsUseOf, CannotTake, no_bound, interfaces_clash, names_clash}
@@ -66,7 +66,7 @@ use Rattle.wac_aggregator_taking.proofs.TakeLemmas.{lookup-shared, shared_stands
 pub found_use : (us : List (Text × UseContent)) → IsDistinct bytes_eq (keys_of us) → (n : Text) (v : UseContent) → Contains us (n, v) → lookup bytes_eq us n ≡ Some v
 found_use us h n v m = All-contains (λ (e : Text × UseContent). lookup bytes_eq us e.0 ≡ Some e.1) us (n, v) (All-found bytes_eq bytes_eq-Decides us h) m
 
-found_item : (es : Externs) → AreFound es → (n : Text) (x : ItemKind) → Contains es (n, x) → lookup bytes_eq es n ≡ Some x
+found_item : (es : ExternKinds) → AreUnhidden es → (n : Text) (x : ItemKind) → Contains es (n, x) → lookup bytes_eq es n ≡ Some x
 found_item es h n x m = All-contains (λ (e : Text × ItemKind). lookup bytes_eq es e.0 ≡ Some e.1) es (n, x) h m
 
 -- among the uses of both a new one is found, where its name is new
@@ -88,7 +88,7 @@ found_in us vs n v is = at (lookup bytes_eq us n) (sym (lookup-with_new bytes_eq
 
 -- ---- leaves
 
-leaf_found : (es : Externs) (n : Text) → AreLeaves es → (x : ItemKind) → lookup bytes_eq es n ≡ Some x → IsLeafItem x
+leaf_found : (es : ExternKinds) (n : Text) → AreLeaves es → (x : ItemKind) → lookup bytes_eq es n ≡ Some x → IsLeafItem x
 leaf_found es n h x is = All-contains (λ (e : Text × ItemKind). IsLeafItem e.1) es (n, x) h (lookup_contains es n x is)
 
 -- what is met of leaves is a leaf
@@ -104,7 +104,7 @@ met_leaf c d o q x = at o q
     at None (Some y) h g m = below y (g y refl) m.1
     at None None h g m = absurd (m.2 None tt tt)
 
-met_leaves : (c d : Collection) (es ts ms : Externs) → AreFound ms → AreLeaves es → AreLeaves ts → ((n : Text) → IsMeetIn (Serves Fits) (option_map (item_tree c) (lookup bytes_eq es n)) (option_map (item_tree c) (lookup bytes_eq ts n)) (Some (option_map (item_tree d) (lookup bytes_eq ms n)))) → AreLeaves ms
+met_leaves : (c d : Collection) (es ts ms : ExternKinds) → AreUnhidden ms → AreLeaves es → AreLeaves ts → ((n : Text) → IsMeetIn (Serves Fits) (option_map (item_tree c) (lookup bytes_eq es n)) (option_map (item_tree c) (lookup bytes_eq ts n)) (Some (option_map (item_tree d) (lookup bytes_eq ms n)))) → AreLeaves ms
 met_leaves c d es ts ms found h g meets = All-weaker (λ (e : Text × ItemKind). lookup bytes_eq ms e.0 ≡ Some e.1) (λ (e : Text × ItemKind). IsLeafItem e.1) (λ (e : Text × ItemKind) is. of e.0 e.1 is) ms found
   where
     of : (n : Text) (x : ItemKind) → lookup bytes_eq ms n ≡ Some x → IsLeafItem x
@@ -113,7 +113,7 @@ met_leaves c d es ts ms found h g meets = All-weaker (λ (e : Text × ItemKind).
 
 -- ---- what stands before
 
-module _ (f : Collection) (a : Merging) (may : MayTake f a) (p e : Id) (name : Text) (us : List (Text × UseContent)) (es : Externs) (put : MayPut f a p us es) (identified : identifier_at f (interface_key p) ≡ Some name) (shared : shared_in a.shared.entries (class_of name) ≡ Some e)
+module _ (f : Collection) (a : Merging) (may : MayTake f a) (p e : Id) (name : Text) (us : List (Text × UseContent)) (es : ExternKinds) (put : MayPut f a p us es) (identified : identifier_at f (interface_key p) ≡ Some name) (shared : shared_in a.shared.entries (class_of name) ≡ Some e)
     (taken : TakenIds) (wit : AreWit f (ReachesByUses f p)) (has : HasTakenIn a taken) (old : InterfaceContent) (was : slice_get a.types.interfaces e.index ≡ Some old) where
   on_track : IsIdentifiedOn f p (class_of name)
   on_track = record { name = name; identified = has_identifier f (interface_key p) name identified; on_track = refl }
@@ -175,7 +175,7 @@ module _ (f : Collection) (a : Merging) (may : MayTake f a) (p e : Id) (name : T
   pub member_uses_refused : IsDistinct bytes_eq (keys_of old.uses) → (r : AggregateError) → AreRefusedLists a.types old.uses us r → IsMemberRefusal f (ReachesByUses f p) taken r
   member_uses_refused distinct r h x says merging = not_taken (uses_cannot distinct r (h (not_memory r x says)))
 
-  items_cannot : AreFound es → HasApartLeaves a.types old.exports es → CannotTake a.types (shared_in a.shared.entries) f p
+  items_cannot : AreUnhidden es → HasApartLeaves a.types old.exports es → CannotTake a.types (shared_in a.shared.entries) f p
   items_cannot found k = at (lookup bytes_eq (exports_at f (interface_key p)) k.name) refl (sym (new_trees k.name) ∙ ap (option_map (item_tree a.types)) (found_item es found k.name k.second k.is_second))
     where
       at : (o : Option ItemKind) → lookup bytes_eq (exports_at f (interface_key p)) k.name ≡ o → option_map (item_tree f) o ≡ Some (item_tree a.types k.second) → CannotTake a.types (shared_in a.shared.entries) f p
@@ -187,14 +187,14 @@ module _ (f : Collection) (a : Merging) (may : MayTake f a) (p e : Id) (name : T
           (subst (λ (t : ItemTree). HaveNoLowerBound (item_tree a.types k.first) t) (sym tree) k.no_bound))
 
   -- its exports can't be met with those of the entry
-  pub member_items_refused : AreFound es → (r : AggregateError) → AreRefusedItems a.types old.exports es r → IsMemberRefusal f (ReachesByUses f p) taken r
+  pub member_items_refused : AreUnhidden es → (r : AggregateError) → AreRefusedItems a.types old.exports es r → IsMemberRefusal f (ReachesByUses f p) taken r
   member_items_refused found r h x says merging = not_taken (items_cannot found ((h (not_memory r x says)).leaves new_leaves))
 
   -- ---- growth
 
   module _ (new : InterfaceContent) (old_named : AllStand a.types (interface_keys old)) (same_id : new.id ≡ old.id)
       (uses : (P : Key → Type 0) → Each P (named_keys use_keys old.uses) → Each P (named_keys use_keys us) → Each P (named_keys use_keys new.uses)) (d : Collection) (met : AreMetWith a.types d old.exports es new.exports) (uses_are : new.uses ≡ uses_of_both old.uses us) (agree : UsesAgree a.types old.uses us)
-      (distinct : IsDistinct bytes_eq (keys_of new.uses)) (new_are_found : AreFound new.exports) (named : AllStand d (interface_keys new)) (acyclic : ¬ (NamesReach d (interface_keys new) (interface_key e))) where
+      (distinct : IsDistinct bytes_eq (keys_of new.uses)) (new_are_found : AreUnhidden new.exports) (named : AllStand d (interface_keys new)) (acyclic : ¬ (NamesReach d (interface_keys new) (interface_key e))) where
     mid_sound : IsSound d
     mid_sound = (met.on.steps (shared_keys a.shared.entries) may.kept.good).good.sound
 

@@ -17,7 +17,7 @@ use Rattle.wac_component.specs.declared.items.ItemKind.{ItemKind}
 use Rattle.wac_component.specs.declared.items.ItemKind.TheVariants.{«Type» as OfType, Func}
 use Rattle.wac_component.specs.declared.items.Type.TheVariants.{Resource as TypeResource, Value as TypeValue}
 use Rattle.wac_component.proofs.Among.{Contains-first, Contains-later, Contains-cases}
-use Rattle.wac_merge.specs.Items.{Externs}
+use Rattle.wac_merge.specs.Items.{ExternKinds}
 use Rattle.wac_names.specs.Class.{Class, class_of}
 use Rattle.wac_aggregator_promises.specs.Entries.{ReachesByUses, stay}
 use Rattle.wac_aggregator_promises.specs.Shared.{TakenIds, AreShared, IsUseOf}
@@ -43,7 +43,7 @@ IsLeafTree t = ⊥
 abbrev IsLeafEntry : Text × ItemKind → Type 0
 IsLeafEntry e = IsLeafItem e.1
 
-abbrev pub AreLeaves : Externs → Type 0
+abbrev pub AreLeaves : ExternKinds → Type 0
 AreLeaves es = All (λ (e : Text × ItemKind). IsLeafItem e.1) es
 
 pub leaf_tree : (c : Collection) (x : ItemKind) → IsLeafItem x → IsLeafTree (item_tree c x)
@@ -71,14 +71,14 @@ module _ (f : Collection) (s : State) where
       let same = leaf_fits (item_tree s.own y) (item_tree f x) (leaf_tree f x is) h.fits in
       (leaf_is s.own y (subst IsLeafTree (sym same) (leaf_tree f x is)), same)
 
-  pub taken_leaves : (xs es : Externs) → AreMapped (IsTakenItem class_of f s) xs es → AreLeaves xs → AreLeaves es × (items_of (item_tree s.own) es ≡ items_of (item_tree f) xs)
+  pub taken_leaves : (xs es : ExternKinds) → AreMapped (IsTakenItem class_of f s) xs es → AreLeaves xs → AreLeaves es × (items_of (item_tree s.own) es ≡ items_of (item_tree f) xs)
   taken_leaves _ _ none are = (All-nil IsLeafEntry, refl)
   taken_leaves _ _ (one {n = n} {x = x} {y = y} {xs = xs} {ys = ys} h m) are =
       let first = taken_leaf x y h (All-head IsLeafEntry (n, x) xs are) in
       let rest = taken_leaves xs ys m (All-tail IsLeafEntry (n, x) xs are) in
       (All-cons IsLeafEntry (n, y) ys first.0 rest.0, λ i. named n (first.1 i) (rest.1 i))
 
-  pub taken_trees : (xs es : Externs) → AreMapped (IsTakenItem class_of f s) xs es → AreLeaves xs → (name : Text) → option_map (item_tree s.own) (lookup bytes_eq es name) ≡ option_map (item_tree f) (lookup bytes_eq xs name)
+  pub taken_trees : (xs es : ExternKinds) → AreMapped (IsTakenItem class_of f s) xs es → AreLeaves xs → (name : Text) → option_map (item_tree s.own) (lookup bytes_eq es name) ≡ option_map (item_tree f) (lookup bytes_eq xs name)
   taken_trees _ _ none are name = refl
   taken_trees _ _ (one {n = n} {x = x} {y = y} {xs = xs} {ys = ys} h m) are name = at (bytes_eq name n) (taken_trees xs ys m (All-tail IsLeafEntry (n, x) xs are) name)
     where

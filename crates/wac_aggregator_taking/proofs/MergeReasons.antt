@@ -33,7 +33,7 @@ use Rattle.wac_model.specs.Text.{lookup}
 use Rattle.wac_component.proofs.Among.{Contains-first, each_found}
 use Rattle.wac_aggregator_promises.specs.WitList.{IsLeafItem}
 use Rattle.wac_aggregator_promises.proofs.ByUses.{leaf_item, leaf_uses}
-use Rattle.wac_merge.specs.Items.{Externs, extern_keys}
+use Rattle.wac_merge.specs.Items.{ExternKinds, extern_keys}
 use Rattle.wac_aggregator_errors.proofs.UseLemmas.{second_uses}
 use Rattle.wac_aggregator_errors.proofs.UseLists.{one_alone}
 use Rattle.wac_aggregator_taking.proofs.GrowLemmas.{below_both}
@@ -102,11 +102,11 @@ pub leaf_apart : (c : Collection) (x y : ItemKind) (e : AggregateError) → IsLe
 leaf_apart c x y e leaf (inl uses) = absurd (second_uses c (uses_at c uses.first) (uses_at c uses.second) e uses.differ (leaf_uses c uses.second.sort uses.second.id (leaf_item y uses.second leaf uses.among_second)))
 leaf_apart c x y e leaf (inr clash) = clash.no_bound
 
-pub leaves_apart : (c : Collection) (es : Externs) (n : Text) (x y : ItemKind) (e : AggregateError) → lookup bytes_eq es n ≡ Some x → UsesDiffer c (item_keys x) (item_keys y) e ⊎ SaysMismatch c x y e → All (λ (t : Text × ItemKind). IsLeafItem t.1) ((n, y) ∷ []) → HasApartLeaves c es ((n, y) ∷ [])
+pub leaves_apart : (c : Collection) (es : ExternKinds) (n : Text) (x y : ItemKind) (e : AggregateError) → lookup bytes_eq es n ≡ Some x → UsesDiffer c (item_keys x) (item_keys y) e ⊎ SaysMismatch c x y e → All (λ (t : Text × ItemKind). IsLeafItem t.1) ((n, y) ∷ []) → HasApartLeaves c es ((n, y) ∷ [])
 leaves_apart c es n x y e is h leaves = record { name = n; first = x; second = y; is_first = is; is_second = Contains-first (n, y) []; no_bound = leaf_apart c x y e (All-head (λ (t : Text × ItemKind). IsLeafItem t.1) (n, y) [] leaves) h }
 
 -- those that are apart in more entries, and later in a list, are so here
-pub leaves_apart_on : (c d : Collection) (es ms xs ys : Externs) (n : Text) (a : ItemKind) → AreMetWith c d es xs ms → lookup bytes_eq xs n ≡ None → AllStand c (extern_keys es) → AllStand c (item_keys a) → Contains ys (n, a) → HasApartLeaves d ms ((n, a) ∷ []) → HasApartLeaves c es ys
+pub leaves_apart_on : (c d : Collection) (es ms xs ys : ExternKinds) (n : Text) (a : ItemKind) → AreMetWith c d es xs ms → lookup bytes_eq xs n ≡ None → AllStand c (extern_keys es) → AllStand c (item_keys a) → Contains ys (n, a) → HasApartLeaves d ms ((n, a) ∷ []) → HasApartLeaves c es ys
 leaves_apart_on c d es ms xs ys n a met absent st sa among h =
     let same : (h.name, h.second) ≡ (n, a) = one_alone (n, a) (h.name, h.second) h.is_second in
     let named : h.name ≡ n = ap (λ (p : Text × ItemKind). p.0) same in

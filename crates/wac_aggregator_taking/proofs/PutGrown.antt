@@ -11,11 +11,11 @@ use Rattle.wac_component.specs.TakenOut.{without_content}
 use Rattle.wac_component.proofs.Keys.{Each-append, Each-left, Each-right}
 use Rattle.wac_component.proofs.TakenOut.{IsOut, old_out, out_from, out_acyclic, out_never, out_stand, out_stands, put_twice}
 use Rattle.wac_merge.specs.Built.{uses_of_both}
-use Rattle.wac_merge.specs.Items.{Externs, extern_keys}
+use Rattle.wac_merge.specs.Items.{ExternKinds, extern_keys}
 use Rattle.wac_aggregator_taking.specs.Growing.{IsGrownBy, with_put}
 use Rattle.wac_aggregator_taking.proofs.PutLemmas.{each_uses, each_with_put}
 
-module _ (c : Collection) (e : Id) (sound : IsSound c) (st : Stands c (interface_key e)) (old : InterfaceContent) (was : slice_get c.interfaces e.index ≡ Some old) (us : List (Text × UseContent)) (ms : Externs)
+module _ (c : Collection) (e : Id) (sound : IsSound c) (st : Stands c (interface_key e)) (old : InterfaceContent) (was : slice_get c.interfaces e.index ≡ Some old) (us : List (Text × UseContent)) (ms : ExternKinds)
     (su : AllStand c (named_keys use_keys us)) (sm : AllStand c (extern_keys ms)) (none : ¬ (NamesReach c (named_keys use_keys us ++ extern_keys ms) (interface_key e)))
     (new : InterfaceContent) (uses : new.uses ≡ uses_of_both old.uses us) (exports : new.exports ≡ with_put old.exports ms) where
   -- from nothing that it names then a walk leads back

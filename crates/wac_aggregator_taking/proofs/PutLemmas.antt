@@ -15,30 +15,30 @@ use Rattle.wac_component.proofs.Among.{among_each, among_either, among_left, amo
 use Rattle.wac_component.proofs.Keys.{Each-left, Each-right}
 use Rattle.wac_core_merge.proofs.NameLemmas.{lookup-append}
 use Rattle.wac_merge.specs.Built.{uses_of_both}
-use Rattle.wac_merge.specs.Items.{Externs, extern_keys}
+use Rattle.wac_merge.specs.Items.{ExternKinds, extern_keys}
 use Rattle.wac_merge.proofs.PutLemmas.{All-insert_entry, lookup-insert_entry}
 use Rattle.wac_aggregator_taking.specs.Growing.{AreAllPut, with_put}
 use Rattle.wac_aggregator_taking.proofs.GrowLemmas.{each_put}
 
 -- one more
-pub with_put-more : (es ms : Externs) (n : Text) (m : ItemKind) → with_put es (ms ++ (n, m) ∷ []) ≡ insert_entry bytes_eq (with_put es ms) n m
+pub with_put-more : (es ms : ExternKinds) (n : Text) (m : ItemKind) → with_put es (ms ++ (n, m) ∷ []) ≡ insert_entry bytes_eq (with_put es ms) n m
 with_put-more es [] n m = refl
 with_put-more es (x ∷ ms) n m = with_put-more (insert_entry bytes_eq es x.0 x.1) ms n m
 
 -- what is put under a new name goes last
-put_new : (ms : Externs) (n : Text) (m : ItemKind) → lookup bytes_eq ms n ≡ None → insert_entry bytes_eq ms n m ≡ ms ++ (n, m) ∷ []
+put_new : (ms : ExternKinds) (n : Text) (m : ItemKind) → lookup bytes_eq ms n ≡ None → insert_entry bytes_eq ms n m ≡ ms ++ (n, m) ∷ []
 put_new [] n m none = refl
 put_new (x ∷ ms) n m none = by_test (bytes_eq n x.0) none (λ g. put_new ms n m g)
   where
     by_test : (b : Bool) → cond b (Some x.1) (lookup bytes_eq ms n) ≡ None → (lookup bytes_eq ms n ≡ None → insert_entry bytes_eq ms n m ≡ ms ++ (n, m) ∷ []) → cond b ((x.0, m) ∷ ms) (x ∷ insert_entry bytes_eq ms n m) ≡ x ∷ (ms ++ (n, m) ∷ [])
     by_test true h g = absurd (cc)
-    by_test false h g = ap (λ (l : Externs). x ∷ l) (g h)
+    by_test false h g = ap (λ (l : ExternKinds). x ∷ l) (g h)
 
-pub with_put-put : (es ms : Externs) (n : Text) (m : ItemKind) → lookup bytes_eq ms n ≡ None → with_put es (insert_entry bytes_eq ms n m) ≡ insert_entry bytes_eq (with_put es ms) n m
-with_put-put es ms n m none = ap (λ (l : Externs). with_put es l) (put_new ms n m none) ∙ with_put-more es ms n m
+pub with_put-put : (es ms : ExternKinds) (n : Text) (m : ItemKind) → lookup bytes_eq ms n ≡ None → with_put es (insert_entry bytes_eq ms n m) ≡ insert_entry bytes_eq (with_put es ms) n m
+with_put-put es ms n m none = ap (λ (l : ExternKinds). with_put es l) (put_new ms n m none) ∙ with_put-more es ms n m
 
 -- under a name of none of them there is what was there
-pub with_put-absent : (es ms : Externs) (n : Text) → lookup bytes_eq ms n ≡ None → lookup bytes_eq (with_put es ms) n ≡ lookup bytes_eq es n
+pub with_put-absent : (es ms : ExternKinds) (n : Text) → lookup bytes_eq ms n ≡ None → lookup bytes_eq (with_put es ms) n ≡ lookup bytes_eq es n
 with_put-absent es [] n none = refl
 with_put-absent es (x ∷ ms) n none = by_test (bytes_eq n x.0) refl none (λ g. with_put-absent (insert_entry bytes_eq es x.0 x.1) ms n g)
   where
@@ -48,7 +48,7 @@ with_put-absent es (x ∷ ms) n none = by_test (bytes_eq n x.0) refl none (λ g.
     by_test false e h g = g h ∙ lookup-insert_entry es x.0 x.1 n ∙ ap (λ (b : Bool). cond b (Some x.1) (lookup bytes_eq es n)) e
 
 -- where only names of others are among these, so it is once one of both is put
-pub names_put : (done ms : Externs) (n : Text) (a m : ItemKind) → ((q : Text) → lookup bytes_eq done q ≡ None → lookup bytes_eq ms q ≡ None) → (q : Text) → lookup bytes_eq (done ++ (n, a) ∷ []) q ≡ None → lookup bytes_eq (insert_entry bytes_eq ms n m) q ≡ None
+pub names_put : (done ms : ExternKinds) (n : Text) (a m : ItemKind) → ((q : Text) → lookup bytes_eq done q ≡ None → lookup bytes_eq ms q ≡ None) → (q : Text) → lookup bytes_eq (done ++ (n, a) ∷ []) q ≡ None → lookup bytes_eq (insert_entry bytes_eq ms n m) q ≡ None
 names_put done ms n a m before q none = lookup-insert_entry ms n m q ∙ by_parts (lookup bytes_eq done q) (bytes_eq q n) refl (sym (lookup-append bytes_eq done ((n, a) ∷ []) q) ∙ none)
   where
     by_parts : (o : Option ItemKind) (b : Bool) → lookup bytes_eq done q ≡ o → option_or o (cond b (Some a) None) ≡ None → cond b (Some m) (lookup bytes_eq ms q) ≡ None
@@ -57,7 +57,7 @@ names_put done ms n a m before q none = lookup-insert_entry ms n m q ∙ by_part
     by_parts None false is h = before q is
 
 -- each of these is what stands under its name, where one more is put under a new one
-module _ (es ms : Externs) (n : Text) (m : ItemKind) where
+module _ (es ms : ExternKinds) (n : Text) (m : ItemKind) where
   abbrev is_put : Text × ItemKind → Type 0
   is_put x = lookup bytes_eq (with_put es ms) x.0 ≡ Some x.1
 
@@ -71,7 +71,7 @@ module _ (es ms : Externs) (n : Text) (m : ItemKind) where
       by_test true e = let same : q ≡ n = (bytes_eq-Decides q n).0 e in let yes : bytes_eq n q ≡ true = (bytes_eq-Decides n q).1 (sym same) in absurd (cc)
       by_test false e = refl
 
-  still : (xs : Externs) → lookup bytes_eq xs n ≡ None → All is_put xs → All is_put_now xs
+  still : (xs : ExternKinds) → lookup bytes_eq xs n ≡ None → All is_put xs → All is_put_now xs
   still [] none h = All-nil is_put_now
   still (x ∷ xs) none h = by_test (bytes_eq n x.0) refl none (λ g. still xs g (All-tail is_put x xs h))
     where
@@ -84,28 +84,28 @@ module _ (es ms : Externs) (n : Text) (m : ItemKind) where
 
   pub all_put : lookup bytes_eq ms n ≡ None → AreAllPut es ms → AreAllPut es (insert_entry bytes_eq ms n m)
   all_put none h =
-      subst (λ (l : Externs). All (λ (x : Text × ItemKind). lookup bytes_eq l x.0 ≡ Some x.1) (insert_entry bytes_eq ms n m)) (sym (with_put-put es ms n m none))
+      subst (λ (l : ExternKinds). All (λ (x : Text × ItemKind). lookup bytes_eq l x.0 ≡ Some x.1) (insert_entry bytes_eq ms n m)) (sym (with_put-put es ms n m none))
       (All-insert_entry is_put_now ms n m (still ms none h) here)
 
 -- ---- what is named
 
 module _ (P : Key → Type 0) where
   -- after these are put, and of these alone
-  pub each_with_put : (es ms : Externs) → Each P (extern_keys es) → Each P (extern_keys ms) → Each P (extern_keys (with_put es ms))
+  pub each_with_put : (es ms : ExternKinds) → Each P (extern_keys es) → Each P (extern_keys ms) → Each P (extern_keys (with_put es ms))
   each_with_put es [] h g = h
   each_with_put es (x ∷ ms) h g = each_with_put (insert_entry bytes_eq es x.0 x.1) ms (each_put P es x.0 x.1 h (Each-left P (item_keys x.1) (extern_keys ms) g)) (Each-right P (item_keys x.1) (extern_keys ms) g)
 
-  pub each_was_put : (es ms : Externs) → AreAllPut es ms → Each P (extern_keys (with_put es ms)) → Each P (extern_keys ms)
+  pub each_was_put : (es ms : ExternKinds) → AreAllPut es ms → Each P (extern_keys (with_put es ms)) → Each P (extern_keys ms)
   each_was_put es ms all h =
       each_named P item_keys ms (All-weaker (λ (x : Text × ItemKind). lookup bytes_eq (with_put es ms) x.0 ≡ Some x.1) (λ (x : Text × ItemKind). Each P (item_keys x.1)) (λ x is. each_found P (with_put es ms) x.0 x.1 is h) ms all)
 
-pub among_put : (es ms : Externs) → AreAllPut es ms → (j : Key) → IsAmong j (extern_keys ms) → IsAmong j (extern_keys (with_put es ms))
+pub among_put : (es ms : ExternKinds) → AreAllPut es ms → (j : Key) → IsAmong j (extern_keys ms) → IsAmong j (extern_keys (with_put es ms))
 among_put es ms all j q =
     let there : Key → Type 0 = λ k. IsAmong k (extern_keys (with_put es ms)) in
     among_each there j (extern_keys ms) q (each_was_put there es ms all (each_among there (extern_keys (with_put es ms)) (λ k r. r)))
 
 -- a walk that leads from what is put leads from all that is there then
-pub reach_put : (d : Collection) (us : List (Text × UseContent)) (es ms : Externs) (k : Key) → AreAllPut es ms → NamesReach d (named_keys use_keys us ++ extern_keys ms) k → NamesReach d (named_keys use_keys us ++ extern_keys (with_put es ms)) k
+pub reach_put : (d : Collection) (us : List (Text × UseContent)) (es ms : ExternKinds) (k : Key) → AreAllPut es ms → NamesReach d (named_keys use_keys us ++ extern_keys ms) k → NamesReach d (named_keys use_keys us ++ extern_keys (with_put es ms)) k
 reach_put d us es ms k all n = (
   n.0,
   elim (among_either (named_keys use_keys us) (extern_keys ms) n.1) [

@@ -21,7 +21,7 @@ use Rattle.wac_component.proofs.Among.{each_found}
 use Rattle.wac_component.proofs.Reading.{interface_at}
 use Rattle.wac_component.proofs.Walks.{no_walk_returns}
 use Rattle.wac_core_merge.specs.Names.{is_new, with_new}
-use Rattle.wac_merge.specs.Items.{Externs, extern_keys}
+use Rattle.wac_merge.specs.Items.{ExternKinds, extern_keys}
 use Rattle.wac_aggregator_narrowing.specs.Identified.{IsCovered}
 use Rattle.wac_aggregator_narrowing.specs.Laws.{LeadsAlongArrows}
 use Rattle.wac_aggregator_narrowing.specs.Narrows.{grown}
@@ -30,16 +30,16 @@ use Rattle.wac_aggregator_taking.specs.Growing.{AreMetWith, with_own}
 use Rattle.wac_aggregator_taking.proofs.GrowLemmas.{StepsOn-refl, met_put}
 
 -- what stands under a name, put there again
-put_same : (es : Externs) (n : Text) (x : ItemKind) → lookup bytes_eq es n ≡ Some x → insert_entry bytes_eq es n x ≡ es
+put_same : (es : ExternKinds) (n : Text) (x : ItemKind) → lookup bytes_eq es n ≡ Some x → insert_entry bytes_eq es n x ≡ es
 put_same [] n x h = absurd (cc)
 put_same (e ∷ es) n x h = by_test (bytes_eq n e.0) h (λ g. put_same es n x g)
   where
     by_test : (b : Bool) → cond b (Some e.1) (lookup bytes_eq es n) ≡ Some x → (lookup bytes_eq es n ≡ Some x → insert_entry bytes_eq es n x ≡ es) → cond b ((e.0, x) ∷ es) (e ∷ insert_entry bytes_eq es n x) ≡ e ∷ es
     by_test true h g = let same : x ≡ e.1 = cc in ap (λ (y : ItemKind). (e.0, y) ∷ es) same
-    by_test false h g = ap (λ (xs : Externs). e ∷ xs) (g h)
+    by_test false h g = ap (λ (xs : ExternKinds). e ∷ xs) (g h)
 
 -- exports stay as they are where what stands under a name fits where an item is asked for
-pub met_kept : (c : Collection) (es : Externs) (n : Text) (a b : ItemKind) → AllStand c (extern_keys es) → lookup bytes_eq es n ≡ Some b → Fits (item_tree c b) (item_tree c a) → AreMetWith c c es ((n, a) ∷ []) es
+pub met_kept : (c : Collection) (es : ExternKinds) (n : Text) (a b : ItemKind) → AllStand c (extern_keys es) → lookup bytes_eq es n ≡ Some b → Fits (item_tree c b) (item_tree c a) → AreMetWith c c es ((n, a) ∷ []) es
 met_kept c es n a b st is fits = met_put c c es es n a b (StepsOn-refl c) st (each_found (Stands c) es n b is st) fits
     (λ x found. let both : Some b ≡ Some x = sym is ∙ found in let same : b ≡ x = cc in subst (λ y. Fits (item_tree c b) (item_tree c y)) same (Fits-refl (item_tree c b)))
     (λ t before this. before b is)

@@ -20,7 +20,7 @@ use Rattle.wac_component.specs.Replacing.{NamesReach}
 use Rattle.wac_component.specs.Tree.{item_tree}
 use Rattle.wac_component.specs.declared.items.ItemKind.{ItemKind}
 use Rattle.wac_checker.specs.Externs.{AreServed}
-use Rattle.wac_merge.specs.Items.{Externs, extern_keys}
+use Rattle.wac_merge.specs.Items.{ExternKinds, extern_keys}
 use Rattle.wac_merge.specs.Built.{Builds, IsBuilt, uses_of_both}
 use Rattle.wac_merge.specs.Reads.{exports_at}
 use Rattle.wac_names.specs.Class.{Class}
@@ -44,7 +44,7 @@ abbrev pub with_own : State → Collection → State
 with_own s c = record s { own = c }
 
 -- each item of the list may be exported under its name, comes from sources, and is open
-abbrev pub AreAllOpen : Attempt → State → Externs → Type 0
+abbrev pub AreAllOpen : Attempt → State → ExternKinds → Type 0
 AreAllOpen at s es = (name : Text) (x : ItemKind) → Contains es (name, x) → IsOpenItem at s name x
 
 -- all stays accounted for, with the same roots
@@ -79,7 +79,7 @@ IsMetIfAny c d a b None = Extends c d × AreApartIn d a b
 -- the same of named items: under each name the greatest that serves both lists, and under a name of
 -- the first alone what it had. Where those are open and come from sources, these are and do so, and
 -- all stays accounted for; and they lead along arrows
-pub record AreMetWith (c d : Collection) (es ts ms : Externs) : Type 0 where
+pub record AreMetWith (c d : Collection) (es ts ms : ExternKinds) : Type 0 where
   pub on : StepsOn c d
   pub stand : AllStand d (extern_keys ms)
   pub serve_first : AreServed d c ms es
@@ -93,19 +93,19 @@ pub record AreMetWith (c d : Collection) (es ts ms : Externs) : Type 0 where
 -- m stands for the item among whatever items: those that are under its name what the interface
 -- exports there are met with it when m is put there
 abbrev pub IsMetThere : Collection → Collection → Id → Text → ItemKind → ItemKind → Type 0
-IsMetThere c d e n a m = (es : Externs) → AllStand c (extern_keys es) → lookup bytes_eq es n ≡ lookup bytes_eq (exports_at c (interface_key e)) n → AreMetWith c d es ((n, a) ∷ []) (insert_entry bytes_eq es n m)
+IsMetThere c d e n a m = (es : ExternKinds) → AllStand c (extern_keys es) → lookup bytes_eq es n ≡ lookup bytes_eq (exports_at c (interface_key e)) n → AreMetWith c d es ((n, a) ∷ []) (insert_entry bytes_eq es n m)
 
 -- the list once these items are put under their names: in the place of what stands there, else last
-abbrev pub with_put : Externs → Externs → Externs
+abbrev pub with_put : ExternKinds → ExternKinds → ExternKinds
 with_put es [] = es
 with_put es (m ∷ ms) = with_put (insert_entry bytes_eq es m.0 m.1) ms
 
 -- so each of these is what stands under its name
-abbrev pub AreAllPut : Externs → Externs → Type 0
+abbrev pub AreAllPut : ExternKinds → ExternKinds → Type 0
 AreAllPut es ms = All (λ (m : Text × ItemKind). lookup bytes_eq (with_put es ms) m.0 ≡ Some m.1) ms
 
 -- in d the interface uses and exports this as well, from which no walk leads back to it
-pub record IsGrownBy (c : Collection) (e : Id) (us : List (Text × UseContent)) (ms : Externs) (d : Collection) : Type 0 where
+pub record IsGrownBy (c : Collection) (e : Id) (us : List (Text × UseContent)) (ms : ExternKinds) (d : Collection) : Type 0 where
   pub old : InterfaceContent
   pub new : InterfaceContent
   pub was : slice_get c.interfaces e.index ≡ Some old

@@ -13,7 +13,7 @@ use Rattle.wac_aggregator_promises.specs.PlainList.{ArePlain}
 use Rattle.wac_aggregator_promises.specs.Reason.{CallRefusal, mismatch, no_identifier, owner_without_identifier, IsReason}
 use Rattle.wac_aggregator_promises.specs.TreeSets.{HaveNoLowerBound}
 use Rattle.wac_aggregator_promises.specs.WitList.{IsLeafItem}
-use Rattle.wac_merge.specs.Items.{Externs, extern_keys}
+use Rattle.wac_merge.specs.Items.{ExternKinds, extern_keys}
 use Rattle.wac_merge.specs.Reads.{exports_at}
 use Rattle.wac_aggregator_narrowing.specs.State.{State, IsStateKept}
 use Rattle.wac_aggregator_reasons.specs.Trial.{IsTrial, IsAccounted, AreOpenItems}
@@ -73,7 +73,7 @@ abbrev pub IsMergeRefusal : Collection → ItemKind → ItemKind → AggregateEr
 IsMergeRefusal c a b e = e ≢ Memory → UsesDiffer c (item_keys a) (item_keys b) e ⊎ SaysMismatch c a b e
 
 -- two leaves of one name, one of each list, have no common lower bound
-pub record HasApartLeaves (c : Collection) (es ts : Externs) : Type 0 where
+pub record HasApartLeaves (c : Collection) (es ts : ExternKinds) : Type 0 where
   pub name : Text
   pub first : ItemKind
   pub second : ItemKind
@@ -84,14 +84,14 @@ pub record HasApartLeaves (c : Collection) (es ts : Externs) : Type 0 where
 -- items aren't met with those under their names: whatever state has this collection, in which
 -- all is accounted for and these items are open, there is reason if the item touches; and
 -- leaves aren't since two are apart
-pub record IsItemsRefusal (c : Collection) (es ts : Externs) (e : AggregateError) : Type 0 where
+pub record IsItemsRefusal (c : Collection) (es ts : ExternKinds) (e : AggregateError) : Type 0 where
   pub reason : (at : Attempt) (s : State) → IsStateKept (with_own s c) → IsAccounted at (with_own s c) → AreOpenItems at (with_own s c) es → AreAllOpen at (with_own s c) ts → Touches at → HasReason at e
   pub leaves : All (λ t. IsLeafItem t.1) ts → HasApartLeaves c es ts
 
 -- such items are refused, unless an allocation fails
-abbrev pub AreRefusedItems : Collection → Externs → Externs → AggregateError → Type 0
+abbrev pub AreRefusedItems : Collection → ExternKinds → ExternKinds → AggregateError → Type 0
 AreRefusedItems c es ts e = e ≢ Memory → IsItemsRefusal c es ts e
 
 -- the item is refused among whatever items are under its name what the interface exports there
 abbrev pub IsRefusedThere : Collection → Id → Text → ItemKind → AggregateError → Type 0
-IsRefusedThere c e n a r = (es : Externs) → AllStand c (extern_keys es) → lookup bytes_eq es n ≡ lookup bytes_eq (exports_at c (interface_key e)) n → AreRefusedItems c es ((n, a) ∷ []) r
+IsRefusedThere c e n a r = (es : ExternKinds) → AllStand c (extern_keys es) → lookup bytes_eq es n ≡ lookup bytes_eq (exports_at c (interface_key e)) n → AreRefusedItems c es ((n, a) ∷ []) r

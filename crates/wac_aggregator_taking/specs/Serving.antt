@@ -7,13 +7,13 @@ use Rattle.wac_component.specs.Id.{Id}
 use Rattle.wac_component.specs.Key.{AllStand, interface_entry, interface_keys}
 use Rattle.wac_component.specs.Sound.{IsSound}
 use Rattle.wac_merge.specs.Built.{uses_of_both}
-use Rattle.wac_merge.specs.Items.{Externs, AreFound}
+use Rattle.wac_merge.specs.Items.{ExternKinds, AreUnhidden}
 use Rattle.wac_aggregator_errors.specs.Uses.{UsesAgree}
 use Rattle.wac_aggregator_taking.specs.Growing.{AreMetWith}
 
 -- the interface at an id stays as it is where uses, which agree with its own,
 -- and exports are merged into it
-pub record IsServing (c : Collection) (e : Id) (us : List (Text × UseContent)) (es : Externs) : Type 0 where
+pub record IsServing (c : Collection) (e : Id) (us : List (Text × UseContent)) (es : ExternKinds) : Type 0 where
   pub entry : InterfaceContent
   pub at : slice_get c.interfaces e.index ≡ Some entry
   pub stands : AllStand c (interface_keys entry)
@@ -22,4 +22,4 @@ pub record IsServing (c : Collection) (e : Id) (us : List (Text × UseContent)) 
   pub uses : entry.uses ≡ uses_of_both entry.uses us
   pub agree : UsesAgree c entry.uses us
   pub exports : AreMetWith c c entry.exports es entry.exports
-  pub found : AreFound es
+  pub found : AreUnhidden es

@@ -160,8 +160,8 @@ abbrev pub Takes : Collection → Merging → Merging → ℕ → List Key → (
 Takes f a b top ks Holds = TakesBy [] f a b top ks Holds
 
 -- an own interface is imported for each id that leads to an owner with an identifier on its track
-abbrev pub ImportsOwner : Merging → Merging → Id → Type 0
-ImportsOwner a b own = (f : Collection) (ks : List Key) (from : Key) (n m : Text) → MayTake f a → IsAmong from ks → LeadsToOwner f from n
+abbrev pub ImportsOwnOwner : Merging → Merging → Id → Type 0
+ImportsOwnOwner a b own = (f : Collection) (ks : List Key) (from : Key) (n m : Text) → MayTake f a → IsAmong from ks → LeadsToOwner f from n
     → identifier_at a.types (interface_key own) ≡ Some m → class_of m ≡ class_of n → Takes f a b 0 ks (λ t. IsSome (t.imports n))
 
 -- what the resource is another name of, if it is

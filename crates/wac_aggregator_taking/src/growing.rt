@@ -10,7 +10,7 @@ ghost use Rattle.wac_component.specs.Replacing.{NamesReach};
 ghost use Rattle.wac_aggregator_promises.specs.Entries.{ReachesByUses};
 ghost use Rattle.wac_aggregator_promises.specs.Reason.{cycle as closes};
 ghost use Rattle.wac_aggregator_errors.specs.declared.error.AggregateError.TheVariants.{Memory};
-ghost use Rattle.wac_merge.specs.Items.{AreFound, extern_keys, extern_list};
+ghost use Rattle.wac_merge.specs.Items.{AreUnhidden, extern_keys, extern_list};
 ghost use Rattle.wac_merge.specs.Reads.{exports_at};
 ghost use Rattle.wac_names.specs.Class.{class_of};
 ghost use Rattle.wac_aggregator_narrowing.specs.Taking.{IsTakenKey};
@@ -139,7 +139,7 @@ fn met_exports(
     requires own { Stands types.old (interface_key own) }
     requires new { AllStand types.old (extern_keys (extern_list exports.now)) }
     ensures met { MatchResult result (λ m. AreMetWith types.old types.new (exports_at types.old (interface_key own)) (extern_list exports.now) (with_put (exports_at types.old (interface_key own)) (extern_list m))) (AreRefusedItems types.old (exports_at types.old (interface_key own)) (extern_list exports.now)) }
-    ensures found { AreFound (extern_list exports.now) }
+    ensures found { AreUnhidden (extern_list exports.now) }
     ensures put { IfOk result (λ m. AreAllPut (exports_at types.old (interface_key own)) (extern_list m)) }
 {
     types.sound();

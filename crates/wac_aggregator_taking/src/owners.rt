@@ -11,7 +11,7 @@ ghost use Rattle.wac_aggregator_narrowing.specs.State.{IsStateKept};
 ghost use Rattle.wac_aggregator_taking.specs.Members.{AnswersMembers};
 ghost use Rattle.wac_aggregator_taking.specs.Refused.{MayRefuse, IsUnidentified};
 ghost use Rattle.wac_aggregator_taking.specs.Steps.{IsReachedFrom, ArePut, AreNext, ImportsOnly, IsOwnerTold};
-ghost use Rattle.wac_aggregator_taking.specs.Takes.{ImportsOwner, shared_keys, state_of, MayTake, Takes, AreOwnersTaken, alias_at};
+ghost use Rattle.wac_aggregator_taking.specs.Takes.{ImportsOwnOwner, shared_keys, state_of, MayTake, Takes, AreOwnersTaken, alias_at};
 
 use super::state::Merging;
 use super::steps::{TakeStep, push_before, push_step};
@@ -49,7 +49,7 @@ pub(crate) fn resource_at(resources: &Vec<ResourceId>, index: usize) -> Resource
 pub(crate) fn import_owner(state: &mut Merging, own: InterfaceId) -> Result<(), AllocError>
     requires state { IsStateKept (state_of state.old) }
     requires shared { IsAmong (interface_key own) (shared_keys state.old.shared.entries) }
-    ensures imported { IfOk result (λ u. ImportsOwner state.old state.new own) }
+    ensures imported { IfOk result (λ u. ImportsOwnOwner state.old state.new own) }
     ensures others { ImportsOnly state.old state.new }
 {
     let Some(name) = state.types[own].id.clone()? else {

@@ -10,7 +10,7 @@ ghost use Rattle.wac_component.specs.Tree.{item_tree};
 ghost use Rattle.wac_component.specs.declared.items.ItemKind.{ItemKind as Kind};
 ghost use Rattle.wac_checker.specs.Compared.{KnowsTruly};
 ghost use Rattle.wac_core_merge.specs.Names.{with_new};
-ghost use Rattle.wac_merge.specs.Items.{AreFound, extern_keys, extern_list};
+ghost use Rattle.wac_merge.specs.Items.{AreUnhidden, extern_keys, extern_list};
 ghost use Rattle.wac_aggregator_errors.specs.Uses.{UsesAgree};
 ghost use Rattle.wac_aggregator_taking.specs.Growing.{AreMetWith};
 ghost use Rattle.wac_aggregator_taking.specs.Serving.{IsServing};
@@ -84,7 +84,7 @@ fn exports_serve(
     requires existing { AllStand types.now (extern_keys (extern_list existing.now)) }
     requires new { AllStand types.now (extern_keys (extern_list new.now)) }
     ensures met { IsTrue result → AreMetWith types.now types.now (extern_list existing.now) (extern_list new.now) (extern_list existing.now) }
-    ensures found { AreFound (extern_list new.now) }
+    ensures found { AreUnhidden (extern_list new.now) }
 {
     let mut compared = Compared::new(alloc);
     for (name, kind) in new {

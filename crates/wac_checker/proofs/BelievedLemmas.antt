@@ -15,12 +15,12 @@ use Rattle.wac_component.specs.declared.items.Type.TheVariants.{Value as TypeVal
 use Rattle.wac_component.specs.declared.items.ValueType.TheVariants.{Defined}
 use Rattle.wac_component.specs.Items.{type_of}
 use Rattle.wac_component.proofs.Search.{there_is}
-use Rattle.wac_checker.specs.Believed.{IsAmong, IsFittingBy, item_by, type_by}
+use Rattle.wac_checker.specs.Believed.{IsPairAmong, IsFittingBy, item_by, type_by}
 use Rattle.wac_checker.specs.Cache.{AreInOrder, IsInOrder, OthersAreInOrder, Pair}
 use Rattle.wac_checker.specs.Pairs.{AreOfItems, DefinedTypes, Entries, EntriesFit, EntriesStand, IsStanding, entries_by, id_in, left_key, left_of, right_key, right_of}
 use Rattle.wac_checker.specs.declared.parts.EntryPair.{EntryPair}
-use Rattle.wac_checker.specs.declared.parts.Sort.{Sort as PairSort}
-use Rattle.wac_checker.specs.declared.parts.Sort.TheVariants as sort
+use Rattle.wac_checker.specs.declared.parts.PairSort.{PairSort}
+use Rattle.wac_checker.specs.declared.parts.PairSort.TheVariants as sort
 use Rattle.wac_checker.proofs.ItemPartLemmas.{of_funcs, of_interfaces, of_modules, of_values, of_worlds, types_of_funcs, types_of_interfaces, types_of_modules, types_of_worlds}
 
 -- ---- which pairs are in the order
@@ -53,7 +53,7 @@ either_way false c d q h = h.0
 either_way true c d q h = h.1
 
 -- a pair that is among those that are believed fits for it
-pub among_fits : (ps : List Pair) (c d : Collection) (p : EntryPair) → IsStanding c d p → IsAmong ps c d p → IsFittingBy ps c d p
+pub among_fits : (ps : List Pair) (c d : Collection) (p : EntryPair) → IsStanding c d p → IsPairAmong ps c d p → IsFittingBy ps c d p
 among_fits ps c d p stand (inl m) told =
     let l = left_of c d p.swapped in
     let r = right_of c d p.swapped in
@@ -78,10 +78,10 @@ module _ (ps : List Pair) (c d l r : Collection) (p : EntryPair) (a b : ItemKind
   right_is : b ≡ item_by p.sort (id_in (right_of c d p.swapped) p.right)
   right_is = is_b ∙ ap (λ (k : Collection). item_by p.sort (id_in k p.right)) right
 
-  pub among_items : Contains ps (a, b) → IsAmong ps c d p
+  pub among_items : Contains ps (a, b) → IsPairAmong ps c d p
   among_items m = inl (subst₂ (λ (u v : ItemKind). Contains ps (u, v)) left_is right_is m)
 
-  pub among_types : Contains ps (OfType (type_of a), OfType (type_of b)) → IsAmong ps c d p
+  pub among_types : Contains ps (OfType (type_of a), OfType (type_of b)) → IsPairAmong ps c d p
   among_types m =
       let left_type = ap (λ (z : ItemKind). OfType (type_of z)) left_is ∙ as_type p.sort (id_in (left_of c d p.swapped) p.left) in
       let right_type = ap (λ (z : ItemKind). OfType (type_of z)) right_is ∙ as_type p.sort (id_in (right_of c d p.swapped) p.right) in

@@ -17,7 +17,7 @@ use Rattle.wac_mismatch.specs.Place.{item_side, value_side}
 use Rattle.wac_checker.specs.Compared.{KnowsTruly}
 use Rattle.wac_checker.specs.Pairs.{EntriesFit, EntriesStand, left_key, left_of, right_key, right_of, sort_side, Entries, DefinedTypes, Funcs, Interfaces, Worlds, Modules, IsFitting, IsStanding, entries_by, entries_of, id_in}
 use Rattle.wac_checker.specs.declared.parts.EntryPair.{EntryPair}
-use Rattle.wac_checker.specs.declared.parts.Sort.{Sort as PairSort}
+use Rattle.wac_checker.specs.declared.parts.PairSort.{PairSort}
 use Rattle.wac_checker.specs.declared.compared.Compared.{Compared}
 
 -- ---- items that are one have the parts in common

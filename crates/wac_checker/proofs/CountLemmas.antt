@@ -8,10 +8,10 @@ use Rattle.wac_component.specs.Id.{Id}
 use Rattle.wac_component.specs.Collection.{Collection}
 use Rattle.wac_component.specs.Sound.{entry_count}
 use Rattle.wac_component.proofs.Among.{Contains-first, Contains-later, Contains-cases}
-use Rattle.wac_checker.specs.Pairs.{AreDistinct, ArePairsOf, EntriesStand, IsStanding, entries_by, id_in, left_of, right_of}
+use Rattle.wac_checker.specs.Pairs.{ArePairsDistinct, ArePairsOf, EntriesStand, IsStanding, entries_by, id_in, left_of, right_of}
 use Rattle.wac_checker.specs.declared.parts.EntryPair.{EntryPair}
-use Rattle.wac_checker.specs.declared.parts.Sort.{Sort as PairSort}
-use Rattle.wac_checker.specs.declared.parts.Sort.TheVariants as sort
+use Rattle.wac_checker.specs.declared.parts.PairSort.{PairSort}
+use Rattle.wac_checker.specs.declared.parts.PairSort.TheVariants as sort
 
 -- ---- distinct elements of a list are no more than it has
 
@@ -22,7 +22,7 @@ without {A} (y ∷ ys) x m = elim (Contains-cases x y ys m) [
   | inr later ↦ let rest = without ys x later in (y ∷ rest.0, ap suc rest.1, λ q mq other. elim (Contains-cases q y ys mq) [ inl e ↦ subst (λ (z : A). Contains (y ∷ rest.0) z) e (Contains-first y rest.0) | inr more ↦ Contains-later q y rest.0 (rest.2 q more other) ])
 ]
 
-no_more : (ps qs : List EntryPair) → AreDistinct ps → ((p : EntryPair) → Contains ps p → Contains qs p) → length ps ≤ length qs
+no_more : (ps qs : List EntryPair) → ArePairsDistinct ps → ((p : EntryPair) → Contains ps p → Contains qs p) → length ps ≤ length qs
 no_more [] qs h all = omega arith
 no_more (p ∷ ps) qs h all =
     let rest = without qs p (all p (Contains-first p ps)) in

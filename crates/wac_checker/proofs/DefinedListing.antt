@@ -28,7 +28,7 @@ use Rattle.wac_component.specs.declared.items.ValueType.TheVariants.{Defined}
 use Rattle.wac_checker.specs.Pairs.{DefinedTypes, Same}
 use Rattle.wac_checker.specs.Listing.{AreComposed, IsApart, IsTurn, IsFuncTurn, IsLastTurn, IsNamesTurn, IsOptionalTurn, IsParamsTurn, IsSideTurn, IsTurnTo, func_side, members_height}
 use Rattle.wac_checker.specs.declared.parts.Difference.TheVariants as difference
-use Rattle.wac_checker.specs.declared.parts.Part.{Part}
+use Rattle.wac_checker.specs.declared.parts.PairPart.{PairPart}
 use Rattle.wac_checker.specs.declared.parts.Turn.{Turn}
 use Rattle.wac_checker.specs.declared.parts.Turn.TheVariants as turn
 use Rattle.wac_checker.proofs.DifferenceLemmas.{differ_refutes, flags_by, enums_by, oks_differ, errs_differ, func_results_differ}
@@ -38,7 +38,7 @@ use Rattle.wac_checker.proofs.ListingLemmas.{none_listed, turn_done, turn_from, 
 use Rattle.wac_checker.proofs.PartLemmas.{errs_at, maps_same, oks_at, part_of_errs, part_of_oks, results_same}
 
 -- a turn that isn't the end is that of all
-pub turn_other : (l r : Collection) (w : Bool) (s t : Side) (m n i : ℕ) (ms : List Part) (k : Turn) → (k ≡ turn.End → ⊥) → IsTurnTo l r w s t m n i ms k → IsSideTurn l r w s t m n ms k
+pub turn_other : (l r : Collection) (w : Bool) (s t : Side) (m n i : ℕ) (ms : List PairPart) (k : Turn) → (k ≡ turn.End → ⊥) → IsTurnTo l r w s t m n i ms k → IsSideTurn l r w s t m n ms k
 turn_other l r w s t m n i ms turn.End other h = absurd (other refl)
 turn_other l r w s t m n i ms (turn.Apart x) other h = h
 turn_other l r w s t m n i ms (turn.PartApart j b x) other h = h
@@ -46,7 +46,7 @@ turn_other l r w s t m n i ms turn.Memory other h = tt
 
 -- ---- names
 
-module _ (l r : Collection) (w : Bool) (xs ys : List Text) (m n : ℕ) (ms : List Part) (none : ms ≡ []) where
+module _ (l r : Collection) (w : Bool) (xs ys : List Text) (m n : ℕ) (ms : List PairPart) (none : ms ≡ []) where
   pub flags_turn : (k : Turn) → IsNamesTurn count_of.Flags name_of.Flags xs ys k → IsSideTurn l r w (value_side (node (flags xs) no_parts)) (value_side (node (flags ys) no_parts)) m n ms k
   flags_turn turn.End h = (none_listed l r w (value_side (node (flags xs) no_parts)) (value_side (node (flags ys) no_parts)) m n ms none, λ all. ap (λ (zs : List Text). value_side (node (flags zs) no_parts)) h)
   flags_turn (turn.Apart x) h = (none_listed l r w (value_side (node (flags xs) no_parts)) (value_side (node (flags ys) no_parts)) m n ms none, h.0, λ c f is. inl (flags_by xs ys no_parts no_parts c f (h.1 c f is)))
@@ -61,7 +61,7 @@ module _ (l r : Collection) (w : Bool) (xs ys : List Text) (m n : ℕ) (ms : Lis
 
 -- ---- maps
 
-module _ (l r : Collection) (w : Bool) (a v b x : ValueType) (ms ns : List Part) (none : ms ≡ []) where
+module _ (l r : Collection) (w : Bool) (a v b x : ValueType) (ms ns : List PairPart) (none : ms ≡ []) where
   keys_turn : (k : Turn) → IsLastTurn l r w 0 a b ms ns k → IsTurnTo l r w (composed_side l map_of (a ∷ v ∷ [])) (composed_side r map_of (b ∷ x ∷ [])) (members_height l (a ∷ v ∷ [])) (members_height r (b ∷ x ∷ [])) 1 ns k
   keys_turn k last =
       let left = keys_height-member l (a ∷ v ∷ []) 0 a refl in
@@ -71,7 +71,7 @@ module _ (l r : Collection) (w : Bool) (a v b x : ValueType) (ms ns : List Part)
   pub map_keys : (k : Turn) → (k ≡ turn.End → ⊥) → IsLastTurn l r w 0 a b ms ns k → AreComposed l r w map_of (a ∷ v ∷ []) map_of (b ∷ x ∷ []) ns k
   map_keys k other last = turn_other l r w (composed_side l map_of (a ∷ v ∷ [])) (composed_side r map_of (b ∷ x ∷ [])) (members_height l (a ∷ v ∷ [])) (members_height r (b ∷ x ∷ [])) 1 ns k other (keys_turn k last)
 
-  pub map_values : (os : List Part) (k : Turn) → IsLastTurn l r w 0 a b ms ns turn.End → IsLastTurn l r w 1 v x ns os k → AreComposed l r w map_of (a ∷ v ∷ []) map_of (b ∷ x ∷ []) os k
+  pub map_values : (os : List PairPart) (k : Turn) → IsLastTurn l r w 0 a b ms ns turn.End → IsLastTurn l r w 1 v x ns os k → AreComposed l r w map_of (a ∷ v ∷ []) map_of (b ∷ x ∷ []) os k
   map_values os k first last =
       let left = keys_height-member l (a ∷ v ∷ []) 1 v refl in
       let right = keys_height-member r (b ∷ x ∷ []) 1 x refl in
@@ -94,19 +94,19 @@ second_lower c (Some q) (Some v) =
     omega (arith, member, alone)
 
 module _ (l r : Collection) (w : Bool) (m n : ℕ) where
-  oks_turn : (o p e g : Option ValueType) (ms ns : List Part) (k : Turn) → keys_height l (flat_map value_keys (option_to_list o)) < m → keys_height r (flat_map value_keys (option_to_list p)) < n → IsOptionalTurn l r w 0 (difference.ResultPart result_part.Ok (is_some o) (is_some p)) o p ms ns k → IsTurnTo l r w (result_side l o e) (result_side r p g) m n 0 ms turn.End → IsTurnTo l r w (result_side l o e) (result_side r p g) m n 1 ns k
+  oks_turn : (o p e g : Option ValueType) (ms ns : List PairPart) (k : Turn) → keys_height l (flat_map value_keys (option_to_list o)) < m → keys_height r (flat_map value_keys (option_to_list p)) < n → IsOptionalTurn l r w 0 (difference.ResultPart result_part.Ok (is_some o) (is_some p)) o p ms ns k → IsTurnTo l r w (result_side l o e) (result_side r p g) m n 0 ms turn.End → IsTurnTo l r w (result_side l o e) (result_side r p g) m n 1 ns k
   oks_turn None None e g ms ns k left right h before = rw (h.0, h.1) (turn_same l r w (result_side l None e) (result_side r None g) m n 0 ms (part_of_oks Covariant l r m n None None e g Same left right refl).1 before)
   oks_turn (Some v) (Some x) e g ms ns k left right h before = turn_last l r w (result_side l (Some v) e) (result_side r (Some x) g) m n 0 v x ms ns (omega arith) (oks_at l r v x e g) (rw (append_nil (value_keys v)) at left) (rw (append_nil (value_keys x)) at right) k h before
   oks_turn None (Some x) e g ms ns k left right h before = rw (h.0, h.1) (before.0, tt, oks_differ l r None (Some x) e g (λ e'. absurd (cc (e'))))
   oks_turn (Some v) None e g ms ns k left right h before = rw (h.0, h.1) (before.0, tt, oks_differ l r (Some v) None e g (λ e'. absurd (cc (e'))))
 
-  errs_turn : (o p e g : Option ValueType) (ms ns : List Part) (k : Turn) → keys_height l (flat_map value_keys (option_to_list e)) < m → keys_height r (flat_map value_keys (option_to_list g)) < n → IsOptionalTurn l r w 1 (difference.ResultPart result_part.Err (is_some e) (is_some g)) e g ms ns k → IsTurnTo l r w (result_side l o e) (result_side r p g) m n 1 ms turn.End → IsTurnTo l r w (result_side l o e) (result_side r p g) m n 2 ns k
+  errs_turn : (o p e g : Option ValueType) (ms ns : List PairPart) (k : Turn) → keys_height l (flat_map value_keys (option_to_list e)) < m → keys_height r (flat_map value_keys (option_to_list g)) < n → IsOptionalTurn l r w 1 (difference.ResultPart result_part.Err (is_some e) (is_some g)) e g ms ns k → IsTurnTo l r w (result_side l o e) (result_side r p g) m n 1 ms turn.End → IsTurnTo l r w (result_side l o e) (result_side r p g) m n 2 ns k
   errs_turn o p None None ms ns k left right h before = rw (h.0, h.1) (turn_same l r w (result_side l o None) (result_side r p None) m n 1 ms (part_of_errs Covariant l r m n o p None None Same left right refl).1 before)
   errs_turn o p (Some v) (Some x) ms ns k left right h before = turn_last l r w (result_side l o (Some v)) (result_side r p (Some x)) m n 1 v x ms ns (omega arith) (errs_at l r o p v x) (rw (append_nil (value_keys v)) at left) (rw (append_nil (value_keys x)) at right) k h before
   errs_turn o p None (Some x) ms ns k left right h before = rw (h.0, h.1) (before.0, tt, errs_differ l r o p None (Some x) (λ e'. absurd (cc (e'))))
   errs_turn o p (Some v) None ms ns k left right h before = rw (h.0, h.1) (before.0, tt, errs_differ l r o p (Some v) None (λ e'. absurd (cc (e'))))
 
-module _ (l r : Collection) (w : Bool) (o p e g : Option ValueType) (ms ns : List Part) (none : ms ≡ []) where
+module _ (l r : Collection) (w : Bool) (o p e g : Option ValueType) (ms ns : List PairPart) (none : ms ≡ []) where
   first_turn : (k : Turn) → IsOptionalTurn l r w 0 (difference.ResultPart result_part.Ok (is_some o) (is_some p)) o p ms ns k → IsTurnTo l r w (result_side l o e) (result_side r p g) (members_height l (option_to_list o ++ option_to_list e)) (members_height r (option_to_list p ++ option_to_list g)) 1 ns k
   first_turn k h =
       let left = first_lower l o e in
@@ -116,7 +116,7 @@ module _ (l r : Collection) (w : Bool) (o p e g : Option ValueType) (ms ns : Lis
   pub result_oks : (k : Turn) → (k ≡ turn.End → ⊥) → IsOptionalTurn l r w 0 (difference.ResultPart result_part.Ok (is_some o) (is_some p)) o p ms ns k → IsSideTurn l r w (result_side l o e) (result_side r p g) (members_height l (option_to_list o ++ option_to_list e)) (members_height r (option_to_list p ++ option_to_list g)) ns k
   result_oks k other h = turn_other l r w (result_side l o e) (result_side r p g) (members_height l (option_to_list o ++ option_to_list e)) (members_height r (option_to_list p ++ option_to_list g)) 1 ns k other (first_turn k h)
 
-  pub result_errs : (os : List Part) (k : Turn) → IsOptionalTurn l r w 0 (difference.ResultPart result_part.Ok (is_some o) (is_some p)) o p ms ns turn.End → IsOptionalTurn l r w 1 (difference.ResultPart result_part.Err (is_some e) (is_some g)) e g ns os k → IsSideTurn l r w (result_side l o e) (result_side r p g) (members_height l (option_to_list o ++ option_to_list e)) (members_height r (option_to_list p ++ option_to_list g)) os k
+  pub result_errs : (os : List PairPart) (k : Turn) → IsOptionalTurn l r w 0 (difference.ResultPart result_part.Ok (is_some o) (is_some p)) o p ms ns turn.End → IsOptionalTurn l r w 1 (difference.ResultPart result_part.Err (is_some e) (is_some g)) e g ns os k → IsSideTurn l r w (result_side l o e) (result_side r p g) (members_height l (option_to_list o ++ option_to_list e)) (members_height r (option_to_list p ++ option_to_list g)) os k
   result_errs os k first h =
       let left = second_lower l o e in
       let right = second_lower r p g in
@@ -129,7 +129,7 @@ module _ (l r : Collection) (w : Bool) (o p e g : Option ValueType) (ms ns : Lis
 length-named : (es : List (String Global × ValueType)) → length (named (λ (v : ValueType). v) es) ≡ length es
 length-named es = simp length-map
 
-module _ (l r : Collection) (w : Bool) (f g : FuncType) (ms ns : List Part) (k : Turn) (async : f.is_async ≡ g.is_async) (count : length f.params.entries ≡ length g.params.entries) (few : length f.params.entries + 1 < 2 ^ 64)
+module _ (l r : Collection) (w : Bool) (f g : FuncType) (ms ns : List PairPart) (k : Turn) (async : f.is_async ≡ g.is_async) (count : length f.params.entries ≡ length g.params.entries) (few : length f.params.entries + 1 < 2 ^ 64)
     (before : IsParamsTurn l r w (func_content f) (func_content g) ms turn.End) where
   funcs_done : (j : Kind) → SameBefore (func_side j l (func_content f)) (func_side j r (func_content g)) (length f.params.entries + 1) → func_side j l (func_content f) ≡ func_side j r (func_content g)
   funcs_done j same =
@@ -159,10 +159,10 @@ module _ (l r : Collection) (w : Bool) (f g : FuncType) (ms ns : List Part) (k :
 
 -- ---- defined types of different cases
 
-pub apart_turn : (l r : Collection) (w : Bool) (a b : Id) (ms : List Part) (k : Turn) → ms ≡ [] → IsApart k (value_side (value_tree l (Defined a))) (value_side (value_tree r (Defined b))) → IsTurn l r w (DefinedTypes a b) ms k
+pub apart_turn : (l r : Collection) (w : Bool) (a b : Id) (ms : List PairPart) (k : Turn) → ms ≡ [] → IsApart k (value_side (value_tree l (Defined a))) (value_side (value_tree r (Defined b))) → IsTurn l r w (DefinedTypes a b) ms k
 apart_turn l r w a b ms turn.End none h = elim h [ ]
 apart_turn l r w a b ms (turn.Apart x) none h = (
-  (λ q m. absurd (let nothing = subst (λ (xs : List Part). Contains xs q) none m in omega (arith, nothing.1))),
+  (λ q m. absurd (let nothing = subst (λ (xs : List PairPart). Contains xs q) none m in omega (arith, nothing.1))),
   (λ c f is k. h.1 c f is),
   (λ fit. differ_refutes x (value_side (value_tree l (Defined a))) (value_side (value_tree r (Defined b))) h.0 h.1 (fit item)),
 )

@@ -11,7 +11,7 @@ use Rattle.wac_component.specs.Content.{names, types_of}
 use Rattle.wac_component.specs.Tree.{value_tree, IsCompound, IsResolved}
 use Rattle.wac_component.specs.declared.items.ValueType.{ValueType}
 use Rattle.wac_component.specs.declared.items.ValueType.TheVariants.{Primitive, Borrow, Own, Defined}
-use Rattle.wac_mismatch.specs.Holds.{HoldsOfSides, HoldsOfValues, IsCount, IsKind, IsOfFunc, IsOfNames, IsResource}
+use Rattle.wac_mismatch.specs.Holds.{HoldsOfSides, HoldsOfValues, IsCount, IsKindFault, IsOfFunc, IsOfNames, IsResource}
 use Rattle.wac_mismatch.specs.Place.{Side, SideFits, value_side, item_side, by_check, expected_of, found_of}
 use Rattle.wac_mismatch.specs.declared.check.SubtypeCheck.{SubtypeCheck}
 use Rattle.wac_mismatch.specs.declared.check.SubtypeCheck.TheVariants.{Covariant, Contravariant}
@@ -98,7 +98,7 @@ resources_differ x k n m ne roots c f is = inl (resources_disagree c f k n m (ro
 
 -- ---- kinds
 
-kinds_hold : (f : Fault) (s t : ValueTree) → AreOtherKinds s t → IsKind f (value_desc s) (value_desc t) → HoldsOfValues f s t
+kinds_hold : (f : Fault) (s t : ValueTree) → AreOtherKinds s t → IsKindFault f (value_desc s) (value_desc t) → HoldsOfValues f s t
 kinds_hold f (node (primitive p) ts) (node (primitive q) us) ne h = absurd (ne refl)
 kinds_hold f (node (borrow r) ts) (node (borrow s) us) ne h = absurd (ne refl)
 kinds_hold f (node (own r) ts) (node (own s) us) ne h = absurd (ne refl)
@@ -116,16 +116,16 @@ kinds_hold f (node (stream p) ts) (node (stream q) us) ne h = absurd (ne refl)
 kinds_hold f (node (future p) ts) (node (future q) us) ne h = absurd (ne refl)
 kinds_hold f s t ne h = h
 
-kinds_by : (c : SubtypeCheck) (f : Fault) (s t : ValueTree) → AreOtherKinds s t → IsKind f (expected_of c (value_desc s) (value_desc t)) (found_of c (value_desc s) (value_desc t)) → by_check c (HoldsOfSides f) (value_side s) (value_side t)
+kinds_by : (c : SubtypeCheck) (f : Fault) (s t : ValueTree) → AreOtherKinds s t → IsKindFault f (expected_of c (value_desc s) (value_desc t)) (found_of c (value_desc s) (value_desc t)) → by_check c (HoldsOfSides f) (value_side s) (value_side t)
 kinds_by Covariant f s t ne h = kinds_hold f t s (λ e. ne (sym e)) h
 kinds_by Contravariant f s t ne h = kinds_hold f s t ne h
 
 -- value types of different cases
 pub kinds_differ : (a b : Bor (List ℕ)) (s t : ValueTree) → a.now ≡ value_desc s → b.now ≡ value_desc t → AreOtherKinds s t → DifferIn (difference.Kinds a b) (value_side s) (value_side t)
-kinds_differ a b s t l r ne c f is = inl (kinds_by c f s t ne (subst₂ (λ (x y : Text). IsKind f (expected_of c x y) (found_of c x y)) l r is))
+kinds_differ a b s t l r ne c f is = inl (kinds_by c f s t ne (subst₂ (λ (x y : Text). IsKindFault f (expected_of c x y) (found_of c x y)) l r is))
 
 -- leaves of one case that aren't handles of one sort
-leaves_hold : (f : Fault) (s t : ValueTree) → ((n m : Text) (ts us : ValueTrees) → s ≡ node (borrow n) ts → t ≡ node (borrow m) us → ⊥) → ((n m : Text) (ts us : ValueTrees) → s ≡ node (own n) ts → t ≡ node (own m) us → ⊥) → AreOtherLeaves s t → IsKind f (value_desc s) (value_desc t) → HoldsOfValues f s t
+leaves_hold : (f : Fault) (s t : ValueTree) → ((n m : Text) (ts us : ValueTrees) → s ≡ node (borrow n) ts → t ≡ node (borrow m) us → ⊥) → ((n m : Text) (ts us : ValueTrees) → s ≡ node (own n) ts → t ≡ node (own m) us → ⊥) → AreOtherLeaves s t → IsKindFault f (value_desc s) (value_desc t) → HoldsOfValues f s t
 leaves_hold f (node (primitive p) ts) (node (primitive q) us) nb nw ne h = (ne, h)
 leaves_hold f (node (borrow r) ts) (node (borrow s) us) nb nw ne h = absurd (nb r s ts us refl refl)
 leaves_hold f (node (own r) ts) (node (own s) us) nb nw ne h = absurd (nw r s ts us refl refl)
@@ -138,13 +138,13 @@ other_leaves_sym (node (own r) ts) (node (own s) us) ne = λ e. ne (sym e)
 other_leaves_sym _ _ ne = elim ne [ ]
 
 module _ (s t : ValueTree) (nb : (n m : Text) (ts us : ValueTrees) → s ≡ node (borrow n) ts → t ≡ node (borrow m) us → ⊥) (nw : (n m : Text) (ts us : ValueTrees) → s ≡ node (own n) ts → t ≡ node (own m) us → ⊥) where
-  leaves_by : (c : SubtypeCheck) (f : Fault) → AreOtherLeaves s t → IsKind f (expected_of c (value_desc s) (value_desc t)) (found_of c (value_desc s) (value_desc t)) → by_check c (HoldsOfSides f) (value_side s) (value_side t)
+  leaves_by : (c : SubtypeCheck) (f : Fault) → AreOtherLeaves s t → IsKindFault f (expected_of c (value_desc s) (value_desc t)) (found_of c (value_desc s) (value_desc t)) → by_check c (HoldsOfSides f) (value_side s) (value_side t)
   leaves_by Covariant f ne h = leaves_hold f t s (λ n m ts us x y. nb m n us ts y x) (λ n m ts us x y. nw m n us ts y x) (other_leaves_sym s t ne) h
   leaves_by Contravariant f ne h = leaves_hold f s t nb nw ne h
 
   pub leaves_differ : (a b : Bor (List ℕ)) → a.now ≡ value_desc s → b.now ≡ value_desc t → AreLeavesApart s t → DifferIn (difference.Kinds a b) (value_side s) (value_side t)
   leaves_differ a b l r apart c f is =
-      let here = subst₂ (λ (x y : Text). IsKind f (expected_of c x y) (found_of c x y)) l r is in
+      let here = subst₂ (λ (x y : Text). IsKindFault f (expected_of c x y) (found_of c x y)) l r is in
       elim apart [ inl ne ↦ inl (kinds_by c f s t ne here) | inr ne ↦ inl (leaves_by c f ne here) ]
 
 -- and differ

@@ -14,7 +14,7 @@ use Rattle.wac_component.specs.Key.{interface_key, world_key, item_keys, named_k
 use Rattle.wac_component.specs.Tree.{externs, item_tree, items_of, root_name, value_tree}
 use Rattle.wac_component.specs.declared.items.ItemKind.{ItemKind}
 use Rattle.wac_component.specs.declared.items.ValueType.{ValueType}
-use Rattle.wac_mismatch.specs.Holds.{HoldsOfItems, HoldsOfSides, IsKind}
+use Rattle.wac_mismatch.specs.Holds.{HoldsOfItems, HoldsOfSides, IsKindFault}
 use Rattle.wac_mismatch.specs.Place.{item_side, value_side, by_check, expected_of, found_of, turned}
 use Rattle.wac_mismatch.specs.declared.check.SubtypeCheck.{SubtypeCheck}
 use Rattle.wac_mismatch.specs.declared.check.SubtypeCheck.TheVariants.{Covariant, Contravariant}
@@ -23,13 +23,13 @@ use Rattle.wac_mismatch.proofs.PathLemmas.{values_hold}
 use Rattle.wac_checker.specs.Items.{AreOtherItems}
 use Rattle.wac_checker.specs.Paired.{AreValues, AreResources}
 use Rattle.wac_checker.specs.Pairs.{AreNamed, AreOfItems, Below, End, HasPart, Interfaces, IsBelow, IsExternPart, IsFrameOf, IsFitting, IsPlace, PartFits, Same, Worlds, entries_of, flag_of, left_of, right_of}
-use Rattle.wac_checker.specs.Listing.{AllFitBy, AreExternsOf, AreItemsNamed, AreNamedUnless, ArePartsOf, AreServedTo, AreTreesApart, AreValuesNamed, DifferIn, DifferInExports, DifferInImports, Externs, IsExportsTurn, IsExternOf, IsImportsTurn, IsPartOf, IsTold, IsTurn}
+use Rattle.wac_checker.specs.Listing.{AllFitBy, AreExternsOf, AreItemsNamed, AreNamedUnless, ArePartsOf, AreServedTo, AreTreesApart, AreValuesNamed, DifferIn, DifferInExports, DifferInImports, KindsByName, IsExportsTurn, IsExternOf, IsImportsTurn, IsPartOf, IsTold, IsTurn}
 use Rattle.wac_checker.specs.declared.parts.Difference.{Difference}
 use Rattle.wac_checker.specs.declared.parts.Difference.TheVariants as difference
 use Rattle.wac_checker.specs.declared.parts.EntryPair.{EntryPair}
 use Rattle.wac_checker.specs.declared.parts.Named.{Named}
 use Rattle.wac_checker.specs.declared.parts.Named.TheVariants as named
-use Rattle.wac_checker.specs.declared.parts.Part.{Part}
+use Rattle.wac_checker.specs.declared.parts.PairPart.{PairPart}
 use Rattle.wac_checker.specs.declared.parts.Turn.{Turn}
 use Rattle.wac_checker.specs.declared.parts.Turn.TheVariants as turn
 use Rattle.wac_checker.proofs.CountLemmas.{last_or_before}
@@ -59,7 +59,7 @@ others_apart (leaf item (resource a)) (leaf item (resource b)) ne = absurd (ne r
 others_apart (leaf type_item (resource a)) (leaf type_item (resource b)) ne = absurd (ne refl)
 others_apart _ _ ne = tt
 
-module _ (l r : Collection) (w : Bool) (i : ℕ) (x y : ItemKind) (ms ns : List Part) where
+module _ (l r : Collection) (w : Bool) (i : ℕ) (x y : ItemKind) (ms ns : List PairPart) where
   pub items_put : (p : EntryPair) (same : Bool) (k : Named) → p.swapped ≡ w → AreOfItems l r x y (entries_of l r p) → (same ≡ true → Fits (item_tree l x) (item_tree r y)) → AreNamedUnless same i p ms ns k → AreItemsNamed l r w i x y ms ns k
   items_put p same named.Fits e of fits h = elim h [ inl one ↦ inl (one.1, fits one.0) | inr put ↦ inr (p, e, of, put) ]
   items_put p same named.Differs e of fits h = elim h [ ]
@@ -101,7 +101,7 @@ module _ (l r : Collection) (w : Bool) (i : ℕ) (x y : ItemKind) (ms ns : List 
 
 -- ---- differences of items
 
-items_hold : (f : Fault) (s t : ItemTree) → AreOtherItems s t → IsKind f (item_desc s) (item_desc t) → HoldsOfItems f s t
+items_hold : (f : Fault) (s t : ItemTree) → AreOtherItems s t → IsKindFault f (item_desc s) (item_desc t) → HoldsOfItems f s t
 items_hold f (leaf item (resource a)) (leaf item (resource b)) ne h = absurd (ne refl)
 items_hold f (leaf item (func a)) (leaf item (func b)) ne h = absurd (ne refl)
 items_hold f (leaf item (value a)) (leaf item (value b)) ne h = absurd (ne refl)
@@ -116,12 +116,12 @@ items_hold f (composite type_item interface i e) (composite type_item interface 
 items_hold f (composite type_item world i e) (composite type_item world j g) ne h = absurd (ne refl)
 items_hold f s t ne h = h
 
-items_by : (c : SubtypeCheck) (f : Fault) (s t : ItemTree) → AreOtherItems s t → IsKind f (expected_of c (item_desc s) (item_desc t)) (found_of c (item_desc s) (item_desc t)) → by_check c (HoldsOfSides f) (item_side s) (item_side t)
+items_by : (c : SubtypeCheck) (f : Fault) (s t : ItemTree) → AreOtherItems s t → IsKindFault f (expected_of c (item_desc s) (item_desc t)) (found_of c (item_desc s) (item_desc t)) → by_check c (HoldsOfSides f) (item_side s) (item_side t)
 items_by Covariant f s t ne h = items_hold f t s (λ e. ne (sym e)) h
 items_by Contravariant f s t ne h = items_hold f s t ne h
 
 pub others_differ : (a b : Bor (List ℕ)) (s t : ItemTree) → a.now ≡ item_desc s → b.now ≡ item_desc t → AreOtherItems s t → DifferIn (difference.Kinds a b) (item_side s) (item_side t)
-others_differ a b s t l r ne c f is = inl (items_by c f s t ne (subst₂ (λ (x y : Text). IsKind f (expected_of c x y) (found_of c x y)) l r is))
+others_differ a b s t l r ne c f is = inl (items_by c f s t ne (subst₂ (λ (x y : Text). IsKindFault f (expected_of c x y) (found_of c x y)) l r is))
 
 value_items_by : (c : SubtypeCheck) (f : Fault) (k : Kind) (s t : ValueTree) → by_check c (HoldsOfSides f) (value_side s) (value_side t) → by_check c (HoldsOfSides f) (item_side (leaf k (value s))) (item_side (leaf k (value t)))
 value_items_by Covariant f item s t h = h
@@ -142,17 +142,17 @@ root_trees type_item n m h = h
 
 -- ---- exports and imports
 
-pub no_externs : (l r : Collection) (w : Bool) (first : ℕ) (es ts : Externs) (ms : List Part) → AreExternsOf l r w first es ts ms ms × AreServedTo l r w es ts 0 ms
+pub no_externs : (l r : Collection) (w : Bool) (first : ℕ) (es ts : KindsByName) (ms : List PairPart) → AreExternsOf l r w first es ts ms ms × AreServedTo l r w es ts 0 ms
 no_externs l r w first es ts ms = (((λ q m. m), (λ q m. inl m)), λ all j b. absurd (omega (arith, b)))
 
 -- one more is named
-pub next_extern : (l r : Collection) (w : Bool) (first : ℕ) (es ts : Externs) (j i : ℕ) (n : Text) (x y : ItemKind) (ms ns os : List Part) → i ≡ first + j → IsPlace ts j → AreNamed es ts j n x y → AreItemsNamed l r w i x y ns os named.Fits → AreExternsOf l r w first es ts ms ns × AreServedTo l r w es ts j ns → AreExternsOf l r w first es ts ms os × AreServedTo l r w es ts (j + 1) os
+pub next_extern : (l r : Collection) (w : Bool) (first : ℕ) (es ts : KindsByName) (j i : ℕ) (n : Text) (x y : ItemKind) (ms ns os : List PairPart) → i ≡ first + j → IsPlace ts j → AreNamed es ts j n x y → AreItemsNamed l r w i x y ns os named.Fits → AreExternsOf l r w first es ts ms ns × AreServedTo l r w es ts j ns → AreExternsOf l r w first es ts ms os × AreServedTo l r w es ts (j + 1) os
 next_extern l r w first es ts j i n x y ms ns os e place' are named' h = elim named' [
   | inl one ↦ rw one.0 (h.0, λ all k b. elim (last_or_before k j (omega (arith, b))) [ inl last ↦ subst (λ (m : ℕ). IsExternPart Covariant l r es ts m Same) (sym last) (place', (n, x, y, are, one.1)) | inr before ↦ h.1 all k before ])
   | inr put ↦ (
     (
       (λ q m. put_keeps i put.0 ns os put.3 q (h.0.0 q m)),
-      (λ q m. elim (put_cases i put.0 ns os put.3 q m) [ inl old ↦ h.0.1 q old | inr same ↦ inr (subst (λ (z : Part). IsExternOf l r w first es ts z) same (j, e, put.1, (place', refl, (n, x, y, are, put.2)))) ]),
+      (λ q m. elim (put_cases i put.0 ns os put.3 q m) [ inl old ↦ h.0.1 q old | inr same ↦ inr (subst (λ (z : PairPart). IsExternOf l r w first es ts z) same (j, e, put.1, (place', refl, (n, x, y, are, put.2)))) ]),
     ),
     λ all k b.
         let there' = put_named i put.0 ns os put.3 in
@@ -164,11 +164,11 @@ next_extern l r w first es ts j i n x y ms ns os e place' are named' h = elim na
   )
 ]
 
-pub exports_lack : (l r : Collection) (h : Bor (List ℕ)) (es ts : Externs) (n : Bor (String Global)) (k : Bor (List ℕ)) (v : ItemKind) → lookup bytes_eq es (string_bytes n.now) ≡ None → lookup bytes_eq ts (string_bytes n.now) ≡ Some v → k.now ≡ item_desc (item_tree r v) → DifferInExports (difference.MissingExport h k n) h.now (items_of (item_tree l) es) (items_of (item_tree r) ts)
+pub exports_lack : (l r : Collection) (h : Bor (List ℕ)) (es ts : KindsByName) (n : Bor (String Global)) (k : Bor (List ℕ)) (v : ItemKind) → lookup bytes_eq es (string_bytes n.now) ≡ None → lookup bytes_eq ts (string_bytes n.now) ≡ Some v → k.now ≡ item_desc (item_tree r v) → DifferInExports (difference.MissingExport h k n) h.now (items_of (item_tree l) es) (items_of (item_tree r) ts)
 exports_lack l r h es ts n k v lacking wanted desc kind s is is' holder c f fault =
     export_missing c kind s is is' (items_of (item_tree l) es) (items_of (item_tree r) ts) h.now (string_bytes n.now) (item_tree r v) holder (tree_lacking l es (string_bytes n.now) lacking) (tree_named r ts (string_bytes n.now) v wanted) f (rw desc at fault)
 
-pub imports_lack : (l r : Collection) (is js : Externs) (n : Bor (String Global)) (k : Bor (List ℕ)) (v : ItemKind) → lookup bytes_eq is (string_bytes n.now) ≡ Some v → lookup bytes_eq js (string_bytes n.now) ≡ None → k.now ≡ item_desc (item_tree l v) → DifferInImports (difference.MissingImport k n) (items_of (item_tree l) is) (items_of (item_tree r) js)
+pub imports_lack : (l r : Collection) (is js : KindsByName) (n : Bor (String Global)) (k : Bor (List ℕ)) (v : ItemKind) → lookup bytes_eq is (string_bytes n.now) ≡ Some v → lookup bytes_eq js (string_bytes n.now) ≡ None → k.now ≡ item_desc (item_tree l v) → DifferInImports (difference.MissingImport k n) (items_of (item_tree l) is) (items_of (item_tree r) js)
 imports_lack l r is js n k v wanted lacking desc kind es es' c f fault =
     import_missing c kind (items_of (item_tree l) is) (items_of (item_tree r) js) es es' (string_bytes n.now) (item_tree l v) (tree_lacking r js (string_bytes n.now) lacking) (tree_named l is (string_bytes n.now) v wanted) f (rw desc at fault)
 
@@ -182,7 +182,7 @@ flag_turned false = refl
 
 -- ---- interfaces
 
-module _ (l r : Collection) (w : Bool) (a b : Id) (es ts : Externs) (ms : List Part)
+module _ (l r : Collection) (w : Bool) (a b : Id) (es ts : KindsByName) (ms : List PairPart)
     (left : (externs l (interface_key a)).exports ≡ items_of (item_tree l) es) (right : (externs r (interface_key b)).exports ≡ items_of (item_tree r) ts)
     (left_lower : keys_height l (named_keys item_keys es) < height l (interface_key a)) (right_lower : keys_height r (named_keys item_keys ts) < height r (interface_key b)) where
   interface_parts : AreExternsOf l r w 0 es ts [] ms → ArePartsOf l r w (Interfaces a b) ms
@@ -210,7 +210,7 @@ module _ (l r : Collection) (w : Bool) (a b : Id) (es ts : Externs) (ms : List P
 
 -- ---- worlds
 
-turned_fit : (l r : Collection) (w : Bool) (ms : List Part) → AllFitBy l r w ms → AllFitBy r l (not w) ms
+turned_fit : (l r : Collection) (w : Bool) (ms : List PairPart) → AllFitBy l r w ms → AllFitBy r l (not w) ms
 turned_fit l r true ms h = h
 turned_fit l r false ms h = h
 
@@ -219,30 +219,30 @@ first_or_past i zero = inr (omega arith)
 first_or_past zero (suc n) = inl (omega arith)
 first_or_past (suc i) (suc n) = elim (first_or_past i n) [ inl l ↦ inl (omega (arith, l)) | inr g ↦ inr (omega (arith, g)) ]
 
-module _ (l r : Collection) (w : Bool) (a b : Id) (is js es ts : Externs)
+module _ (l r : Collection) (w : Bool) (a b : Id) (is js es ts : KindsByName)
     (left_imports : (externs l (world_key a)).imports ≡ items_of (item_tree l) is) (right_imports : (externs r (world_key b)).imports ≡ items_of (item_tree r) js)
     (left_exports : (externs l (world_key a)).exports ≡ items_of (item_tree l) es) (right_exports : (externs r (world_key b)).exports ≡ items_of (item_tree r) ts)
     (left_imports_lower : keys_height l (named_keys item_keys is) < height l (world_key a)) (right_imports_lower : keys_height r (named_keys item_keys js) < height r (world_key b))
     (left_exports_lower : keys_height l (named_keys item_keys es) < height l (world_key a)) (right_exports_lower : keys_height r (named_keys item_keys ts) < height r (world_key b))
     (few : length is < 2 ^ 63) where
-  import_part : (q : Part) → IsExternOf r l (not w) 0 js is q → IsPartOf l r w (Worlds a b) q
+  import_part : (q : PairPart) → IsExternOf r l (not w) 0 js is q → IsPartOf l r w (Worlds a b) q
   import_part q of =
       let at : q.index ≡ of.0 = omega (arith, of.1) in
       let found = import_found Contravariant l r a b is js es ts left_imports right_imports left_exports right_exports left_imports_lower right_imports_lower left_exports_lower right_exports_lower of.0 of.3.0.0 (Below (record { entries = entries_of r l q.pair; swapped = false })) (Below (record { entries = entries_of r l q.pair; swapped = true })) (refl, refl) of.3 in
       let here = subst (λ (n : ℕ). HasPart l r (Worlds a b) n × IsBelow l r (Worlds a b) n (record { entries = entries_of r l q.pair; swapped = true })) (sym at) (found.0, found.1) in
       (true, of.2 ∙ flag_turned w, here.0, here.1)
 
-  export_part : (q : Part) → IsExternOf l r w (length is) es ts q → IsPartOf l r w (Worlds a b) q
+  export_part : (q : PairPart) → IsExternOf l r w (length is) es ts q → IsPartOf l r w (Worlds a b) q
   export_part q of =
       let at : q.index - length is ≡ of.0 = omega (arith, of.1) in
       let found = export_found Covariant l r a b is js es ts left_imports right_imports left_exports right_exports left_imports_lower right_imports_lower left_exports_lower right_exports_lower q.index (omega (arith, of.1)) few (Below (record { entries = entries_of l r q.pair; swapped = false })) (subst (λ (n : ℕ). IsExternPart Covariant l r es ts n (Below (record { entries = entries_of l r q.pair; swapped = false }))) (sym at) of.3) in
       (false, of.2 ∙ flag_same w, found.0, found.1)
 
-  imports_parts : (ms : List Part) → AreExternsOf r l (not w) 0 js is [] ms → ArePartsOf l r w (Worlds a b) ms
+  imports_parts : (ms : List PairPart) → AreExternsOf r l (not w) 0 js is [] ms → ArePartsOf l r w (Worlds a b) ms
   imports_parts ms h q m = elim (h.1 q m) [ inl none ↦ absurd (omega (arith, none.1)) | inr of ↦ import_part q of ]
 
   -- the imports differ
-  pub world_imports : (ms : List Part) (k : Turn) → (k ≡ turn.End → ⊥) → IsImportsTurn l r w is js ms k → IsTurn l r w (Worlds a b) ms k
+  pub world_imports : (ms : List PairPart) (k : Turn) → (k ≡ turn.End → ⊥) → IsImportsTurn l r w is js ms k → IsTurn l r w (Worlds a b) ms k
   world_imports ms turn.End other h = absurd (other refl)
   world_imports ms (turn.Apart x) other h = (
     imports_parts ms h.0,
@@ -258,7 +258,7 @@ module _ (l r : Collection) (w : Bool) (a b : Id) (is js es ts : Externs)
       )
   world_imports ms turn.Memory other h = tt
 
-  module _ (ms ns : List Part) (before : IsImportsTurn l r w is js ms turn.End) where
+  module _ (ms ns : List PairPart) (before : IsImportsTurn l r w is js ms turn.End) where
     world_parts : AreExternsOf l r w (length is) es ts ms ns → ArePartsOf l r w (Worlds a b) ns
     world_parts h q m = elim (h.1 q m) [ inl old ↦ imports_parts ms before.0 q old | inr of ↦ export_part q of ]
 

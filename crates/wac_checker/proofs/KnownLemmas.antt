@@ -5,7 +5,7 @@ use Rattle.std.proofs.Common.{◌≡◌, ◌≢◌, ◌||◌, inl, inr, ℕ, zer
 use Rattle.std.proofs.lemmas.List.Elements.{Contains-append_cases, Contains-push_cases}
 use Rattle.wac_component.proofs.Among.{Contains-first, Contains-later, Contains-cases}
 use Rattle.wac_component.specs.Collection.{Collection}
-use Rattle.wac_checker.specs.Pairs.{AreDistinct, ArePairsOf, IsStanding}
+use Rattle.wac_checker.specs.Pairs.{ArePairsDistinct, ArePairsOf, IsStanding}
 use Rattle.wac_checker.specs.declared.parts.EntryPair.{EntryPair}
 use Rattle.wac_checker.specs.contracts.parts.EntryPairPartialEq.TheImpl.{ghosts}
 
@@ -29,7 +29,7 @@ pair_found q [] m = absurd (omega (arith, m.1))
 pair_found q (p ∷ ps) (zero, l, e) = rw (e, pair_equal q) refl
 pair_found q (p ∷ ps) (suc i, l, e) = rw (pair_found q ps (i, omega (arith, l), e)) (or_true (ghosts.eq q p))
 
-distinct_push : (ps : List EntryPair) (q : EntryPair) → AreDistinct ps → (Contains ps q → ⊥) → AreDistinct (ps ++ q ∷ [])
+distinct_push : (ps : List EntryPair) (q : EntryPair) → ArePairsDistinct ps → (Contains ps q → ⊥) → ArePairsDistinct (ps ++ q ∷ [])
 distinct_push [] q h none = (none, tt)
 distinct_push (p ∷ ps) q h none = (
   (λ m. elim (Contains-append_cases ps (q ∷ []) p m) [ inl before ↦ h.0 before | inr last ↦ elim (Contains-cases p q [] last) [ inl e ↦ none (subst (λ (r : EntryPair). Contains (p ∷ ps) r) (sym e) (Contains-first p ps)) | inr none_there ↦ absurd (omega (arith, none_there.1)) ] ]),

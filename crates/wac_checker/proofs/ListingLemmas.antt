@@ -30,9 +30,9 @@ use Rattle.wac_checker.specs.declared.parts.Difference.{Difference}
 use Rattle.wac_checker.specs.declared.parts.EntryPair.{EntryPair}
 use Rattle.wac_checker.specs.declared.parts.Named.{Named}
 use Rattle.wac_checker.specs.declared.parts.Named.TheVariants as named
-use Rattle.wac_checker.specs.declared.parts.Part.{Part}
-use Rattle.wac_checker.specs.declared.parts.Sort.{Sort as PairSort}
-use Rattle.wac_checker.specs.declared.parts.Sort.TheVariants as sort
+use Rattle.wac_checker.specs.declared.parts.PairPart.{PairPart}
+use Rattle.wac_checker.specs.declared.parts.PairSort.{PairSort}
+use Rattle.wac_checker.specs.declared.parts.PairSort.TheVariants as sort
 use Rattle.wac_checker.specs.declared.parts.Turn.{Turn}
 use Rattle.wac_checker.specs.declared.parts.Turn.TheVariants as turn
 use Rattle.wac_checker.proofs.CountLemmas.{last_or_before}
@@ -61,24 +61,24 @@ flag_same false = refl
 
 -- ---- a pair that is put on the list
 
-pub put_keeps : (i : ℕ) (p : EntryPair) (ms ns : List Part) → IsPut i p ms ns → (q : Part) → Contains ms q → Contains ns q
-put_keeps i p ms ns (inl h) q m = subst (λ (xs : List Part). Contains xs q) (sym h.0) m
-put_keeps i p ms ns (inr h) q m = subst (λ (xs : List Part). Contains xs q) (sym h) (Contains-append_left ms ((record { pair = p; index = i }) ∷ []) q m)
+pub put_keeps : (i : ℕ) (p : EntryPair) (ms ns : List PairPart) → IsPut i p ms ns → (q : PairPart) → Contains ms q → Contains ns q
+put_keeps i p ms ns (inl h) q m = subst (λ (xs : List PairPart). Contains xs q) (sym h.0) m
+put_keeps i p ms ns (inr h) q m = subst (λ (xs : List PairPart). Contains xs q) (sym h) (Contains-append_left ms ((record { pair = p; index = i }) ∷ []) q m)
 
-pub put_named : (i : ℕ) (p : EntryPair) (ms ns : List Part) → IsPut i p ms ns → IsNamed ns p
-put_named i p ms ns (inl h) = subst (λ (xs : List Part). IsNamed xs p) (sym h.0) h.1
-put_named i p ms ns (inr h) = subst (λ (xs : List Part). IsNamed xs p) (sym h) (record { pair = p; index = i }, Contains-push ms (record { pair = p; index = i }), refl)
+pub put_named : (i : ℕ) (p : EntryPair) (ms ns : List PairPart) → IsPut i p ms ns → IsNamed ns p
+put_named i p ms ns (inl h) = subst (λ (xs : List PairPart). IsNamed xs p) (sym h.0) h.1
+put_named i p ms ns (inr h) = subst (λ (xs : List PairPart). IsNamed xs p) (sym h) (record { pair = p; index = i }, Contains-push ms (record { pair = p; index = i }), refl)
 
-pub put_cases : (i : ℕ) (p : EntryPair) (ms ns : List Part) → IsPut i p ms ns → (q : Part) → Contains ns q → Contains ms q ⊎ (record { pair = p; index = i } ≡ q)
-put_cases i p ms ns (inl h) q m = inl (subst (λ (xs : List Part). Contains xs q) h.0 m)
-put_cases i p ms ns (inr h) q m = Contains-push_cases ms (record { pair = p; index = i }) q (subst (λ (xs : List Part). Contains xs q) h m)
+pub put_cases : (i : ℕ) (p : EntryPair) (ms ns : List PairPart) → IsPut i p ms ns → (q : PairPart) → Contains ns q → Contains ms q ⊎ (record { pair = p; index = i } ≡ q)
+put_cases i p ms ns (inl h) q m = inl (subst (λ (xs : List PairPart). Contains xs q) h.0 m)
+put_cases i p ms ns (inr h) q m = Contains-push_cases ms (record { pair = p; index = i }) q (subst (λ (xs : List PairPart). Contains xs q) h m)
 
 -- a defined type that is no alias
 pub resolved_here : (c : Collection) (d : Id) (e : DefinedContent) → slice_get c.defined d.index ≡ Some e → value_tree c (Defined d) ≡ content_tree (value_tree c) e → ((of : ValueType) → e ≢ alias_of of) → IsCompound (content_tree (value_tree c) e) → IsResolved c (Defined d)
 resolved_here c d e entry tree none compound = ((λ of is. (let both : Some e ≡ Some (alias_of of) = sym entry ∙ is in let one : e ≡ alias_of of = cc in none of one)), rw tree compound)
 
 -- two defined types are one, or they are named
-pub values_put : (l r : Collection) (w : Bool) (i : ℕ) (a b : ValueType) (x y : Id) (t : Bool) (p : EntryPair) (ms ns : List Part) (k : Named) → (l.number ≡ r.number → l ≡ r) → Stands l (defined_key x) → Stands r (defined_key y) → IsResolved l (Defined x) → IsResolved r (Defined y) → value_tree l (Defined x) ≡ value_tree l a → value_tree r (Defined y) ≡ value_tree r b → height l (defined_key x) ≤ keys_height l (value_keys a) → height r (defined_key y) ≤ keys_height r (value_keys b)
+pub values_put : (l r : Collection) (w : Bool) (i : ℕ) (a b : ValueType) (x y : Id) (t : Bool) (p : EntryPair) (ms ns : List PairPart) (k : Named) → (l.number ≡ r.number → l ≡ r) → Stands l (defined_key x) → Stands r (defined_key y) → IsResolved l (Defined x) → IsResolved r (Defined y) → value_tree l (Defined x) ≡ value_tree l a → value_tree r (Defined y) ≡ value_tree r b → height l (defined_key x) ≤ keys_height l (value_keys a) → height r (defined_key y) ≤ keys_height r (value_keys b)
     → t ≡ (x.number == y.number && x.index == y.index) → p ≡ record { left = x.index; right = y.index; sort = sort.Defined; swapped = w } → AreNamedUnless t i p ms ns k → AreValuesNamed l r w i a b ms ns k
 values_put l r w i a b x y t p ms ns named.Fits one h k resx resy left right left_lower right_lower test is named' = elim named' [
   | inl same ↦ inl (
@@ -96,25 +96,25 @@ values_put l r w i a b x y t p ms ns named.Memory one h k resx resy left right l
 
 -- ---- members of two sides
 
-pub none_listed : (l r : Collection) (w : Bool) (s t : Side) (m n : ℕ) (ms : List Part) → ms ≡ [] → AreMembersOf l r w s t m n ms
-none_listed l r w s t m n ms e q c = let none = subst (λ (xs : List Part). Contains xs q) e c in absurd (omega (arith, none.1))
+pub none_listed : (l r : Collection) (w : Bool) (s t : Side) (m n : ℕ) (ms : List PairPart) → ms ≡ [] → AreMembersOf l r w s t m n ms
+none_listed l r w s t m n ms e q c = let none = subst (λ (xs : List PairPart). Contains xs q) e c in absurd (omega (arith, none.1))
 
 -- nothing is listed yet
-pub turn_from : (l r : Collection) (w : Bool) (s t : Side) (m n : ℕ) (ms : List Part) → ms ≡ [] → IsTurnTo l r w s t m n 0 ms turn.End
+pub turn_from : (l r : Collection) (w : Bool) (s t : Side) (m n : ℕ) (ms : List PairPart) → ms ≡ [] → IsTurnTo l r w s t m n 0 ms turn.End
 turn_from l r w s t m n ms e = (none_listed l r w s t m n ms e, λ all j b. absurd (omega (arith, b)))
 
 -- all is listed
-pub turn_done : (l r : Collection) (w : Bool) (s t : Side) (m n i : ℕ) (ms : List Part) (k : Turn) → IsTurnTo l r w s t m n i ms k → (SameBefore s t i → s ≡ t) → IsSideTurn l r w s t m n ms k
+pub turn_done : (l r : Collection) (w : Bool) (s t : Side) (m n i : ℕ) (ms : List PairPart) (k : Turn) → IsTurnTo l r w s t m n i ms k → (SameBefore s t i → s ≡ t) → IsSideTurn l r w s t m n ms k
 turn_done l r w s t m n i ms turn.End h done = (h.0, λ all. done (h.1 all))
 turn_done l r w s t m n i ms (turn.Apart x) h done = h
 turn_done l r w s t m n i ms (turn.PartApart j b x) h done = h
 turn_done l r w s t m n i ms turn.Memory h done = tt
 
 -- a part that is the same needs no pair
-pub turn_same : (l r : Collection) (w : Bool) (s t : Side) (m n i : ℕ) (ms : List Part) → SamePart s t i → IsTurnTo l r w s t m n i ms turn.End → IsTurnTo l r w s t m n (i + 1) ms turn.End
+pub turn_same : (l r : Collection) (w : Bool) (s t : Side) (m n i : ℕ) (ms : List PairPart) → SamePart s t i → IsTurnTo l r w s t m n i ms turn.End → IsTurnTo l r w s t m n (i + 1) ms turn.End
 turn_same l r w s t m n i ms here h = (h.0, λ all j b. elim (last_or_before j i (omega (arith, b))) [ inl e ↦ subst (λ (k : ℕ). SamePart s t k) (sym e) here | inr before ↦ h.1 all j before ])
 
-module _ (l r : Collection) (w : Bool) (s t : Side) (m n i : ℕ) (v x : ValueType) (ms ns : List Part)
+module _ (l r : Collection) (w : Bool) (s t : Side) (m n i : ℕ) (v x : ValueType) (ms ns : List PairPart)
     (room : i + 1 < 2 ^ 64) (at : AreAt s t i (value_tree l v) (value_tree r x)) (left_below : keys_height l (value_keys v) < m) (right_below : keys_height r (value_keys x) < n) where
   member_here : (p : EntryPair) → p.swapped ≡ w → AreOf l r v x (entries_of l r p) → IsMemberOf l r w s t m n (record { pair = p; index = i })
   member_here p e of = let found = part_of_values Covariant l r s t m n i v x room at left_below right_below (Below (record { entries = entries_of l r p; swapped = false })) (refl, of) in (found.0, e, found.2)
@@ -134,7 +134,7 @@ module _ (l r : Collection) (w : Bool) (s t : Side) (m n i : ℕ) (v x : ValueTy
   turn_next named' h = elim named' [
     | inl same ↦ rw same.0 (turn_same l r w s t m n i ms (same_part same.1) h)
     | inr put ↦ (
-      (λ q c. elim (put_cases i put.0 ms ns put.3 q c) [ inl old ↦ h.0 q old | inr e ↦ subst (λ (y : Part). IsMemberOf l r w s t m n y) e (member_here put.0 put.1 put.2) ]),
+      (λ q c. elim (put_cases i put.0 ms ns put.3 q c) [ inl old ↦ h.0 q old | inr e ↦ subst (λ (y : PairPart). IsMemberOf l r w s t m n y) e (member_here put.0 put.1 put.2) ]),
       (λ all.
           let there = put_named i put.0 ms ns put.3 in
           let fits = fit_here l r w put.0 put.1 (subst (λ (p : EntryPair). IsFitting (left_of l r w) (right_of l r w) p) there.2 (all there.0 there.1)) in
@@ -165,7 +165,7 @@ module _ (l r : Collection) (w : Bool) (s t : Side) (m n i : ℕ) (v x : ValueTy
 
 -- ---- of two defined types
 
-module _ (l r : Collection) (w : Bool) (a b : Id) (e f : DefinedContent) (ms : List Part)
+module _ (l r : Collection) (w : Bool) (a b : Id) (e f : DefinedContent) (ms : List PairPart)
     (left_tree : value_tree l (Defined a) ≡ content_tree (value_tree l) e) (right_tree : value_tree r (Defined b) ≡ content_tree (value_tree r) f)
     (left_lower : keys_height l (defined_keys e) < height l (defined_key a)) (right_lower : keys_height r (defined_keys f) < height r (defined_key b)) where
   defined_parts : AreMembersOf l r w (value_side (content_tree (value_tree l) e)) (value_side (content_tree (value_tree r) f)) (keys_height l (defined_keys e) + 1) (keys_height r (defined_keys f) + 1) ms → ArePartsOf l r w (DefinedTypes a b) ms
@@ -188,7 +188,7 @@ module _ (l r : Collection) (w : Bool) (a b : Id) (e f : DefinedContent) (ms : L
 
 -- ---- of two functions
 
-module _ (l r : Collection) (w : Bool) (a b : Id) (e f : FuncContent) (ms : List Part)
+module _ (l r : Collection) (w : Bool) (a b : Id) (e f : FuncContent) (ms : List PairPart)
     (left_tree : func_tree l a ≡ func_content_tree l e) (right_tree : func_tree r b ≡ func_content_tree r f)
     (left_lower : keys_height l (func_keys e) < height l (func_key a)) (right_lower : keys_height r (func_keys f) < height r (func_key b)) where
   func_parts : ((k : Kind) → AreMembersOf l r w (func_side k l e) (func_side k r f) (keys_height l (func_keys e) + 1) (keys_height r (func_keys f) + 1) ms) → ArePartsOf l r w (Funcs a b) ms
@@ -215,7 +215,7 @@ module _ (l r : Collection) (w : Bool) (a b : Id) (e f : FuncContent) (ms : List
 
 -- ---- of value types with one part
 
-module _ (l r : Collection) (w : Bool) (a b : ValueLabel) (v x : ValueType) (ms ns : List Part) (none : ms ≡ [])
+module _ (l r : Collection) (w : Bool) (a b : ValueLabel) (v x : ValueType) (ms ns : List PairPart) (none : ms ≡ [])
     (at : AreAt (composed_side l a (v ∷ [])) (composed_side r b (x ∷ [])) 0 (value_tree l v) (value_tree r x)) (done : SameBefore (composed_side l a (v ∷ [])) (composed_side r b (x ∷ [])) 1 → composed_side l a (v ∷ []) ≡ composed_side r b (x ∷ [])) where
   single_turn : (k : Turn) → IsLastTurn l r w 0 v x ms ns k → AreComposed l r w a (v ∷ []) b (x ∷ []) ns k
   single_turn k last =
@@ -225,7 +225,7 @@ module _ (l r : Collection) (w : Bool) (a b : ValueLabel) (v x : ValueType) (ms 
       (turn_last l r w (composed_side l a (v ∷ [])) (composed_side r b (x ∷ [])) (members_height l (v ∷ [])) (members_height r (x ∷ [])) 0 v x ms ns (omega arith) at (omega (arith, left)) (omega (arith, right)) k last (turn_from l r w (composed_side l a (v ∷ [])) (composed_side r b (x ∷ [])) (members_height l (v ∷ [])) (members_height r (x ∷ [])) ms none))
       done
 
-module _ (l r : Collection) (w : Bool) (v x : ValueType) (ms ns : List Part) (none : ms ≡ []) (k : Turn) (last : IsLastTurn l r w 0 v x ms ns k) where
+module _ (l r : Collection) (w : Bool) (v x : ValueType) (ms ns : List PairPart) (none : ms ≡ []) (k : Turn) (last : IsLastTurn l r w 0 v x ms ns k) where
   pub list_turn : AreComposed l r w list (v ∷ []) list (x ∷ []) ns k
   list_turn = single_turn l r w list list v x ms ns none ([], refl, refl, λ check f is. rw is (record { alike = tt; same_check = refl; left = refl; right = refl })) (λ same. let e = one_tree (value_tree l v) (value_tree r x) (same 0 (omega arith)) in rw e refl) k last
 
@@ -251,7 +251,7 @@ payload_by l r Contravariant None (Some x) f ne is = rw is refl
 payload_by l r Covariant (Some v) None f ne is = rw is refl
 payload_by l r Contravariant (Some v) None f ne is = rw is refl
 
-module _ (l r : Collection) (w : Bool) (ms : List Part) (none : ms ≡ []) where
+module _ (l r : Collection) (w : Bool) (ms : List PairPart) (none : ms ≡ []) where
   pub stream_apart : (o p : Option ValueType) → is_some o ≢ is_some p → AreComposed l r w (stream (is_some o)) (option_to_list o) (stream (is_some p)) (option_to_list p) ms (turn.PartApart 0 false (difference.Payload (is_some o) (is_some p)))
   stream_apart None None ne = absurd (ne refl)
   stream_apart (Some v) (Some x) ne = absurd (ne refl)

@@ -24,7 +24,7 @@ use Rattle.wac_mismatch.specs.declared.error.SubtypeError.{SubtypeError}
 use Rattle.wac_checker.proofs.ItemLemmas.{equal_leaves}
 use Rattle.wac_checker.proofs.PartLemmas.{pair_of}
 use Rattle.wac_checker.specs.Parts.{side_parts, AreAt}
-use Rattle.wac_checker.specs.Pairs.{HaveAt, IsValuePart, IsBelow, IsBelowPair, IsEntriesPart, EntriesFit, ExplainsEntries, left_of, right_of, placed, Entries, DefinedTypes, Funcs, Interfaces, Worlds, Modules, Finding, End, Same, Below, Two, left_side, right_side}
+use Rattle.wac_checker.specs.Pairs.{HaveAt, IsValuePart, IsBelow, IsBelowPair, IsEntriesPart, EntriesFit, ExplainsEntries, left_of, right_of, placed_pair, Entries, DefinedTypes, Funcs, Interfaces, Worlds, Modules, Finding, End, Same, Below, Two, left_side, right_side}
 
 turned_twice : (check : SubtypeCheck) → turned (turned check) ≡ check
 turned_twice Covariant = refl
@@ -95,10 +95,10 @@ module _ (check : SubtypeCheck) (c d : Collection) (a b : Id) (i : ℕ) where
   entries_of_func (Below q) h = ((h item).0, subst (λ (s : Bool). IsBelow c d (Funcs a b) i (record { entries = q.entries; swapped = s })) (sym (h item).1) (below_of_func q.entries (λ k. (h k).2)))
 
 -- a pair below two entries, told from the collections of the pair that has them
-pub below_pair : (c d : Collection) (p : Two) (i : ℕ) (q : Two) → IsBelow (left_of c d p.swapped) (right_of c d p.swapped) p.entries i q → IsBelowPair c d p i (placed p.swapped q)
+pub below_pair : (c d : Collection) (p : Two) (i : ℕ) (q : Two) → IsBelow (left_of c d p.swapped) (right_of c d p.swapped) p.entries i q → IsBelowPair c d p i (placed_pair p.swapped q)
 below_pair c d p i q h = by_cases p.entries q.entries p.swapped q.swapped h
   where
-    by_cases : (e f : Entries) (s t : Bool) → IsBelow (left_of c d s) (right_of c d s) e i (record { entries = f; swapped = t }) → IsBelowPair c d (record { entries = e; swapped = s }) i (placed s (record { entries = f; swapped = t }))
+    by_cases : (e f : Entries) (s t : Bool) → IsBelow (left_of c d s) (right_of c d s) e i (record { entries = f; swapped = t }) → IsBelowPair c d (record { entries = e; swapped = s }) i (placed_pair s (record { entries = f; swapped = t }))
     by_cases e f false false h = record { stand = h.stand; lower = h.lower; enough = h.enough; leads = h.leads; needed = h.needed }
     by_cases e f false true h = record { stand = h.stand; lower = h.lower; enough = h.enough; leads = h.leads; needed = h.needed }
     by_cases e f true false h = record { stand = h.stand; lower = h.lower; enough = h.enough; leads = λ check. h.leads (turned check); needed = h.needed }

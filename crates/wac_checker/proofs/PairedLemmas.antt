@@ -6,7 +6,7 @@ use Rattle.wac_component.specs.Key.{Key, AllStand, Stands, item_keys}
 use Rattle.wac_component.specs.declared.items.ItemKind.{ItemKind}
 use Rattle.wac_checker.specs.Paired.{IsPairing}
 use Rattle.wac_checker.specs.Pairs.{AreOfItems, entries_by, id_in}
-use Rattle.wac_checker.specs.declared.parts.Sort.{Sort}
+use Rattle.wac_checker.specs.declared.parts.PairSort.{PairSort}
 use Rattle.wac_checker.specs.declared.parts.EntryPair.{EntryPair}
 use Rattle.wac_checker.specs.declared.paired.Paired.TheVariants.{Entries as TwoEntries}
 use Rattle.wac_checker.proofs.ItemPartLemmas.{one_fits, ids_same}
@@ -15,7 +15,7 @@ use Rattle.wac_checker.proofs.ItemPartLemmas.{one_fits, ids_same}
 pub id_here : (c : Collection) (a : Id) → a.number ≡ c.number → id_in c a.index ≡ a
 id_here c a e = λ i. record { number = sym e i; index = a.index }
 
-pub ids_paired : (a b : Id) (made : Id → ItemKind) (key : Id → Key) (s : Sort) (t : Bool) (p : EntryPair) → p ≡ record { left = a.index; right = b.index; sort = s; swapped = false } → ((i : Id) → (key i).id ≡ i) → ((c d : Collection) → Stands c (key a) → Stands d (key b) → AreOfItems c d (made a) (made b) (entries_by s a b)) → ((c : Collection) (i : Id) → AllStand c (item_keys (made i)) → Stands c (key i)) → t ≡ (a.number == b.number && a.index == b.index) → IsPairing (made a) (made b) (TwoEntries t p)
+pub ids_paired : (a b : Id) (made : Id → ItemKind) (key : Id → Key) (s : PairSort) (t : Bool) (p : EntryPair) → p ≡ record { left = a.index; right = b.index; sort = s; swapped = false } → ((i : Id) → (key i).id ≡ i) → ((c d : Collection) → Stands c (key a) → Stands d (key b) → AreOfItems c d (made a) (made b) (entries_by s a b)) → ((c : Collection) (i : Id) → AllStand c (item_keys (made i)) → Stands c (key i)) → t ≡ (a.number == b.number && a.index == b.index) → IsPairing (made a) (made b) (TwoEntries t p)
 ids_paired a b made key s t p is named of stand test = record {
   paired = λ c d h k one.
       let left : a.number ≡ c.number = sym (ap (λ (i : Id). i.number) (named a)) ∙ (stand c a h).0 in

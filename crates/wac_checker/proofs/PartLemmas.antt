@@ -64,14 +64,14 @@ module _ (f : ValueType → ValueTree) where
   unnamed [] = refl
   unnamed (v ∷ vs) = ap (λ (ps : List (Text × Option ValueTree)). ([], Some (f v)) ∷ ps) (unnamed vs)
 
-  item_at : (vs : List ValueType) (i : ℕ) (v : ValueType) → slice_get vs i ≡ Some v → slice_get (unnamed_parts (parts_of (map f vs))) i ≡ Some ([], Some (f v))
-  item_at [] i v h = absurd (cc)
-  item_at (x ∷ vs) zero v h = let same : x ≡ v = cc in rw same refl
-  item_at (x ∷ vs) (suc i) v h = item_at vs i v h
+  nth_type : (vs : List ValueType) (i : ℕ) (v : ValueType) → slice_get vs i ≡ Some v → slice_get (unnamed_parts (parts_of (map f vs))) i ≡ Some ([], Some (f v))
+  nth_type [] i v h = absurd (cc)
+  nth_type (x ∷ vs) zero v h = let same : x ≡ v = cc in rw same refl
+  nth_type (x ∷ vs) (suc i) v h = nth_type vs i v h
 
 -- the items of two tuples at a place
 pub items_at : (c d : Collection) (vs ws : List ValueType) (i : ℕ) (v w : ValueType) → slice_get vs i ≡ Some v → slice_get ws i ≡ Some w → AreAt (composed_side c tuple vs) (composed_side d tuple ws) i (value_tree c v) (value_tree d w)
-items_at c d vs ws i v w h k = ([], item_at (value_tree c) vs i v h, item_at (value_tree d) ws i w k, λ check f is. rw is (record { alike = tt; same_check = refl; left = ap sided (tree_at (value_tree c) vs i v h); right = ap sided (tree_at (value_tree d) ws i w k) }))
+items_at c d vs ws i v w h k = ([], nth_type (value_tree c) vs i v h, nth_type (value_tree d) ws i w k, λ check f is. rw is (record { alike = tt; same_check = refl; left = ap sided (tree_at (value_tree c) vs i v h); right = ap sided (tree_at (value_tree d) ws i w k) }))
 
 unnamed_one : (f g : ValueType → ValueTree) (o p : Option ValueType) → option_map (λ (v : ValueType). let q : Text × Option ValueTree = ([], Some (f v)) in q) o ≡ option_map (λ (v : ValueType). let q : Text × Option ValueTree = ([], Some (g v)) in q) p → option_map f o ≡ option_map g p
 unnamed_one f g None None h = refl

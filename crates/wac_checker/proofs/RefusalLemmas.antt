@@ -14,9 +14,9 @@ use Rattle.wac_checker.specs.Pairs.{EntriesPath, Entries, ExplainsEntries, Expla
 use Rattle.wac_checker.specs.Walk.{IsPathTo}
 use Rattle.wac_checker.specs.declared.parts.Difference.{Difference}
 use Rattle.wac_checker.specs.declared.parts.EntryPair.{EntryPair}
-use Rattle.wac_checker.specs.declared.parts.Part.{Part}
+use Rattle.wac_checker.specs.declared.parts.PairPart.{PairPart}
 use Rattle.wac_checker.specs.declared.parts.Turn.TheVariants as turn
-use Rattle.wac_checker.specs.declared.walk.Step.{Step}
+use Rattle.wac_checker.specs.declared.walk.WalkStep.{WalkStep}
 use Rattle.wac_checker.proofs.PairLemmas.{framed_explains}
 use Rattle.wac_checker.proofs.WalkLemmas.{reverse_push}
 
@@ -30,7 +30,7 @@ module _ (check : SubtypeCheck) (l r : Collection) (e : Entries) where
   under_explained P f Memory (Mismatch frames x) path here under = absurd under
   under_explained P f (Mismatch inner y) (Mismatch frames x) path here under = λ k. rw (under.2, under.3, under.1, here.0) (path y here.1 k)
 
-module _ (check : SubtypeCheck) (l r : Collection) (p : EntryPair) (ms : List Part) where
+module _ (check : SubtypeCheck) (l r : Collection) (p : EntryPair) (ms : List PairPart) where
   -- the two of a pair differ
   pub refused_apart : (x : Difference) (g : SubtypeError) → IsPairTurn l r p ms (turn.Apart x) → IsHere (IsFaultOf (check_of check p.swapped) x) g → ExplainsPair check l r (two_of l r p) g
   refused_apart x g h here = here_explained (check_of check p.swapped) (left_of l r p.swapped) (right_of l r p.swapped) (entries_of (left_of l r p.swapped) (right_of l r p.swapped) p) (IsFaultOf (check_of check p.swapped) x) g (λ f is. h.1 (check_of check p.swapped) f is) here
@@ -42,5 +42,5 @@ module _ (check : SubtypeCheck) (l r : Collection) (p : EntryPair) (ms : List Pa
       (λ f at t below. under_explained (check_of check p.swapped) (left_of l r p.swapped) (right_of l r p.swapped) (entries_of (left_of l r p.swapped) (right_of l r p.swapped) p) (IsFaultOf (check_of (check_of check p.swapped) b) x) f g t (λ y fault. h.2 (check_of check p.swapped) f y at fault) here below)
 
 -- the last of the steps of a path
-pub path_last : (l r : Collection) (a : EntryPair) (os ss : List Step) (s : Step) → ss ≡ os ++ s ∷ [] → IsPathTo l r a (reverse ss) → IsPathTo l r a (s ∷ reverse os)
+pub path_last : (l r : Collection) (a : EntryPair) (os ss : List WalkStep) (s : WalkStep) → ss ≡ os ++ s ∷ [] → IsPathTo l r a (reverse ss) → IsPathTo l r a (s ∷ reverse os)
 path_last l r a os ss s e h = rw (e, reverse_push os s) at h

@@ -12,8 +12,8 @@ use Rattle.wac_component.specs.Collection.{Collection}
 use Rattle.wac_mismatch.specs.declared.check.SubtypeCheck.{SubtypeCheck}
 use Rattle.wac_mismatch.specs.declared.fault.Fault.{Fault}
 use Rattle.wac_mismatch.specs.declared.frame.Frame.{Frame}
-use Rattle.wac_checker.specs.Compared.{AreAnswered, IsAnswered, IsUnderWay, KnowsBut, KnowsTruly}
-use Rattle.wac_checker.specs.Believed.{IsAmong, IsFittingBy, MayBelieve}
+use Rattle.wac_checker.specs.Compared.{AreAnswered, IsAnswered, IsComparing, KnowsBut, KnowsTruly}
+use Rattle.wac_checker.specs.Believed.{IsPairAmong, IsFittingBy, MayBelieve}
 use Rattle.wac_checker.specs.Cache.{AreInOrder, Pair}
 use Rattle.wac_checker.specs.Known.{pairs_of}
 use Rattle.wac_checker.specs.Listing.{AllFit, AllFitBy, AreItemsNamed, ArePartsOf, IsPairTurn, IsPartOf}
@@ -29,15 +29,15 @@ use Rattle.wac_mismatch.specs.Place.{item_side}
 use Rattle.wac_mismatch.specs.declared.error.SubtypeError.{SubtypeError}
 use Rattle.wac_mismatch.specs.declared.error.SubtypeError.TheVariants.{Mismatch, Memory}
 use Rattle.wac_checker.proofs.ListingLemmas.{put_named}
-use Rattle.wac_checker.specs.Pairs.{AreOfItems, ArePairsOf, ExplainsPair, IsBelowPair, IsFitting, IsPairFrame, IsStanding, Two, entries_by, entries_of, flag_of, id_in, left_of, pair_height, placed, right_of, two_of}
-use Rattle.wac_checker.specs.Walk.{AreListed, IsAtStep, IsBegun, IsOpen, IsPartOfPair, IsPath, IsPathTo, LeadFrom, LeadsTo, PathFrom}
+use Rattle.wac_checker.specs.Pairs.{AreOfItems, ArePairsOf, ExplainsPair, IsBelowPair, IsFitting, IsPairFrame, IsStanding, Two, entries_by, entries_of, flag_of, id_in, left_of, pair_height, placed_pair, right_of, two_of}
+use Rattle.wac_checker.specs.Walk.{AreListed, IsAtStep, IsBegun, IsOpen, IsPartOfPair, IsWalkPath, IsPathTo, LeadFrom, LeadsTo, PathFrom}
 use Rattle.wac_checker.specs.declared.compared.Compared.{Compared}
 use Rattle.wac_checker.specs.declared.parts.Difference.{Difference}
 use Rattle.wac_checker.specs.declared.parts.EntryPair.{EntryPair}
-use Rattle.wac_checker.specs.declared.parts.Part.{Part}
-use Rattle.wac_checker.specs.declared.parts.Sort.{Sort as PairSort}
+use Rattle.wac_checker.specs.declared.parts.PairPart.{PairPart}
+use Rattle.wac_checker.specs.declared.parts.PairSort.{PairSort}
 use Rattle.wac_checker.specs.declared.parts.Turn.TheVariants as turn
-use Rattle.wac_checker.specs.declared.walk.Step.{Step}
+use Rattle.wac_checker.specs.declared.walk.WalkStep.{WalkStep}
 use Rattle.wac_checker.specs.declared.walk.Walk.{Walk}
 use Rattle.wac_checker.proofs.CountLemmas.{last_or_before}
 use Rattle.wac_checker.proofs.KnownLemmas.{element_at, pairs_push}
@@ -46,23 +46,23 @@ use Rattle.wac_checker.proofs.BelievedLemmas.{among_fits, left_has_keys, none_in
 
 -- ---- what is listed of a pair
 
-placed_two : (c d : Collection) (w b v : Bool) (s : PairSort) (i j : ℕ) → v ≡ flag_of w b → placed w (record { entries = entries_by s (id_in (left_of (left_of c d w) (right_of c d w) b) i) (id_in (right_of (left_of c d w) (right_of c d w) b) j); swapped = b }) ≡ record { entries = entries_by s (id_in (left_of c d v) i) (id_in (right_of c d v) j); swapped = v }
+placed_two : (c d : Collection) (w b v : Bool) (s : PairSort) (i j : ℕ) → v ≡ flag_of w b → placed_pair w (record { entries = entries_by s (id_in (left_of (left_of c d w) (right_of c d w) b) i) (id_in (right_of (left_of c d w) (right_of c d w) b) j); swapped = b }) ≡ record { entries = entries_by s (id_in (left_of c d v) i) (id_in (right_of c d v) j); swapped = v }
 placed_two c d false false v s i j e = rw e refl
 placed_two c d false true v s i j e = rw e refl
 placed_two c d true false v s i j e = rw e refl
 placed_two c d true true v s i j e = rw e refl
 
-pair_part : (c d : Collection) (p : EntryPair) (q : Part) → IsPartOf (left_of c d p.swapped) (right_of c d p.swapped) p.swapped (entries_of (left_of c d p.swapped) (right_of c d p.swapped) p) q → IsPartOfPair c d p q
+pair_part : (c d : Collection) (p : EntryPair) (q : PairPart) → IsPartOf (left_of c d p.swapped) (right_of c d p.swapped) p.swapped (entries_of (left_of c d p.swapped) (right_of c d p.swapped) p) q → IsPartOfPair c d p q
 pair_part c d p q h =
     let told : Two = record { entries = entries_of (left_of (left_of c d p.swapped) (right_of c d p.swapped) h.0) (right_of (left_of c d p.swapped) (right_of c d p.swapped) h.0) q.pair; swapped = h.0 } in
     (h.2, subst (λ (t : Two). IsBelowPair c d (two_of c d p) q.index t) (placed_two c d p.swapped h.0 q.pair.swapped q.pair.sort q.pair.left q.pair.right h.1) (below_pair c d (two_of c d p) q.index told h.3))
 
-sides_back : (c d : Collection) (w : Bool) (ms : List Part) → AllFit c d ms → AllFitBy (left_of c d w) (right_of c d w) w ms
+sides_back : (c d : Collection) (w : Bool) (ms : List PairPart) → AllFit c d ms → AllFitBy (left_of c d w) (right_of c d w) w ms
 sides_back c d false ms h = h
 sides_back c d true ms h = h
 
-module _ (c d : Collection) (p : EntryPair) (ms : List Part) where
-  parts_listed : ArePartsOf (left_of c d p.swapped) (right_of c d p.swapped) p.swapped (entries_of (left_of c d p.swapped) (right_of c d p.swapped) p) ms → (q : Part) → Contains ms q → IsPartOfPair c d p q
+module _ (c d : Collection) (p : EntryPair) (ms : List PairPart) where
+  parts_listed : ArePartsOf (left_of c d p.swapped) (right_of c d p.swapped) p.swapped (entries_of (left_of c d p.swapped) (right_of c d p.swapped) p) ms → (q : PairPart) → Contains ms q → IsPartOfPair c d p q
   parts_listed h q m = pair_part c d p q (h q m)
 
   pub listed_end : IsPairTurn c d p ms turn.End → AreListed c d p ms false
@@ -80,16 +80,16 @@ place_in : {A : Type 0} (xs : List A) (x : A) → Contains xs x → (i : ℕ) ×
 place_in [] x m = absurd (omega (arith, m.1))
 place_in (y ∷ xs) x m = elim (Contains-cases x y xs m) [ inl e ↦ (zero, ap Some e) | inr later ↦ (let rest = place_in xs x later in (suc rest.0, rest.1)) ]
 
-at_right : (l ms : List Part) (i j : ℕ) → j ≡ length l + i → slice_get (l ++ ms) j ≡ slice_get ms i
+at_right : (l ms : List PairPart) (i j : ℕ) → j ≡ length l + i → slice_get (l ++ ms) j ≡ slice_get ms i
 at_right [] ms i j e = let same : j ≡ i = omega (arith, e) in ap (slice_get ms) same
 at_right (x ∷ l) ms i j e = let next : j ≡ suc (length l + i) = omega (arith, e) in rw next (at_right l ms i (length l + i) refl)
 
-module _ (c d : Collection) (q : Part) (l ms : List Part) (differs : Bool) (stands : IsStanding c d q.pair) (h : AreListed c d q.pair ms differs) where
-  listed_at : (i : ℕ) (x : Part) → length l ≤ i → slice_get (l ++ ms) i ≡ Some x → Contains ms x
+module _ (c d : Collection) (q : PairPart) (l ms : List PairPart) (differs : Bool) (stands : IsStanding c d q.pair) (h : AreListed c d q.pair ms differs) where
+  listed_at : (i : ℕ) (x : PairPart) → length l ≤ i → slice_get (l ++ ms) i ≡ Some x → Contains ms x
   listed_at i x le at = element_at ms (i - length l) x (sym (at_right l ms (i - length l) i (omega (arith, le))) ∙ at)
 
   -- a step begins
-  pub begun : (ps : List Pair) (m : List Part) (s : Step) → m ≡ l ++ ms → s ≡ record { part = q; first = length l; next = length l; differs = differs } → IsBegun ps c d q l m s
+  pub begun : (ps : List Pair) (m : List PairPart) (s : WalkStep) → m ≡ l ++ ms → s ≡ record { part = q; first = length l; next = length l; differs = differs } → IsBegun ps c d q l m s
   begun ps m s more is = rw (more, is) (record {
     part = refl;
     first = refl;
@@ -108,18 +108,18 @@ module _ (c d : Collection) (q : Part) (l ms : List Part) (differs : Bool) (stan
 -- ---- steps
 
 -- the same step, past one more part
-abbrev pub moved : Step → Step
+abbrev pub moved : WalkStep → WalkStep
 moved s = record { part = s.part; first = s.first; next = s.next + 1; differs = s.differs }
 
-module _ (ps : List Pair) (c d : Collection) (l : List Part) (s : Step) (n : ℕ) (h : IsAtStep ps c d l s n) where
-  fit_next : (q : Part) → slice_get l n ≡ Some q → IsFittingBy ps c d q.pair → (i : ℕ) (x : Part) → s.first ≤ i → i < n + 1 → slice_get l i ≡ Some x → IsFittingBy ps c d x.pair
+module _ (ps : List Pair) (c d : Collection) (l : List PairPart) (s : WalkStep) (n : ℕ) (h : IsAtStep ps c d l s n) where
+  fit_next : (q : PairPart) → slice_get l n ≡ Some q → IsFittingBy ps c d q.pair → (i : ℕ) (x : PairPart) → s.first ≤ i → i < n + 1 → slice_get l i ≡ Some x → IsFittingBy ps c d x.pair
   fit_next q here fits i x le lt at = elim (last_or_before i n (omega (arith, lt))) [
-    | inl e ↦ (let same : Some q ≡ Some x = sym here ∙ ap (slice_get l) (sym e) ∙ at in let one : q ≡ x = cc in subst (λ (y : Part). IsFittingBy ps c d y.pair) one fits)
+    | inl e ↦ (let same : Some q ≡ Some x = sym here ∙ ap (slice_get l) (sym e) ∙ at in let one : q ≡ x = cc in subst (λ (y : PairPart). IsFittingBy ps c d y.pair) one fits)
     | inr before ↦ h.fit i x le before at
   ]
 
   -- one more part fits
-  pub step_next : (q : Part) (t : Step) → t.part ≡ s.part → t.first ≡ s.first → t.differs ≡ s.differs → slice_get l n ≡ Some q → IsFittingBy ps c d q.pair → IsAtStep ps c d l t (n + 1)
+  pub step_next : (q : PairPart) (t : WalkStep) → t.part ≡ s.part → t.first ≡ s.first → t.differs ≡ s.differs → slice_get l n ≡ Some q → IsFittingBy ps c d q.pair → IsAtStep ps c d l t (n + 1)
   step_next q t part first differs here fits =
       let below : n < length l = slice_get_within l n q here in
       record {
@@ -136,7 +136,7 @@ module _ (ps : List Pair) (c d : Collection) (l : List Part) (s : Step) (n : ℕ
   step_fits all even told = h.same even (λ i x le at. h.fit i x le (let below : i < length l = slice_get_within l i x at in omega (arith, below, all)) at told)
 
   -- the next part is at hand
-  pub step_leads : (q : Part) (t : Step) → t.part ≡ s.part → t.first ≡ s.first → t.differs ≡ s.differs → t.next ≡ n + 1 → slice_get l n ≡ Some q → LeadsTo ps c d l t q
+  pub step_leads : (q : PairPart) (t : WalkStep) → t.part ≡ s.part → t.first ≡ s.first → t.differs ≡ s.differs → t.next ≡ n + 1 → slice_get l n ≡ Some q → LeadsTo ps c d l t q
   step_leads q t part first differs next here = record {
     place = n;
     next = next;
@@ -151,75 +151,75 @@ module _ (ps : List Pair) (c d : Collection) (l : List Part) (s : Step) (n : ℕ
     here = here;
   }
 
-leads_part : (ps : List Pair) (c d : Collection) (l : List Part) (s : Step) (q : Part) → LeadsTo ps c d l s q → IsPartOfPair c d s.part.pair q
+leads_part : (ps : List Pair) (c d : Collection) (l : List PairPart) (s : WalkStep) (q : PairPart) → LeadsTo ps c d l s q → IsPartOfPair c d s.part.pair q
 leads_part ps c d l s q h = h.at.parts h.place q h.at.within.0 h.here
 
 -- steps that lead are a path
-pub lead_path : (ps : List Pair) (c d : Collection) (r : EntryPair) (l : List Part) (ss : List Step) (q : Part) → LeadFrom ps c d r l ss q → PathFrom c d r ss q
+pub lead_path : (ps : List Pair) (c d : Collection) (r : EntryPair) (l : List PairPart) (ss : List WalkStep) (q : PairPart) → LeadFrom ps c d r l ss q → PathFrom c d r ss q
 lead_path ps c d r l [] q h = h
 lead_path ps c d r l (s ∷ ss) q h = (h.0.at.stands, leads_part ps c d l s q h.0, lead_path ps c d r (take s.first l) ss s.part h.1)
 
 module _ (c d : Collection) (r : EntryPair) where
   -- a part is lower than the pairs of the steps that lead to it
-  pub path_lower : (ss : List Step) (q : Part) → PathFrom c d r ss q → (t : Step) → Contains ss t → pair_height c d (two_of c d q.pair) < pair_height c d (two_of c d t.part.pair)
+  pub path_lower : (ss : List WalkStep) (q : PairPart) → PathFrom c d r ss q → (t : WalkStep) → Contains ss t → pair_height c d (two_of c d q.pair) < pair_height c d (two_of c d t.part.pair)
   path_lower [] q h t m = absurd (omega (arith, m.1))
   path_lower (s ∷ ss) q h t m =
       let lower = h.1.1.lower in
       elim (Contains-cases t s ss m) [
-        | inl e ↦ (let same = ap (λ (u : Step). pair_height c d (two_of c d u.part.pair)) e in omega (arith, lower, same))
+        | inl e ↦ (let same = ap (λ (u : WalkStep). pair_height c d (two_of c d u.part.pair)) e in omega (arith, lower, same))
         | inr later ↦ (let rest = path_lower ss s.part h.2 t later in omega (arith, lower, rest))
       ]
 
   -- where it doesn't fit, neither do they, nor the first pair
-  pub path_unfit : (ss : List Step) (q : Part) → PathFrom c d r ss q → ¬ (IsFitting c d q.pair) → ¬ (IsFitting c d r)
+  pub path_unfit : (ss : List WalkStep) (q : PairPart) → PathFrom c d r ss q → ¬ (IsFitting c d q.pair) → ¬ (IsFitting c d r)
   path_unfit [] q h apart = subst (λ (p : EntryPair). ¬ (IsFitting c d p)) h apart
   path_unfit (s ∷ ss) q h apart = path_unfit ss s.part h.2 (λ fits. apart (h.1.1.needed fits))
 
-  pub steps_unfit : (ss : List Step) (q : Part) → PathFrom c d r ss q → ¬ (IsFitting c d q.pair) → (t : Step) → Contains ss t → IsStanding c d t.part.pair × (¬ (IsFitting c d t.part.pair))
+  pub steps_unfit : (ss : List WalkStep) (q : PairPart) → PathFrom c d r ss q → ¬ (IsFitting c d q.pair) → (t : WalkStep) → Contains ss t → IsStanding c d t.part.pair × (¬ (IsFitting c d t.part.pair))
   steps_unfit [] q h apart t m = absurd (omega (arith, m.1))
   steps_unfit (s ∷ ss) q h apart t m = elim (Contains-cases t s ss m) [
-    | inl e ↦ subst (λ (u : Step). IsStanding c d u.part.pair × (¬ (IsFitting c d u.part.pair))) e (h.0, λ fits. apart (h.1.1.needed fits))
+    | inl e ↦ subst (λ (u : WalkStep). IsStanding c d u.part.pair × (¬ (IsFitting c d u.part.pair))) e (h.0, λ fits. apart (h.1.1.needed fits))
     | inr later ↦ steps_unfit ss s.part h.2 (λ fits. apart (h.1.1.needed fits)) t later
   ]
 
-  pub path_refuses : (ss : List Step) → IsPathTo c d r ss → ¬ (IsFitting c d r)
+  pub path_refuses : (ss : List WalkStep) → IsPathTo c d r ss → ¬ (IsFitting c d r)
   path_refuses [] h = h
   path_refuses (s ∷ ss) h = path_unfit ss s.part h.2 h.1
 
-  pub open_unfit : (ss : List Step) → IsPathTo c d r ss → (p : EntryPair) → IsOpen ss p → IsStanding c d p × (¬ (IsFitting c d p))
+  pub open_unfit : (ss : List WalkStep) → IsPathTo c d r ss → (p : EntryPair) → IsOpen ss p → IsStanding c d p × (¬ (IsFitting c d p))
   open_unfit [] h p o = absurd (omega (arith, o.1.1))
   open_unfit (s ∷ ss) h p o = subst (λ (x : EntryPair). IsStanding c d x × (¬ (IsFitting c d x))) o.2 (elim (Contains-cases o.0 s ss o.1) [
-    | inl e ↦ subst (λ (u : Step). IsStanding c d u.part.pair × (¬ (IsFitting c d u.part.pair))) e (h.0, h.1)
+    | inl e ↦ subst (λ (u : WalkStep). IsStanding c d u.part.pair × (¬ (IsFitting c d u.part.pair))) e (h.0, h.1)
     | inr later ↦ steps_unfit ss s.part h.2 h.1 o.0 later
   ])
 
-pub reverse_push : (ss : List Step) (s : Step) → reverse (ss ++ s ∷ []) ≡ s ∷ reverse ss
+pub reverse_push : (ss : List WalkStep) (s : WalkStep) → reverse (ss ++ s ∷ []) ≡ s ∷ reverse ss
 reverse_push ss s = reverse-append ss (s ∷ [])
 
-pub reverse_has : (ss : List Step) (s : Step) → Contains (reverse ss) s → Contains ss s
+pub reverse_has : (ss : List WalkStep) (s : WalkStep) → Contains (reverse ss) s → Contains ss s
 reverse_has [] s m = absurd (omega (arith, m.1))
-reverse_has (x ∷ ss) s m = elim (Contains-push_cases (reverse ss) x s (subst (λ (xs : List Step). Contains xs s) (reverse_onto ss x []) m)) [
+reverse_has (x ∷ ss) s m = elim (Contains-push_cases (reverse ss) x s (subst (λ (xs : List WalkStep). Contains xs s) (reverse_onto ss x []) m)) [
   | inl later ↦ Contains-later s x ss (reverse_has ss s later)
-  | inr e ↦ subst (λ (y : Step). Contains (x ∷ ss) y) e (Contains-first x ss)
+  | inr e ↦ subst (λ (y : WalkStep). Contains (x ∷ ss) y) e (Contains-first x ss)
 ]
 
 -- ---- what is known
 
-open_cases : (s : Step) (ss : List Step) (p : EntryPair) → IsOpen (s ∷ ss) p → (s.part.pair ≡ p) ⊎ IsOpen ss p
-open_cases s ss p o = elim (Contains-cases o.0 s ss o.1) [ inl e ↦ inl (ap (λ (t : Step). t.part.pair) e ∙ o.2) | inr later ↦ inr (o.0, later, o.2) ]
+open_cases : (s : WalkStep) (ss : List WalkStep) (p : EntryPair) → IsOpen (s ∷ ss) p → (s.part.pair ≡ p) ⊎ IsOpen ss p
+open_cases s ss p o = elim (Contains-cases o.0 s ss o.1) [ inl e ↦ inl (ap (λ (t : WalkStep). t.part.pair) e ∙ o.2) | inr later ↦ inr (o.0, later, o.2) ]
 
-open_first : (s : Step) (ss : List Step) → IsOpen (s ∷ ss) s.part.pair
+open_first : (s : WalkStep) (ss : List WalkStep) → IsOpen (s ∷ ss) s.part.pair
 open_first s ss = (s, Contains-first s ss, refl)
 
-open_later : (s : Step) (ss : List Step) (p : EntryPair) → IsOpen ss p → IsOpen (s ∷ ss) p
+open_later : (s : WalkStep) (ss : List WalkStep) (p : EntryPair) → IsOpen ss p → IsOpen (s ∷ ss) p
 open_later s ss p o = (o.0, Contains-later o.0 s ss o.1, o.2)
 
 module _ (ps : List Pair) (c d : Collection) (k : Compared) where
-  pub truly_but : (ss : List Step) → KnowsTruly c d k → KnowsBut ps c d k ss
+  pub truly_but : (ss : List WalkStep) → KnowsTruly c d k → KnowsBut ps c d k ss
   truly_but ss h = record { pairs = h.pairs; unfit = h.unfit; known = λ p m. inl (elim (h.known p m) [ inl fits ↦ inl (λ told. fits) | inr there ↦ inr there ]) }
 
   -- the pair at hand fits
-  pub knows_closed : (s : Step) (ss : List Step) → KnowsBut ps c d k (s ∷ ss) → IsFittingBy ps c d s.part.pair → KnowsBut ps c d k ss
+  pub knows_closed : (s : WalkStep) (ss : List WalkStep) → KnowsBut ps c d k (s ∷ ss) → IsFittingBy ps c d s.part.pair → KnowsBut ps c d k ss
   knows_closed s ss h fits = record {
     pairs = h.pairs;
     unfit = h.unfit;
@@ -233,18 +233,18 @@ module _ (ps : List Pair) (c d : Collection) (k : Compared) where
   knows_all h given = record { pairs = h.pairs; unfit = h.unfit; known = λ p m. elim (h.known p m) [ inl told ↦ elim told [ inl fits ↦ inl (fits given) | inr there ↦ inr there ] | inr o ↦ absurd (omega (arith, o.1.1)) ] }
 
   -- a step of the same pair in the place of the pair at hand
-  pub knows_moved : (s t : Step) (ss : List Step) → t.part ≡ s.part → KnowsBut ps c d k (s ∷ ss) → KnowsBut ps c d k (t ∷ ss)
+  pub knows_moved : (s t : WalkStep) (ss : List WalkStep) → t.part ≡ s.part → KnowsBut ps c d k (s ∷ ss) → KnowsBut ps c d k (t ∷ ss)
   knows_moved s t ss same h = record {
     pairs = h.pairs;
     unfit = h.unfit;
     known = λ p m. elim (h.known p m) [
       | inl told ↦ inl told
-      | inr o ↦ elim (open_cases s ss p o) [ inl e ↦ inr (subst (λ (x : EntryPair). IsOpen (t ∷ ss) x) (ap (λ (x : Part). x.pair) same ∙ e) (open_first t ss)) | inr later ↦ inr (open_later t ss p later) ]
+      | inr o ↦ elim (open_cases s ss p o) [ inl e ↦ inr (subst (λ (x : EntryPair). IsOpen (t ∷ ss) x) (ap (λ (x : PairPart). x.pair) same ∙ e) (open_first t ss)) | inr later ↦ inr (open_later t ss p later) ]
     ];
   }
 
   -- one more pair is known, that of a step
-  pub knows_opened : (k' : Compared) (s : Step) (ss : List Step) → KnowsBut ps c d k ss → (Contains (pairs_of k.known) s.part.pair → ⊥) → IsStanding c d s.part.pair → pairs_of k'.known ≡ pairs_of k.known ++ s.part.pair ∷ [] → pairs_of k'.unfit ≡ pairs_of k.unfit → KnowsBut ps c d k' (s ∷ ss)
+  pub knows_opened : (k' : Compared) (s : WalkStep) (ss : List WalkStep) → KnowsBut ps c d k ss → (Contains (pairs_of k.known) s.part.pair → ⊥) → IsStanding c d s.part.pair → pairs_of k'.known ≡ pairs_of k.known ++ s.part.pair ∷ [] → pairs_of k'.unfit ≡ pairs_of k.unfit → KnowsBut ps c d k' (s ∷ ss)
   knows_opened k' s ss h new stands more same = record {
     pairs = rw more (pairs_push c d (pairs_of k.known) s.part.pair h.pairs new stands);
     unfit = λ p m. h.unfit p (rw same at m);
@@ -255,13 +255,13 @@ module _ (ps : List Pair) (c d : Collection) (k : Compared) where
   }
 
   -- a part that is known fits, if it isn't known not to
-  pub part_fits : (r : EntryPair) (ss : List Step) (q : Part) → KnowsBut ps c d k ss → PathFrom c d r ss q → (Contains (pairs_of k.unfit) q.pair → ⊥) → Contains (pairs_of k.known) q.pair → IsFittingBy ps c d q.pair
+  pub part_fits : (r : EntryPair) (ss : List WalkStep) (q : PairPart) → KnowsBut ps c d k ss → PathFrom c d r ss q → (Contains (pairs_of k.unfit) q.pair → ⊥) → Contains (pairs_of k.known) q.pair → IsFittingBy ps c d q.pair
   part_fits r ss q h path nw m = elim (h.known q.pair m) [
     | inl told ↦ elim told [ inl fits ↦ fits | inr there ↦ absurd (nw there) ]
     | inr o ↦ absurd (let lower = path_lower c d r ss q path o.0 o.1 in let same = ap (λ (x : EntryPair). pair_height c d (two_of c d x)) o.2 in omega (arith, lower, same))
   ]
 
-  pub knows_same : (k' : Compared) (ss : List Step) → KnowsBut ps c d k ss → pairs_of k'.known ≡ pairs_of k.known → pairs_of k'.unfit ≡ pairs_of k.unfit → KnowsBut ps c d k' ss
+  pub knows_same : (k' : Compared) (ss : List WalkStep) → KnowsBut ps c d k ss → pairs_of k'.known ≡ pairs_of k.known → pairs_of k'.unfit ≡ pairs_of k.unfit → KnowsBut ps c d k' ss
   knows_same k' ss h known unfit = record {
     pairs = rw known h.pairs;
     unfit = λ p m. h.unfit p (rw unfit at m);
@@ -270,7 +270,7 @@ module _ (ps : List Pair) (c d : Collection) (k : Compared) where
 
 -- ---- turns
 
-module _ (ps : List Pair) (c d : Collection) (k : Compared) (w : Walk) (s : Step) (h : IsUnderWay ps c d k w s) where
+module _ (ps : List Pair) (c d : Collection) (k : Compared) (w : Walk) (s : WalkStep) (h : IsComparing ps c d k w s) where
   way_path : PathFrom c d w.asked (reverse w.open) s.part
   way_path = lead_path ps c d w.asked (take s.first w.parts.before) (reverse w.open) s.part h.lead
 
@@ -283,7 +283,7 @@ module _ (ps : List Pair) (c d : Collection) (k : Compared) (w : Walk) (s : Step
     this_fits = step_fits ps c d w.parts.before s s.next h.at all even
 
     -- back to the step above
-    pub way_back : (os : List Step) (a : Step) (v : Walk) → w.open ≡ os ++ a ∷ [] → v.open ≡ os → v.parts.before ≡ take s.first w.parts.before → v.asked ≡ w.asked → v.parts.items ≡ w.parts.items → IsUnderWay ps c d k v a
+    pub way_back : (os : List WalkStep) (a : WalkStep) (v : Walk) → w.open ≡ os ++ a ∷ [] → v.open ≡ os → v.parts.before ≡ take s.first w.parts.before → v.asked ≡ w.asked → v.parts.items ≡ w.parts.items → IsComparing ps c d k v a
     way_back os a v was kept parts asked listed =
         let knows = rw (was, reverse_push os a) at h.knows in
         let lead = rw (was, reverse_push os a) at h.lead in
@@ -302,7 +302,7 @@ module _ (ps : List Pair) (c d : Collection) (k : Compared) (w : Walk) (s : Step
         let lead = rw was at h.lead in
         rw asked (λ told. (knows_all ps c d k (knows_closed ps c d k s [] knows this_fits) told, subst (λ (p : EntryPair). IsFitting c d p) lead (this_fits told)))
 
-  module _ (q : Part) (here : slice_get w.parts.before s.next ≡ Some q) where
+  module _ (q : PairPart) (here : slice_get w.parts.before s.next ≡ Some q) where
     this_part : IsPartOfPair c d s.part.pair q
     this_part = h.at.parts s.next q h.at.within.0 here
 
@@ -317,7 +317,7 @@ module _ (ps : List Pair) (c d : Collection) (k : Compared) (w : Walk) (s : Step
     way_unfit v m opened asked = rw (asked, opened, reverse_push w.open (moved s)) (knows_moved ps c d k s (moved s) (reverse w.open) refl h.knows, (h.at.stands, (λ fits. (h.knows.unfit q.pair m).1 (this_part.1.needed fits)), way_path))
 
     -- the next part fits
-    way_fits : (k' : Compared) → KnowsBut ps c d k' (moved s ∷ reverse w.open) → IsFittingBy ps c d q.pair → (v : Walk) → v.open ≡ w.open → v.parts.before ≡ w.parts.before → v.asked ≡ w.asked → v.parts.items ≡ [] → IsUnderWay ps c d k' v (moved s)
+    way_fits : (k' : Compared) → KnowsBut ps c d k' (moved s ∷ reverse w.open) → IsFittingBy ps c d q.pair → (v : Walk) → v.open ≡ w.open → v.parts.before ≡ w.parts.before → v.asked ≡ w.asked → v.parts.items ≡ [] → IsComparing ps c d k' v (moved s)
     way_fits k' knows fits v kept parts asked listed = record {
       knows = rw kept knows;
       at = rw parts (step_next ps c d w.parts.before s s.next h.at q (moved s) refl refl refl here fits);
@@ -326,21 +326,21 @@ module _ (ps : List Pair) (c d : Collection) (k : Compared) (w : Walk) (s : Step
     }
 
     -- it is believed to
-    pub way_told : IsFittingBy ps c d q.pair → IsUnderWay ps c d k w (moved s)
+    pub way_told : IsFittingBy ps c d q.pair → IsComparing ps c d k w (moved s)
     way_told fits = way_fits k (knows_moved ps c d k s (moved s) (reverse w.open) refl h.knows) fits w refl refl refl h.listed
 
     -- it is known to
-    pub way_known : (k' : Compared) → (Contains (pairs_of k.unfit) q.pair → ⊥) → Contains (pairs_of k.known) q.pair → pairs_of k'.known ≡ pairs_of k.known → pairs_of k'.unfit ≡ pairs_of k.unfit → IsUnderWay ps c d k' w (moved s)
+    pub way_known : (k' : Compared) → (Contains (pairs_of k.unfit) q.pair → ⊥) → Contains (pairs_of k.known) q.pair → pairs_of k'.known ≡ pairs_of k.known → pairs_of k'.unfit ≡ pairs_of k.unfit → IsComparing ps c d k' w (moved s)
     way_known k' nw m known unfit = way_fits k' (knows_same ps c d k k' (moved s ∷ reverse w.open) (knows_moved ps c d k s (moved s) (reverse w.open) refl h.knows) known unfit) (part_fits ps c d k w.asked (s ∷ reverse w.open) q h.knows part_path nw m) w refl refl refl h.listed
 
     -- it is opened
-    module _ (k' : Compared) (v : Walk) (b : Step) (new : Contains (pairs_of k.known) q.pair → ⊥) (more : pairs_of k'.known ≡ pairs_of k.known ++ q.pair ∷ []) (same : pairs_of k'.unfit ≡ pairs_of k.unfit) where
+    module _ (k' : Compared) (v : Walk) (b : WalkStep) (new : Contains (pairs_of k.known) q.pair → ⊥) (more : pairs_of k'.known ≡ pairs_of k.known ++ q.pair ∷ []) (same : pairs_of k'.unfit ≡ pairs_of k.unfit) where
       pub pairs_opened : ArePairsOf c d (pairs_of k'.known)
       pairs_opened = rw more (pairs_push c d (pairs_of k.known) q.pair h.knows.pairs new part_stands)
 
       module _ (begins : IsBegun ps c d q w.parts.before v.parts.before b) (asked : v.asked ≡ w.asked) (listed : v.parts.items ≡ []) where
         -- and has parts, or differs
-        pub way_below : v.open ≡ w.open ++ moved s ∷ [] → IsUnderWay ps c d k' v b
+        pub way_below : v.open ≡ w.open ++ moved s ∷ [] → IsComparing ps c d k' v b
         way_below opened =
             let knows = knows_opened ps c d k k' b (moved s ∷ reverse w.open) (knows_moved ps c d k s (moved s) (reverse w.open) refl h.knows) (λ m. new (rw begins.part at m)) (rw begins.part part_stands) (rw begins.part more) same in
             record {
@@ -351,11 +351,11 @@ module _ (ps : List Pair) (c d : Collection) (k : Compared) (w : Walk) (s : Step
             }
 
         -- and has none, and doesn't differ
-        pub way_over : v.open ≡ w.open → b.differs ≡ false → length v.parts.before ≤ b.first → IsUnderWay ps c d k' v (moved s)
+        pub way_over : v.open ≡ w.open → b.differs ≡ false → length v.parts.before ≤ b.first → IsComparing ps c d k' v (moved s)
         way_over opened even none =
             let few : length v.parts.before ≤ length w.parts.before = subst (λ (n : ℕ). length v.parts.before ≤ n) begins.first none in
             let parts : v.parts.before ≡ w.parts.before = sym (take_all (length w.parts.before) v.parts.before few) ∙ begins.before in
-            let fits : IsFitting c d q.pair = subst (λ (x : Part). IsFitting c d x.pair) begins.part (begins.at.same even (λ i x le at. absurd (let below : i < length v.parts.before = slice_get_within v.parts.before i x at in omega (arith, below, none, le)))) in
+            let fits : IsFitting c d q.pair = subst (λ (x : PairPart). IsFitting c d x.pair) begins.part (begins.at.same even (λ i x le at. absurd (let below : i < length v.parts.before = slice_get_within v.parts.before i x at in omega (arith, below, none, le)))) in
             let knows = knows_opened ps c d k k' (record { part = q; first = 0; next = 0; differs = false }) (moved s ∷ reverse w.open) (knows_moved ps c d k s (moved s) (reverse w.open) refl h.knows) new part_stands more same in
             way_fits k' (knows_closed ps c d k' (record { part = q; first = 0; next = 0; differs = false }) (moved s ∷ reverse w.open) knows (λ told. fits)) (λ told. fits) v opened parts asked listed
 
@@ -375,9 +375,9 @@ module _ (ps : List Pair) (c d : Collection) (k : Compared) (w : Walk) (h : Know
     pub pairs_first : ArePairsOf c d (pairs_of k'.known)
     pairs_first = rw more (pairs_push c d (pairs_of k.known) w.asked h.pairs new stands)
 
-    pub way_first : (q : Part) (v : Walk) (b : Step) → q.pair ≡ w.asked → w.parts.before ≡ [] → IsBegun ps c d q w.parts.before v.parts.before b → v.asked ≡ w.asked → v.open ≡ w.open → v.parts.items ≡ [] → IsUnderWay ps c d k' v b
+    pub way_first : (q : PairPart) (v : Walk) (b : WalkStep) → q.pair ≡ w.asked → w.parts.before ≡ [] → IsBegun ps c d q w.parts.before v.parts.before b → v.asked ≡ w.asked → v.open ≡ w.open → v.parts.items ≡ [] → IsComparing ps c d k' v b
     way_first q v b pair none begins asked opened listed =
-        let first : b.part.pair ≡ w.asked = ap (λ (x : Part). x.pair) begins.part ∙ pair in
+        let first : b.part.pair ≡ w.asked = ap (λ (x : PairPart). x.pair) begins.part ∙ pair in
         let knows = knows_opened ps c d k k' b [] (truly_but ps c d k [] h) (λ m. new (rw first at m)) (rw first stands) (rw first more) same in
         record {
           knows = rw (opened, kept) knows;
@@ -389,17 +389,17 @@ module _ (ps : List Pair) (c d : Collection) (k : Compared) (w : Walk) (h : Know
 -- ---- frames
 
 -- one more frame outside
-pub path_more : (c d : Collection) (r : EntryPair) (s : Step) (ss : List Step) (q : Part) (f : Frame) → PathFrom c d r (s ∷ ss) q → IsPairFrame c d (two_of c d s.part.pair) q.index f → (check : SubtypeCheck) (gs : List Frame) (g : Fault) → IsPath c d check q.pair gs g → IsPath c d check s.part.pair (f ∷ gs) g
+pub path_more : (c d : Collection) (r : EntryPair) (s : WalkStep) (ss : List WalkStep) (q : PairPart) (f : Frame) → PathFrom c d r (s ∷ ss) q → IsPairFrame c d (two_of c d s.part.pair) q.index f → (check : SubtypeCheck) (gs : List Frame) (g : Fault) → IsWalkPath c d check q.pair gs g → IsWalkPath c d check s.part.pair (f ∷ gs) g
 path_more c d r s ss q f h is check gs g path = h.1.1.leads check f is gs g path
 
 -- ---- a pair that was added, or was there
 
-nothing_left : (xs : List Step) → length xs ≡ 0 → xs ≡ []
+nothing_left : (xs : List WalkStep) → length xs ≡ 0 → xs ≡ []
 nothing_left [] e = refl
 nothing_left (x ∷ xs) e = absurd (omega (arith, e))
 
-pub none_popped : (xs ys : List Step) → xs ≡ ys ++ [] → length ys ≡ 0 → xs ≡ []
-none_popped xs ys e none = e ∙ ap (λ (zs : List Step). zs ++ []) (nothing_left ys none)
+pub none_popped : (xs ys : List WalkStep) → xs ≡ ys ++ [] → length ys ≡ 0 → xs ≡ []
+none_popped xs ys e none = e ∙ ap (λ (zs : List WalkStep). zs ++ []) (nothing_left ys none)
 
 module _ (old new : List EntryPair) (p : EntryPair) (answer : Result Bool AllocError) (there : answer ≡ Ok false → Contains old p) (added : answer ≡ Ok true → new ≡ old ++ p ∷ []) (same : (answer ≡ Ok true → ⊥) → new ≡ old) where
   pub add_keeps : (b : Bool) → answer ≡ Ok b → (q : EntryPair) → Contains old q → Contains new q
@@ -415,7 +415,7 @@ module _ (old new : List EntryPair) (p : EntryPair) (answer : Result Bool AllocE
   add_there false is = subst (λ (xs : List EntryPair). Contains xs p) (sym (same (λ e. absurd (cc (e, is))))) (there is)
 
 -- the pairs of all steps were added
-pub all_noted : (c d : Collection) (r : EntryPair) (k k' : Compared) (ss : List Step) → pairs_of k'.known ≡ pairs_of k.known → ((p : EntryPair) → Contains (pairs_of k.unfit) p → Contains (pairs_of k'.unfit) p) → ((p : EntryPair) → Contains (pairs_of k'.unfit) p → Contains (pairs_of k.unfit) p ⊎ IsOpen ss p) → ((j : ℕ) (s : Step) → slice_get ss j ≡ Some s → Contains (pairs_of k'.unfit) s.part.pair) → KnowsBut [] c d k (reverse ss) → IsPathTo c d r (reverse ss) → KnowsTruly c d k'
+pub all_noted : (c d : Collection) (r : EntryPair) (k k' : Compared) (ss : List WalkStep) → pairs_of k'.known ≡ pairs_of k.known → ((p : EntryPair) → Contains (pairs_of k.unfit) p → Contains (pairs_of k'.unfit) p) → ((p : EntryPair) → Contains (pairs_of k'.unfit) p → Contains (pairs_of k.unfit) p ⊎ IsOpen ss p) → ((j : ℕ) (s : WalkStep) → slice_get ss j ≡ Some s → Contains (pairs_of k'.unfit) s.part.pair) → KnowsBut [] c d k (reverse ss) → IsPathTo c d r (reverse ss) → KnowsTruly c d k'
 all_noted c d r k k' ss known kept only added h path = record {
   pairs = rw known h.pairs;
   unfit = λ p m. elim (only p m) [
@@ -428,24 +428,24 @@ all_noted c d r k k' ss known kept only added h path = record {
   ];
 }
   where
-    has_reverse : (xs : List Step) (s : Step) → Contains xs s → Contains (reverse xs) s
-    has_reverse xs s m = reverse_has (reverse xs) s (subst (λ (ys : List Step). Contains ys s) (sym (reverse-reverse xs)) m)
+    has_reverse : (xs : List WalkStep) (s : WalkStep) → Contains xs s → Contains (reverse xs) s
+    has_reverse xs s m = reverse_has (reverse xs) s (subst (λ (ys : List WalkStep). Contains ys s) (sym (reverse-reverse xs)) m)
 
 -- ---- items
 
 -- what is named of two items
-pub named_pair : (l r : Collection) (w : Bool) (i : ℕ) (x y : ItemKind) (ms ns os : List Part) (q : Part) → w ≡ false → ms ≡ [] → AreItemsNamed l r w i x y ms ns named.Fits → ns ≡ os ++ q ∷ [] → (os ≡ []) × (q.pair.swapped ≡ false) × AreOfItems l r x y (entries_of l r q.pair)
-named_pair l r w i x y ms ns os q straight none (inl one) e = absurd (let nothing = sym none ∙ sym one.0 ∙ e in let long = ap (λ (xs : List Part). length xs) nothing in omega (arith, long, length-append os (q ∷ [])))
+pub named_pair : (l r : Collection) (w : Bool) (i : ℕ) (x y : ItemKind) (ms ns os : List PairPart) (q : PairPart) → w ≡ false → ms ≡ [] → AreItemsNamed l r w i x y ms ns named.Fits → ns ≡ os ++ q ∷ [] → (os ≡ []) × (q.pair.swapped ≡ false) × AreOfItems l r x y (entries_of l r q.pair)
+named_pair l r w i x y ms ns os q straight none (inl one) e = absurd (let nothing = sym none ∙ sym one.0 ∙ e in let long = ap (λ (xs : List PairPart). length xs) nothing in omega (arith, long, length-append os (q ∷ [])))
 named_pair l r w i x y ms ns os q straight none (inr put) e = elim put.3 [
-  | inl there ↦ absurd (let m = subst (λ (xs : List Part). Contains xs there.1.0) none there.1.1 in omega (arith, m.1))
+  | inl there ↦ absurd (let m = subst (λ (xs : List PairPart). Contains xs there.1.0) none there.1.1 in omega (arith, m.1))
   | inr new ↦ (
       let alone = rw none at new in
       let last = same_from_push [] os (record { pair = put.0; index = i }) q (sym alone ∙ e) in
-      let same : put.0 ≡ q.pair = ap (λ (z : Part). z.pair) last.1 in
+      let same : put.0 ≡ q.pair = ap (λ (z : PairPart). z.pair) last.1 in
       (sym last.0, subst (λ (p : EntryPair). p.swapped ≡ false) same (put.1 ∙ straight), subst (λ (p : EntryPair). AreOfItems l r x y (entries_of l r p)) same put.2))
 ]
 
-pub named_none : (l r : Collection) (w : Bool) (i : ℕ) (x y : ItemKind) (ms ns : List Part) → AreItemsNamed l r w i x y ms ns named.Fits → length ns ≡ 0 → Fits (item_tree l x) (item_tree r y)
+pub named_none : (l r : Collection) (w : Bool) (i : ℕ) (x y : ItemKind) (ms ns : List PairPart) → AreItemsNamed l r w i x y ms ns named.Fits → length ns ≡ 0 → Fits (item_tree l x) (item_tree r y)
 named_none l r w i x y ms ns (inl one) e = one.1
 named_none l r w i x y ms ns (inr put) e = absurd (let there = put_named i put.0 ms ns put.3 in omega (arith, there.1.1, e))
 
@@ -468,7 +468,7 @@ module _ (l r : Collection) (x y : ItemKind) (p : EntryPair) (straight : p.swapp
   answer_named (Err e) h = tt
 
   -- it is believed to
-  pub named_told : (ps : List Pair) → IsAmong ps l r p → MayBelieve ps l r x y → Fits (item_tree l x) (item_tree r y)
+  pub named_told : (ps : List Pair) → IsPairAmong ps l r p → MayBelieve ps l r x y → Fits (item_tree l x) (item_tree r y)
   named_told ps among may = named_fits (among_fits ps l r p named_stands among (may (left_has_keys l r x y (entries_of l r p) of) (right_has_keys l r x y (entries_of l r p) of)))
 
 -- what is answered about the pair that is named for two items

@@ -12,8 +12,8 @@ use Rattle.wac_checker.specs.Cache.{AreInOrder, Pair}
 use Rattle.wac_checker.specs.Pairs.{IsFitting, id_in, left_of, right_of}
 use Rattle.wac_checker.specs.declared.cache.Believed.{Believed}
 use Rattle.wac_checker.specs.declared.parts.EntryPair.{EntryPair}
-use Rattle.wac_checker.specs.declared.parts.Sort.{Sort as PairSort}
-use Rattle.wac_checker.specs.declared.parts.Sort.TheVariants as sort
+use Rattle.wac_checker.specs.declared.parts.PairSort.{PairSort}
+use Rattle.wac_checker.specs.declared.parts.PairSort.TheVariants as sort
 
 abbrev pub keys_if_any : {S : Type 0} → Option (HashSet Pair S) → List Pair
 keys_if_any None = []
@@ -42,8 +42,8 @@ type_by sort.Module a = OfType (TypeModule a)
 abbrev pub AreAmong : List Pair → Collection → Collection → EntryPair → Type 0
 AreAmong ps l r p = Contains ps (item_by p.sort (id_in l p.left), item_by p.sort (id_in r p.right)) ⊎ Contains ps (type_by p.sort (id_in l p.left), type_by p.sort (id_in r p.right))
 
-abbrev pub IsAmong : List Pair → Collection → Collection → EntryPair → Type 0
-IsAmong ps c d p = AreAmong ps (left_of c d p.swapped) (right_of c d p.swapped) p
+abbrev pub IsPairAmong : List Pair → Collection → Collection → EntryPair → Type 0
+IsPairAmong ps c d p = AreAmong ps (left_of c d p.swapped) (right_of c d p.swapped) p
 
 -- a pair fits, if the pairs that are believed are in the order
 abbrev pub IsFittingBy : List Pair → Collection → Collection → EntryPair → Type 0

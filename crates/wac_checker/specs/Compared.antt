@@ -9,7 +9,7 @@ use Rattle.wac_checker.specs.Cache.{AreInOrder, Pair}
 use Rattle.wac_checker.specs.Listing.{AreItemsNamed, AreTreesApart}
 use Rattle.wac_checker.specs.Pairs.{AreOfItems, ArePairsOf, IsFitting, IsStanding, entries_of}
 use Rattle.wac_checker.specs.declared.parts.Named.TheVariants as named
-use Rattle.wac_checker.specs.declared.parts.Part.{Part}
+use Rattle.wac_checker.specs.declared.parts.PairPart.{PairPart}
 use Rattle.wac_checker.specs.Known.{pairs_of}
 use Rattle.wac_mismatch.specs.declared.check.SubtypeCheck.{SubtypeCheck}
 use Rattle.wac_mismatch.specs.declared.error.SubtypeError.{SubtypeError}
@@ -20,7 +20,7 @@ use Rattle.wac_checker.specs.declared.compared.Compared.{Compared}
 use Rattle.wac_checker.specs.declared.parts.EntryPair.{EntryPair}
 use Rattle.wac_checker.specs.declared.walk.Found.{Found}
 use Rattle.wac_checker.specs.declared.walk.Found.TheVariants as found
-use Rattle.wac_checker.specs.declared.walk.Step.{Step}
+use Rattle.wac_checker.specs.declared.walk.WalkStep.{WalkStep}
 use Rattle.wac_checker.specs.declared.walk.Walk.{Walk}
 
 -- what is known is true of two collections: each pair stands, and all fit but those that are said not to
@@ -31,13 +31,13 @@ pub record KnowsTruly (c d : Collection) (k : Compared) : Type 0 where
 
 -- the same but for the pairs of steps, which are known and being compared, and if what is believed is
 -- in the order
-pub record KnowsBut (ps : List Pair) (c d : Collection) (k : Compared) (ss : List Step) : Type 0 where
+pub record KnowsBut (ps : List Pair) (c d : Collection) (k : Compared) (ss : List WalkStep) : Type 0 where
   pub pairs : ArePairsOf c d (pairs_of k.known)
   pub unfit : (p : EntryPair) → Contains (pairs_of k.unfit) p → IsStanding c d p × (¬ (IsFitting c d p))
   pub known : (p : EntryPair) → Contains (pairs_of k.known) p → (IsFittingBy ps c d p ⊎ Contains (pairs_of k.unfit) p) ⊎ IsOpen ss p
 
 -- a comparison is at a step
-pub record IsUnderWay (ps : List Pair) (c d : Collection) (k : Compared) (w : Walk) (s : Step) : Type 0 where
+pub record IsComparing (ps : List Pair) (c d : Collection) (k : Compared) (w : Walk) (s : WalkStep) : Type 0 where
   pub knows : KnowsBut ps c d k (s ∷ reverse w.open)
   pub at : IsAtStep ps c d w.parts.before s s.next
   pub lead : LeadFrom ps c d w.asked (take s.first w.parts.before) (reverse w.open) s.part
@@ -50,12 +50,12 @@ IsAnswered ps c d k w true = AreInOrder c d ps → KnowsTruly c d k × IsFitting
 IsAnswered ps c d k w false = KnowsBut ps c d k (reverse w.open) × IsPathTo c d w.asked (reverse w.open)
 
 -- it goes on, or has come to an end
-abbrev pub IsGoingOn : List Pair → Collection → Collection → Compared → Walk → Step → Option Bool → Type 0
-IsGoingOn ps c d k w s None = IsUnderWay ps c d k w s
+abbrev pub IsGoingOn : List Pair → Collection → Collection → Compared → Walk → WalkStep → Option Bool → Type 0
+IsGoingOn ps c d k w s None = IsComparing ps c d k w s
 IsGoingOn ps c d k w s (Some b) = IsAnswered ps c d k w b
 
 -- what is named of two items that are asked about
-abbrev pub AreNamedAlone : Collection → Collection → ItemKind → ItemKind → List Part → Type 0
+abbrev pub AreNamedAlone : Collection → Collection → ItemKind → ItemKind → List PairPart → Type 0
 AreNamedAlone c d x y ms = AreItemsNamed c d false 0 x y [] ms named.Fits
 
 -- two items fit, or the open steps lead from the pair that is named for them to one that doesn't

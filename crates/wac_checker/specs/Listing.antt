@@ -18,10 +18,10 @@ use Rattle.wac_component.specs.declared.items.ItemKind.{ItemKind}
 use Rattle.wac_component.specs.declared.items.ValueType.{ValueType}
 use Rattle.wac_mismatch.specs.Place.{Side, value_side, item_side, place, by_check, expected_of, found_of}
 use Rattle.wac_mismatch.specs.Path.{Path}
-use Rattle.wac_mismatch.specs.Holds.{Holds, IsKind, IsOfNames}
+use Rattle.wac_mismatch.specs.Holds.{Holds, IsKindFault, IsOfNames}
 use Rattle.wac_mismatch.specs.declared.fault.CountOf.{CountOf}
 use Rattle.wac_mismatch.specs.declared.fault.NameOf.{NameOf}
-use Rattle.wac_mismatch.specs.Steps.{IsName, IsParamName, IsCaseType}
+use Rattle.wac_mismatch.specs.Steps.{IsNameFault, IsParamName, IsCaseType}
 use Rattle.wac_mismatch.specs.declared.check.SubtypeCheck.{SubtypeCheck}
 use Rattle.wac_mismatch.specs.declared.check.SubtypeCheck.TheVariants.{Covariant}
 use Rattle.wac_mismatch.specs.declared.fault.ResultPart.{ResultPart}
@@ -41,7 +41,7 @@ use Rattle.wac_checker.specs.declared.parts.Difference.TheVariants as difference
 use Rattle.wac_checker.specs.declared.parts.EntryPair.{EntryPair}
 use Rattle.wac_checker.specs.declared.parts.Named.{Named}
 use Rattle.wac_checker.specs.declared.parts.Named.TheVariants as named
-use Rattle.wac_checker.specs.declared.parts.Part.{Part}
+use Rattle.wac_checker.specs.declared.parts.PairPart.{PairPart}
 use Rattle.wac_checker.specs.declared.sides.Sides.{Sides}
 use Rattle.wac_checker.specs.declared.parts.Turn.{Turn}
 use Rattle.wac_checker.specs.declared.parts.Turn.TheVariants as turn
@@ -55,7 +55,7 @@ AreNamesOf _ x y = ⊥
 
 -- a difference is this fault in a direction
 abbrev pub IsFaultOf : SubtypeCheck → Difference → Fault → Type 0
-IsFaultOf c (difference.Kinds a b) f = IsKind f (expected_of c a.now b.now) (found_of c a.now b.now)
+IsFaultOf c (difference.Kinds a b) f = IsKindFault f (expected_of c a.now b.now) (found_of c a.now b.now)
 IsFaultOf c (difference.Resources a b) f = AreNamesOf f (expected_of c (string_bytes a.now) (string_bytes b.now)) (found_of c (string_bytes a.now) (string_bytes b.now))
 IsFaultOf c (difference.Async a b) f = f ≡ fault.Async (expected_of c a b)
 IsFaultOf c (difference.ParamCount a b) f = f ≡ fault.ParamCount (expected_of c a b) (found_of c a b)
@@ -65,7 +65,7 @@ IsFaultOf c difference.FixedSize f = f ≡ fault.FixedSize
 IsFaultOf c (difference.ResultPart p a b) f = f ≡ fault.ResultPart p (expected_of c a b)
 IsFaultOf c (difference.Payload a b) f = f ≡ fault.Payload (expected_of c a b)
 IsFaultOf c (difference.Count o a b) f = f ≡ fault.Count o (expected_of c a b) (found_of c a b)
-IsFaultOf c (difference.Name o i a b) f = IsName f o i (expected_of c (string_bytes a.now) (string_bytes b.now)) (found_of c (string_bytes a.now) (string_bytes b.now))
+IsFaultOf c (difference.Name o i a b) f = IsNameFault f o i (expected_of c (string_bytes a.now) (string_bytes b.now)) (found_of c (string_bytes a.now) (string_bytes b.now))
 IsFaultOf c (difference.CaseType n a b) f = IsCaseType f (string_bytes n.now) (expected_of c a b)
 IsFaultOf c (difference.MissingExport h k n) f = IsMissingExport h.now k.now (string_bytes n.now) c f
 IsFaultOf c (difference.MissingImport k n) f = IsMissingImport k.now (string_bytes n.now) c f
@@ -87,23 +87,23 @@ func_side k c f = item_side (leaf k (func (func_content_tree c f)))
 -- ---- parts
 
 -- the pairs of these parts fit
-abbrev pub AllFit : Collection → Collection → List Part → Type 0
-AllFit c d ms = (q : Part) → Contains ms q → IsFitting c d q.pair
+abbrev pub AllFit : Collection → Collection → List PairPart → Type 0
+AllFit c d ms = (q : PairPart) → Contains ms q → IsFitting c d q.pair
 
 -- the same, told from two sides, which are those of the comparison or, swapped, the other way round
-abbrev pub AllFitBy : Collection → Collection → Bool → List Part → Type 0
+abbrev pub AllFitBy : Collection → Collection → Bool → List PairPart → Type 0
 AllFitBy l r s ms = AllFit (left_of l r s) (right_of l r s) ms
 
 -- the pair is named
-abbrev pub IsNamed : List Part → EntryPair → Type 0
-IsNamed ms p = (q : Part) × Contains ms q × (q.pair ≡ p)
+abbrev pub IsNamed : List PairPart → EntryPair → Type 0
+IsNamed ms p = (q : PairPart) × Contains ms q × (q.pair ≡ p)
 
 -- a pair is named as the part of an index, unless it was before
-abbrev pub IsPut : ℕ → EntryPair → List Part → List Part → Type 0
+abbrev pub IsPut : ℕ → EntryPair → List PairPart → List PairPart → Type 0
 IsPut i p ms ns = ((ns ≡ ms) × IsNamed ms p) ⊎ (ns ≡ ms ++ (record { pair = p; index = i }) ∷ [])
 
 -- two entries are one, or they are named
-abbrev pub AreNamedUnless : Bool → ℕ → EntryPair → List Part → List Part → Named → Type 0
+abbrev pub AreNamedUnless : Bool → ℕ → EntryPair → List PairPart → List PairPart → Named → Type 0
 AreNamedUnless same i p ms ns named.Fits = ((same ≡ true) × (ns ≡ ms)) ⊎ IsPut i p ms ns
 AreNamedUnless same i p ms ns named.Differs = ⊥
 AreNamedUnless same i p ms ns named.Memory = Unit {0}
@@ -126,24 +126,24 @@ abbrev pub AreLeavesApart : ValueTree → ValueTree → Type 0
 AreLeavesApart s t = AreOtherKinds s t ⊎ AreOtherLeaves s t
 
 -- two value types are one, or so far as two entries are that are named, or they differ
-abbrev pub AreValuesNamed : Collection → Collection → Bool → ℕ → ValueType → ValueType → List Part → List Part → Named → Type 0
+abbrev pub AreValuesNamed : Collection → Collection → Bool → ℕ → ValueType → ValueType → List PairPart → List PairPart → Named → Type 0
 AreValuesNamed l r s i v w ms ns named.Fits = ((ns ≡ ms) × (value_tree l v ≡ value_tree r w)) ⊎ ((p : EntryPair) × (p.swapped ≡ s) × AreOf l r v w (entries_of l r p) × IsPut i p ms ns)
 AreValuesNamed l r s i v w ms ns named.Differs = (ns ≡ ms) × AreLeavesApart (value_tree l v) (value_tree r w)
 AreValuesNamed l r s i v w ms ns named.Memory = Unit {0}
 
 -- a part of two sides, which is lower than these heights
-abbrev pub IsMemberOf : Collection → Collection → Bool → Side → Side → ℕ → ℕ → Part → Type 0
+abbrev pub IsMemberOf : Collection → Collection → Bool → Side → Side → ℕ → ℕ → PairPart → Type 0
 IsMemberOf l r w s t m n q = IsIndex s q.index × (q.pair.swapped ≡ w) × HaveAt l r s t m n q.index (entries_of l r q.pair)
 
-abbrev pub AreMembersOf : Collection → Collection → Bool → Side → Side → ℕ → ℕ → List Part → Type 0
-AreMembersOf l r w s t m n ms = (q : Part) → Contains ms q → IsMemberOf l r w s t m n q
+abbrev pub AreMembersOf : Collection → Collection → Bool → Side → Side → ℕ → ℕ → List PairPart → Type 0
+AreMembersOf l r w s t m n ms = (q : PairPart) → Contains ms q → IsMemberOf l r w s t m n q
 
 -- the frame to a part leads from two sides to the fault
 abbrev pub DifferAtIn : ℕ → Difference → Side → Side → Type 0
 DifferAtIn i x s t = (c : SubtypeCheck) (f : Frame) (g : Fault) → IsFrameAt s i f → IsFaultOf c x g → Path (f ∷ []) g (place c s t)
 
 -- what is found of two sides whose parts are listed
-abbrev pub IsSideTurn : Collection → Collection → Bool → Side → Side → ℕ → ℕ → List Part → Turn → Type 0
+abbrev pub IsSideTurn : Collection → Collection → Bool → Side → Side → ℕ → ℕ → List PairPart → Turn → Type 0
 IsSideTurn l r w s t m n ms turn.End = AreMembersOf l r w s t m n ms × (AllFitBy l r w ms → s ≡ t)
 IsSideTurn l r w s t m n ms (turn.Apart x) = AreMembersOf l r w s t m n ms × IsReal x × DifferIn x s t
 IsSideTurn l r w s t m n ms (turn.PartApart i b x) = AreMembersOf l r w s t m n ms × (b ≡ false) × IsIndex s i × DifferAtIn i x s t × (s ≢ t)
@@ -154,14 +154,14 @@ abbrev pub members_height : Collection → List ValueType → ℕ
 members_height c vs = keys_height c (flat_map value_keys vs) + 1
 
 -- what is found of two value types of these labels and members
-abbrev pub AreComposed : Collection → Collection → Bool → ValueLabel → List ValueType → ValueLabel → List ValueType → List Part → Turn → Type 0
+abbrev pub AreComposed : Collection → Collection → Bool → ValueLabel → List ValueType → ValueLabel → List ValueType → List PairPart → Turn → Type 0
 AreComposed l r w a vs b ws ms t = IsSideTurn l r w (composed_side l a vs) (composed_side r b ws) (members_height l vs) (members_height r ws) ms t
 
 -- the same of two records, by the entries of their fields, and of two variants, by those of their cases
-abbrev pub AreRecords : Collection → Collection → Bool → List (String Global × ValueType) → List (String Global × ValueType) → List Part → Turn → Type 0
+abbrev pub AreRecords : Collection → Collection → Bool → List (String Global × ValueType) → List (String Global × ValueType) → List PairPart → Turn → Type 0
 AreRecords l r w es fs ms t = AreComposed l r w (record_of (names es)) (types_of es) (record_of (names fs)) (types_of fs) ms t
 
-abbrev pub AreVariants : Collection → Collection → Bool → List (String Global × Option ValueType) → List (String Global × Option ValueType) → List Part → Turn → Type 0
+abbrev pub AreVariants : Collection → Collection → Bool → List (String Global × Option ValueType) → List (String Global × Option ValueType) → List PairPart → Turn → Type 0
 AreVariants l r w es fs ms t = IsSideTurn l r w (variant_side l es) (variant_side r fs) (members_height l (case_types es)) (members_height r (case_types fs)) ms t
 
 -- two sides differ themselves
@@ -175,26 +175,26 @@ place_of result_part.Ok = 0
 place_of result_part.Err = 1
 
 -- what is found of two sides whose parts are listed up to a place
-abbrev pub IsTurnTo : Collection → Collection → Bool → Side → Side → ℕ → ℕ → ℕ → List Part → Turn → Type 0
+abbrev pub IsTurnTo : Collection → Collection → Bool → Side → Side → ℕ → ℕ → ℕ → List PairPart → Turn → Type 0
 IsTurnTo l r w s t m n i ms turn.End = AreMembersOf l r w s t m n ms × (AllFitBy l r w ms → SameBefore s t i)
 IsTurnTo l r w s t m n i ms x = IsSideTurn l r w s t m n ms x
 
 -- what is found of two functions, as items and as types: of their parameters, or of all
-abbrev pub IsFuncTurn : Collection → Collection → Bool → FuncContent → FuncContent → List Part → Turn → Type 0
+abbrev pub IsFuncTurn : Collection → Collection → Bool → FuncContent → FuncContent → List PairPart → Turn → Type 0
 IsFuncTurn l r w f g ms t = (k : Kind) → IsSideTurn l r w (func_side k l f) (func_side k r g) (keys_height l (func_keys f) + 1) (keys_height r (func_keys g) + 1) ms t
 
-abbrev pub IsParamsTurn : Collection → Collection → Bool → FuncContent → FuncContent → List Part → Turn → Type 0
+abbrev pub IsParamsTurn : Collection → Collection → Bool → FuncContent → FuncContent → List PairPart → Turn → Type 0
 IsParamsTurn l r w f g ms t = (k : Kind) → IsTurnTo l r w (func_side k l f) (func_side k r g) (keys_height l (func_keys f) + 1) (keys_height r (func_keys g) + 1) (length f.params) ms t
 
 -- what is found of the last parts
-abbrev pub IsLastTurn : Collection → Collection → Bool → ℕ → ValueType → ValueType → List Part → List Part → Turn → Type 0
+abbrev pub IsLastTurn : Collection → Collection → Bool → ℕ → ValueType → ValueType → List PairPart → List PairPart → Turn → Type 0
 IsLastTurn l r w i v x ms ns turn.End = AreValuesNamed l r w i v x ms ns named.Fits
 IsLastTurn l r w i v x ms ns (turn.Apart d) = ⊥
 IsLastTurn l r w i v x ms ns (turn.PartApart j b d) = (j ≡ i) × (b ≡ false) × (ns ≡ ms) × DifferIn d (value_side (value_tree l v)) (value_side (value_tree r x)) × (value_tree l v ≢ value_tree r x)
 IsLastTurn l r w i v x ms ns turn.Memory = Unit {0}
 
 -- the same of what may be there: where only one is, that is what they differ in
-abbrev pub IsOptionalTurn : Collection → Collection → Bool → ℕ → Difference → Option ValueType → Option ValueType → List Part → List Part → Turn → Type 0
+abbrev pub IsOptionalTurn : Collection → Collection → Bool → ℕ → Difference → Option ValueType → Option ValueType → List PairPart → List PairPart → Turn → Type 0
 IsOptionalTurn l r w i d (Some v) (Some x) ms ns t = IsLastTurn l r w i v x ms ns t
 IsOptionalTurn l r w i d None None ms ns t = (ns ≡ ms) × (t ≡ turn.End)
 IsOptionalTurn l r w i d o p ms ns t = (ns ≡ ms) × (t ≡ turn.Apart d)
@@ -221,28 +221,28 @@ AreTreesApart (leaf type_item (resource x)) (leaf type_item (resource y)) = x �
 AreTreesApart s t = Unit {0}
 
 -- two items fit, or so far as two entries do that are named, or they differ
-abbrev pub AreItemsNamed : Collection → Collection → Bool → ℕ → ItemKind → ItemKind → List Part → List Part → Named → Type 0
+abbrev pub AreItemsNamed : Collection → Collection → Bool → ℕ → ItemKind → ItemKind → List PairPart → List PairPart → Named → Type 0
 AreItemsNamed l r w i x y ms ns named.Fits = ((ns ≡ ms) × Fits (item_tree l x) (item_tree r y)) ⊎ ((p : EntryPair) × (p.swapped ≡ w) × AreOfItems l r x y (entries_of l r p) × IsPut i p ms ns)
 AreItemsNamed l r w i x y ms ns named.Differs = (ns ≡ ms) × AreTreesApart (item_tree l x) (item_tree r y) × (¬ (Fits (item_tree l x) (item_tree r y)))
 AreItemsNamed l r w i x y ms ns named.Memory = Unit {0}
 
-abbrev pub Externs : Type 0
-Externs = List (Text × ItemKind)
+abbrev pub KindsByName : Type 0
+KindsByName = List (Text × ItemKind)
 
 -- a part is what is asked for at a place, which is told from a first one, and what is there of its name
-abbrev pub IsExternOf : Collection → Collection → Bool → ℕ → Externs → Externs → Part → Type 0
+abbrev pub IsExternOf : Collection → Collection → Bool → ℕ → KindsByName → KindsByName → PairPart → Type 0
 IsExternOf l r w first es ts q = (j : ℕ) × (q.index ≡ first + j) × (q.pair.swapped ≡ w) × IsExternPart Covariant l r es ts j (Below (record { entries = entries_of l r q.pair; swapped = false }))
 
 -- more parts are such
-abbrev pub AreExternsOf : Collection → Collection → Bool → ℕ → Externs → Externs → List Part → List Part → Type 0
-AreExternsOf l r w first es ts ms ns = ((q : Part) → Contains ms q → Contains ns q) × ((q : Part) → Contains ns q → Contains ms q ⊎ IsExternOf l r w first es ts q)
+abbrev pub AreExternsOf : Collection → Collection → Bool → ℕ → KindsByName → KindsByName → List PairPart → List PairPart → Type 0
+AreExternsOf l r w first es ts ms ns = ((q : PairPart) → Contains ms q → Contains ns q) × ((q : PairPart) → Contains ns q → Contains ms q ⊎ IsExternOf l r w first es ts q)
 
 -- what is asked for before a place is there, and fits, where the pairs do
-abbrev pub AreServedTo : Collection → Collection → Bool → Externs → Externs → ℕ → List Part → Type 0
+abbrev pub AreServedTo : Collection → Collection → Bool → KindsByName → KindsByName → ℕ → List PairPart → Type 0
 AreServedTo l r w es ts i ns = AllFitBy l r w ns → (j : ℕ) → j < i → IsExternPart Covariant l r es ts j Same
 
 -- these items have the name of what is asked for at a place, and differ themselves
-abbrev pub DifferThere : Collection → Collection → Externs → Externs → ℕ → Difference → Type 0
+abbrev pub DifferThere : Collection → Collection → KindsByName → KindsByName → ℕ → Difference → Type 0
 DifferThere l r es ts j x = IsPlace ts j × ((n : Text) × (a : ItemKind) × (b : ItemKind) × AreNamed es ts j n a b × DifferIn x (item_side (item_tree l a)) (item_side (item_tree r b)) × (¬ (Fits (item_tree l a) (item_tree r b))))
 
 -- the fault of a difference holds of what exports these, be it an interface or a world
@@ -254,50 +254,50 @@ abbrev pub DifferInImports : Difference → Items → Items → Type 0
 DifferInImports x is is' = (k : Kind) (es es' : Items) → DifferIn x (item_side (composite k world is es)) (item_side (composite k world is' es'))
 
 -- what is found of the exports of two interfaces or worlds
-abbrev pub IsExportsTurn : Collection → Collection → Bool → Text → ℕ → Externs → Externs → List Part → List Part → Turn → Type 0
+abbrev pub IsExportsTurn : Collection → Collection → Bool → Text → ℕ → KindsByName → KindsByName → List PairPart → List PairPart → Turn → Type 0
 IsExportsTurn l r w h first es ts ms ns turn.End = AreExternsOf l r w first es ts ms ns × AreServedTo l r w es ts (length ts) ns
 IsExportsTurn l r w h first es ts ms ns (turn.Apart x) = AreExternsOf l r w first es ts ms ns × IsReal x × DifferInExports x h (items_of (item_tree l) es) (items_of (item_tree r) ts)
 IsExportsTurn l r w h first es ts ms ns (turn.PartApart i b x) = AreExternsOf l r w first es ts ms ns × (b ≡ false) × ((j : ℕ) × (i ≡ first + j) × DifferThere l r es ts j x)
 IsExportsTurn l r w h first es ts ms ns turn.Memory = Unit {0}
 
 -- and of the imports of two worlds: the sides change places
-abbrev pub IsImportsTurn : Collection → Collection → Bool → Externs → Externs → List Part → Turn → Type 0
+abbrev pub IsImportsTurn : Collection → Collection → Bool → KindsByName → KindsByName → List PairPart → Turn → Type 0
 IsImportsTurn l r w is js ns turn.End = AreExternsOf r l (not w) 0 js is [] ns × AreServedTo r l (not w) js is (length is) ns
 IsImportsTurn l r w is js ns (turn.Apart x) = AreExternsOf r l (not w) 0 js is [] ns × IsReal x × DifferInImports x (items_of (item_tree l) is) (items_of (item_tree r) js)
 IsImportsTurn l r w is js ns (turn.PartApart i b x) = AreExternsOf r l (not w) 0 js is [] ns × (b ≡ true) × DifferThere r l js is i x
 IsImportsTurn l r w is js ns turn.Memory = Unit {0}
 
 -- the same words, told from the two collections of a comparison
-abbrev pub IsExportsListed : Sides → Text → ℕ → Externs → Externs → List Part → List Part → Turn → Type 0
+abbrev pub IsExportsListed : Sides → Text → ℕ → KindsByName → KindsByName → List PairPart → List PairPart → Turn → Type 0
 IsExportsListed s h first es ts ms ns t = IsExportsTurn s.left.now s.right.now s.swapped h first es ts ms ns t
 
-abbrev pub IsOptionalListed : Sides → ℕ → Difference → Option ValueType → Option ValueType → List Part → List Part → Turn → Type 0
+abbrev pub IsOptionalListed : Sides → ℕ → Difference → Option ValueType → Option ValueType → List PairPart → List PairPart → Turn → Type 0
 IsOptionalListed s i d o p ms ns t = IsOptionalTurn s.left.now s.right.now s.swapped i d o p ms ns t
 
 -- what is found of the results of two functions, after so many parameters
-abbrev pub IsResultListed : Sides → ℕ → Option ValueType → Option ValueType → List Part → List Part → Turn → Type 0
+abbrev pub IsResultListed : Sides → ℕ → Option ValueType → Option ValueType → List PairPart → List PairPart → Turn → Type 0
 IsResultListed s n o p ms ns t = IsOptionalListed s n (difference.FuncResult (is_some o) (is_some p)) o p ms ns t
 
 -- what is found of the payloads of two streams, or of two futures
-abbrev pub ArePayloads : Sides → (Bool → ValueLabel) → Option ValueType → Option ValueType → List Part → Turn → Type 0
+abbrev pub ArePayloads : Sides → (Bool → ValueLabel) → Option ValueType → Option ValueType → List PairPart → Turn → Type 0
 ArePayloads s label o p ms t = AreComposed s.left.now s.right.now s.swapped (label (is_some o)) (option_to_list o) (label (is_some p)) (option_to_list p) ms t
 
 -- ---- of two entries
 
 -- a part of two entries
-abbrev pub IsPartOf : Collection → Collection → Bool → Entries → Part → Type 0
+abbrev pub IsPartOf : Collection → Collection → Bool → Entries → PairPart → Type 0
 IsPartOf l r w e q = (b : Bool) × (q.pair.swapped ≡ flag_of w b) × HasPart l r e q.index × IsBelow l r e q.index (record { entries = entries_of (left_of l r b) (right_of l r b) q.pair; swapped = b })
 
-abbrev pub ArePartsOf : Collection → Collection → Bool → Entries → List Part → Type 0
-ArePartsOf l r w e ms = (q : Part) → Contains ms q → IsPartOf l r w e q
+abbrev pub ArePartsOf : Collection → Collection → Bool → Entries → List PairPart → Type 0
+ArePartsOf l r w e ms = (q : PairPart) → Contains ms q → IsPartOf l r w e q
 
 -- what is found of two entries whose parts are listed
-abbrev pub IsTurn : Collection → Collection → Bool → Entries → List Part → Turn → Type 0
+abbrev pub IsTurn : Collection → Collection → Bool → Entries → List PairPart → Turn → Type 0
 IsTurn l r w e ms turn.End = ArePartsOf l r w e ms × (AllFitBy l r w ms → EntriesFit l r e)
 IsTurn l r w e ms (turn.Apart x) = ArePartsOf l r w e ms × ((c : SubtypeCheck) (f : Fault) → IsFaultOf c x f → EntriesPath c l r e [] f) × (¬ (EntriesFit l r e))
 IsTurn l r w e ms (turn.PartApart i b x) = ArePartsOf l r w e ms × HasPart l r e i × ((c : SubtypeCheck) (f : Frame) (g : Fault) → IsFrameOf l r e i f → IsFaultOf (check_of c b) x g → EntriesPath c l r e (f ∷ []) g) × (¬ (EntriesFit l r e))
 IsTurn l r w e ms turn.Memory = Unit {0}
 
 -- the same of a pair
-abbrev pub IsPairTurn : Collection → Collection → EntryPair → List Part → Turn → Type 0
+abbrev pub IsPairTurn : Collection → Collection → EntryPair → List PairPart → Turn → Type 0
 IsPairTurn c d p ms t = let l = left_of c d p.swapped in let r = right_of c d p.swapped in IsTurn l r p.swapped (entries_of l r p) ms t

@@ -20,8 +20,8 @@ use Rattle.wac_mismatch.specs.declared.fault.Fault.{Fault}
 use Rattle.wac_mismatch.specs.declared.frame.Frame.{Frame}
 use Rattle.wac_checker.specs.Parts.{IsIndex, SamePart, SameBefore, AreAt, IsFrameAt, side_parts, listed, IsServedAt, IsExportFrame, IsImportFrame}
 use Rattle.wac_checker.specs.declared.parts.EntryPair.{EntryPair}
-use Rattle.wac_checker.specs.declared.parts.Sort.{Sort as PairSort}
-use Rattle.wac_checker.specs.declared.parts.Sort.TheVariants as sort
+use Rattle.wac_checker.specs.declared.parts.PairSort.{PairSort}
+use Rattle.wac_checker.specs.declared.parts.PairSort.TheVariants as sort
 
 -- ---- two entries
 
@@ -187,16 +187,16 @@ abbrev pub PartsFit : Collection → Collection → Entries → ℕ → Type 0
 PartsFit c d e i = (j : ℕ) → j < i → PartFits c d e j
 
 -- how many parts there are to compare
-abbrev pub part_count : Collection → Collection → Entries → ℕ
-part_count c d (DefinedTypes a b) = length (side_parts (value_side (value_tree c (Defined a))))
-part_count c d (Funcs a b) = length (side_parts (item_side (leaf item (func (func_tree c a)))))
-part_count c d (Interfaces a b) = length (listed (externs d (interface_key b)).exports)
-part_count c d (Worlds a b) = import_count c a + length (listed (externs d (world_key b)).exports)
-part_count c d (Modules a b) = 0
+abbrev pub compared_count : Collection → Collection → Entries → ℕ
+compared_count c d (DefinedTypes a b) = length (side_parts (value_side (value_tree c (Defined a))))
+compared_count c d (Funcs a b) = length (side_parts (item_side (leaf item (func (func_tree c a)))))
+compared_count c d (Interfaces a b) = length (listed (externs d (interface_key b)).exports)
+compared_count c d (Worlds a b) = import_count c a + length (listed (externs d (world_key b)).exports)
+compared_count c d (Modules a b) = 0
 
 -- there is a part at the place, and after it room for one more
 abbrev pub HasPart : Collection → Collection → Entries → ℕ → Type 0
-HasPart c d e i = (i < part_count c d e) × (i + 1 < 2 ^ 64)
+HasPart c d e i = (i < compared_count c d e) × (i + 1 < 2 ^ 64)
 
 -- the frame to the parts at a place
 abbrev pub IsFrameOf : Collection → Collection → Entries → ℕ → Frame → Type 0
@@ -232,12 +232,12 @@ abbrev pub id_in : Collection → ℕ → Id
 id_in c i = record { number = c.number; index = i }
 
 -- the key of an entry of a sort
-abbrev pub entry_key : PairSort → Id → Key
-entry_key sort.Defined a = defined_key a
-entry_key sort.Func a = func_key a
-entry_key sort.Interface a = interface_key a
-entry_key sort.World a = world_key a
-entry_key sort.Module a = module_key a
+abbrev pub sorted_key : PairSort → Id → Key
+sorted_key sort.Defined a = defined_key a
+sorted_key sort.Func a = func_key a
+sorted_key sort.Interface a = interface_key a
+sorted_key sort.World a = world_key a
+sorted_key sort.Module a = module_key a
 
 abbrev pub entries_by : PairSort → Id → Id → Entries
 entries_by sort.Defined a b = DefinedTypes a b
@@ -305,9 +305,9 @@ IsEntriesPart check c d e i Same = HasPart c d e i × PartFits c d e i
 IsEntriesPart check c d e i (Below q) = HasPart c d e i × IsBelow c d e i q
 
 -- the pair that stands below one that is swapped or isn't, told from the two collections
-abbrev pub placed : Bool → Two → Two
-placed false q = q
-placed true q = record { entries = q.entries; swapped = not q.swapped }
+abbrev pub placed_pair : Bool → Two → Two
+placed_pair false q = q
+placed_pair true q = record { entries = q.entries; swapped = not q.swapped }
 
 -- ---- pairs by indices
 
@@ -318,10 +318,10 @@ abbrev pub IsFitting : Collection → Collection → EntryPair → Type 0
 IsFitting c d p = PairFits c d (two_of c d p)
 
 -- no pair is twice in the list
-abbrev pub AreDistinct : List EntryPair → Type 0
-AreDistinct [] = Unit {0}
-AreDistinct (p ∷ ps) = (Contains ps p → ⊥) × AreDistinct ps
+abbrev pub ArePairsDistinct : List EntryPair → Type 0
+ArePairsDistinct [] = Unit {0}
+ArePairsDistinct (p ∷ ps) = (Contains ps p → ⊥) × ArePairsDistinct ps
 
 -- the pairs stand, and none is there twice
 abbrev pub ArePairsOf : Collection → Collection → List EntryPair → Type 0
-ArePairsOf c d ps = AreDistinct ps × ((p : EntryPair) → Contains ps p → IsStanding c d p)
+ArePairsOf c d ps = ArePairsDistinct ps × ((p : EntryPair) → Contains ps p → IsStanding c d p)

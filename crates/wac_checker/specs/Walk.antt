@@ -9,32 +9,32 @@ use Rattle.wac_checker.specs.Believed.{IsFittingBy}
 use Rattle.wac_checker.specs.Cache.{Pair}
 use Rattle.wac_checker.specs.Listing.{AllFit}
 use Rattle.wac_checker.specs.declared.parts.EntryPair.{EntryPair}
-use Rattle.wac_checker.specs.declared.parts.Part.{Part}
+use Rattle.wac_checker.specs.declared.parts.PairPart.{PairPart}
 use Rattle.wac_checker.specs.declared.sides.Sides.{Sides}
-use Rattle.wac_checker.specs.declared.walk.Step.{Step}
+use Rattle.wac_checker.specs.declared.walk.WalkStep.{WalkStep}
 
 -- a part of a pair: it is lower, and fits if the pair does
-abbrev pub IsPartOfPair : Collection → Collection → EntryPair → Part → Type 0
+abbrev pub IsPartOfPair : Collection → Collection → EntryPair → PairPart → Type 0
 IsPartOfPair c d p q = PairHasPart c d (two_of c d p) q.index × IsBelowPair c d (two_of c d p) q.index (two_of c d q.pair)
 
 -- these are the parts of a pair, up to the first difference: after them the two differ or don't
-pub record AreListed (c d : Collection) (p : EntryPair) (ms : List Part) (differs : Bool) : Type 0 where
-  pub parts : (q : Part) → Contains ms q → IsPartOfPair c d p q
+pub record AreListed (c d : Collection) (p : EntryPair) (ms : List PairPart) (differs : Bool) : Type 0 where
+  pub parts : (q : PairPart) → Contains ms q → IsPartOfPair c d p q
   pub same : differs ≡ false → AllFit c d ms → IsFitting c d p
   pub apart : differs ≡ true → ¬ (IsFitting c d p)
 
 -- the pair of a step stands, its parts stand on the list from a place on, and those before another
 -- place fit, if what is believed is in the order
-pub record IsAtStep (ps : List Pair) (c d : Collection) (l : List Part) (s : Step) (done : ℕ) : Type 0 where
+pub record IsAtStep (ps : List Pair) (c d : Collection) (l : List PairPart) (s : WalkStep) (done : ℕ) : Type 0 where
   pub stands : IsStanding c d s.part.pair
   pub within : (s.first ≤ done) × (done ≤ length l)
-  pub parts : (i : ℕ) (q : Part) → s.first ≤ i → slice_get l i ≡ Some q → IsPartOfPair c d s.part.pair q
-  pub fit : (i : ℕ) (q : Part) → s.first ≤ i → i < done → slice_get l i ≡ Some q → IsFittingBy ps c d q.pair
-  pub same : s.differs ≡ false → ((i : ℕ) (q : Part) → s.first ≤ i → slice_get l i ≡ Some q → IsFitting c d q.pair) → IsFitting c d s.part.pair
+  pub parts : (i : ℕ) (q : PairPart) → s.first ≤ i → slice_get l i ≡ Some q → IsPartOfPair c d s.part.pair q
+  pub fit : (i : ℕ) (q : PairPart) → s.first ≤ i → i < done → slice_get l i ≡ Some q → IsFittingBy ps c d q.pair
+  pub same : s.differs ≡ false → ((i : ℕ) (q : PairPart) → s.first ≤ i → slice_get l i ≡ Some q → IsFitting c d q.pair) → IsFitting c d s.part.pair
   pub apart : s.differs ≡ true → ¬ (IsFitting c d s.part.pair)
 
 -- a step begins with the parts of a pair, which are put on the list
-pub record IsBegun (ps : List Pair) (c d : Collection) (q : Part) (l m : List Part) (s : Step) : Type 0 where
+pub record IsBegun (ps : List Pair) (c d : Collection) (q : PairPart) (l m : List PairPart) (s : WalkStep) : Type 0 where
   pub part : s.part ≡ q
   pub first : s.first ≡ length l
   pub next : s.next ≡ length l
@@ -42,7 +42,7 @@ pub record IsBegun (ps : List Pair) (c d : Collection) (q : Part) (l m : List Pa
   pub at : IsAtStep ps c d m s (length l)
 
 -- a step leads to a part of its pair, which is the one before its next
-pub record LeadsTo (ps : List Pair) (c d : Collection) (l : List Part) (s : Step) (q : Part) : Type 0 where
+pub record LeadsTo (ps : List Pair) (c d : Collection) (l : List PairPart) (s : WalkStep) (q : PairPart) : Type 0 where
   pub place : ℕ
   pub next : s.next ≡ place + 1
   pub at : IsAtStep ps c d l s place
@@ -50,28 +50,28 @@ pub record LeadsTo (ps : List Pair) (c d : Collection) (l : List Part) (s : Step
 
 -- steps, the last one first, lead from a pair to a part: each stands on what is left of the list
 -- without the parts of those after it
-abbrev pub LeadFrom : List Pair → Collection → Collection → EntryPair → List Part → List Step → Part → Type 0
+abbrev pub LeadFrom : List Pair → Collection → Collection → EntryPair → List PairPart → List WalkStep → PairPart → Type 0
 LeadFrom ps c d r l [] q = q.pair ≡ r
 LeadFrom ps c d r l (s ∷ ss) q = LeadsTo ps c d l s q × LeadFrom ps c d r (take s.first l) ss s.part
 
 -- the pair of one of the steps
-abbrev pub IsOpen : List Step → EntryPair → Type 0
-IsOpen ss p = (s : Step) × Contains ss s × (s.part.pair ≡ p)
+abbrev pub IsOpen : List WalkStep → EntryPair → Type 0
+IsOpen ss p = (s : WalkStep) × Contains ss s × (s.part.pair ≡ p)
 
 -- steps, the last one first, are a path from a pair to a part
-abbrev pub PathFrom : Collection → Collection → EntryPair → List Step → Part → Type 0
+abbrev pub PathFrom : Collection → Collection → EntryPair → List WalkStep → PairPart → Type 0
 PathFrom c d r [] q = q.pair ≡ r
 PathFrom c d r (s ∷ ss) q = IsStanding c d s.part.pair × IsPartOfPair c d s.part.pair q × PathFrom c d r ss s.part
 
 -- steps, the last one first, are a path from a pair to one that doesn't fit
-abbrev pub IsPathTo : Collection → Collection → EntryPair → List Step → Type 0
+abbrev pub IsPathTo : Collection → Collection → EntryPair → List WalkStep → Type 0
 IsPathTo c d r [] = ¬ (IsFitting c d r)
 IsPathTo c d r (s ∷ ss) = IsStanding c d s.part.pair × (¬ (IsFitting c d s.part.pair)) × PathFrom c d r ss s.part
 
 -- these frames and this fault are a path from a pair
-abbrev pub IsPath : Collection → Collection → SubtypeCheck → EntryPair → List Frame → Fault → Type 0
-IsPath c d check p frames f = PairPath check c d (two_of c d p) frames f
+abbrev pub IsWalkPath : Collection → Collection → SubtypeCheck → EntryPair → List Frame → Fault → Type 0
+IsWalkPath c d check p frames f = PairPath check c d (two_of c d p) frames f
 
 -- what is a path from one pair is one, with more frames, from another
 abbrev pub LeadsFurther : Sides → EntryPair → List Frame → EntryPair → List Frame → Type 0
-LeadsFurther s p fs q gs = (c : SubtypeCheck) (f : Fault) → IsPath s.left.now s.right.now c p fs f → IsPath s.left.now s.right.now c q gs f
+LeadsFurther s p fs q gs = (c : SubtypeCheck) (f : Fault) → IsWalkPath s.left.now s.right.now c p fs f → IsWalkPath s.left.now s.right.now c q gs f

@@ -6,7 +6,7 @@ ghost use Rattle.wac_component.specs.Collection.{Collection};
 ghost use Rattle.wac_component.specs.Key.{AllStand, item_keys};
 ghost use Rattle.wac_component.specs.Tree.{item_tree};
 ghost use Rattle.wac_checker.specs.Believed.{told};
-ghost use Rattle.wac_checker.specs.Compared.{IsAnswered, IsGoingOn, IsUnderWay, KnowsTruly, KnowsBut};
+ghost use Rattle.wac_checker.specs.Compared.{IsAnswered, IsGoingOn, IsComparing, KnowsTruly, KnowsBut};
 ghost use Rattle.wac_checker.specs.Known.{pairs_of};
 ghost use Rattle.wac_checker.specs.Pairs.{ArePairsOf, IsFitting, IsStanding};
 ghost use Rattle.wac_checker.specs.Walk.{IsPathTo};
@@ -15,10 +15,10 @@ ghost use Rattle.wac_checker.specs.declared.parts.EntryPair.{EntryPair};
 use super::cache::{Believed, Kinds, is_believed};
 use super::composites::name_items;
 use super::known::Known;
-use super::parts::{Named, Part};
+use super::parts::{Named, PairPart};
 use super::short::Short;
 use super::sides::Sides;
-use super::walk::{Step, Walk, has_more};
+use super::walk::{Walk, WalkStep, has_more};
 use std::alloc::{AllocError, Global};
 use wac_component::{ItemKind, Types};
 
@@ -125,7 +125,7 @@ impl Compared {
     }
 
     // The pairs of steps don't fit.
-    fn note(&mut self, alloc: Global, open: &Short<Step>) -> Result<(), AllocError>
+    fn note(&mut self, alloc: Global, open: &Short<WalkStep>) -> Result<(), AllocError>
         ensures { (c d : Collection) (r : EntryPair) → KnowsBut [] c d self.old (reverse open.now) → IsPathTo c d r (reverse open.now) → KnowsTruly c d self.new }
     {
         for i in 0..open.len() {
@@ -163,7 +163,7 @@ impl Compared {
         if !self.known.add(&walk.asked)? {
             return Ok(true);
         }
-        let part = Part {
+        let part = PairPart {
             pair: walk.asked,
             index: 0,
         };
@@ -182,11 +182,11 @@ impl Compared {
         alloc: Global,
         walk: &mut Walk,
         sides: &Sides<'_>,
-        step: &mut Step,
+        step: &mut WalkStep,
         believed: &Believed<'_>,
     ) -> Result<Option<bool>, AllocError>
         requires straight { sides.now.swapped ≡ false }
-        requires way { IsUnderWay (told believed.now) sides.now.left.now sides.now.right.now self.old walk.old step.old }
+        requires way { IsComparing (told believed.now) sides.now.left.now sides.now.right.now self.old walk.old step.old }
         ensures way { IfOk result (IsGoingOn (told believed.now) sides.now.left.now sides.now.right.now self.new walk.new step.new) }
         ensures asked { walk.new.asked ≡ walk.old.asked }
         ensures pairs { ArePairsOf sides.now.left.now sides.now.right.now (pairs_of self.new.known) }
@@ -214,11 +214,11 @@ impl Compared {
         alloc: Global,
         walk: &mut Walk,
         sides: &Sides<'_>,
-        step: &mut Step,
+        step: &mut WalkStep,
         believed: &Believed<'_>,
     ) -> Result<Option<bool>, AllocError>
         requires straight { sides.now.swapped ≡ false }
-        requires way { IsUnderWay (told believed.now) sides.now.left.now sides.now.right.now self.old walk.old step.old }
+        requires way { IsComparing (told believed.now) sides.now.left.now sides.now.right.now self.old walk.old step.old }
         requires within { step.old.next < length walk.old.parts.before }
         requires room { step.old.next < usize.MAX }
         ensures way { IfOk result (IsGoingOn (told believed.now) sides.now.left.now sides.now.right.now self.new walk.new step.new) }

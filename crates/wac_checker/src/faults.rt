@@ -3,7 +3,7 @@
 ghost use Rattle.std.specs.Prelude.{◌≡◌, false, reverse, string_bytes, IfOk, MatchResult};
 ghost use Rattle.wac_component.specs.Key.{Stands, module_key};
 ghost use Rattle.wac_mismatch.specs.Place.{expected_of, found_of};
-ghost use Rattle.wac_mismatch.specs.Steps.{IsHere, IsName, IsParamName, IsUnder};
+ghost use Rattle.wac_mismatch.specs.Steps.{IsHere, IsNameFault, IsParamName, IsUnder};
 ghost use Rattle.wac_mismatch.specs.declared.check.SubtypeCheck.{SubtypeCheck};
 ghost use Rattle.wac_mismatch.specs.declared.fault.Fault.{Fault};
 ghost use Rattle.wac_checker.specs.Listing.{AreNamesOf, IsFaultOf};
@@ -12,7 +12,7 @@ ghost use Rattle.wac_checker.specs.Walk.{IsPathTo, LeadsFurther, PathFrom};
 
 use super::composites::list_parts;
 use super::frames::pair_frame;
-use super::parts::{Difference, EntryPair, Part, Parts, Sort, Turn};
+use super::parts::{Difference, EntryPair, PairPart, PairParts, PairSort, Turn};
 use super::sides::{Sides, module_at};
 use super::walk::Walk;
 use std::alloc::{AllocError, Global};
@@ -57,7 +57,7 @@ fn name_fault(
     a: &String,
     b: &String,
 ) -> Result<Fault, AllocError>
-    ensures { IfOk result (λ f. IsName f of index (expected_of check (string_bytes a.now) (string_bytes b.now)) (found_of check (string_bytes a.now) (string_bytes b.now))) }
+    ensures { IfOk result (λ f. IsNameFault f of index (expected_of check (string_bytes a.now) (string_bytes b.now)) (found_of check (string_bytes a.now) (string_bytes b.now))) }
 {
     let (expected, found) = expected_found(check, a, b);
     Ok(Fault::Name {
@@ -188,10 +188,10 @@ fn pair_refused(
     ensures { ExplainsPair check both.now.left.now both.now.right.now (two_of both.now.left.now both.now.right.now pair.now) result }
 {
     let check = placed_check(check, pair.swapped);
-    if let Sort::Module = pair.sort {
+    if let PairSort::Module = pair.sort {
         return modules_refused(check, alloc, &both.of(pair.swapped), pair.left, pair.right);
     }
-    let mut parts = Parts::new(alloc);
+    let mut parts = PairParts::new(alloc);
     match list_parts(both, alloc, pair, &mut parts) {
         Turn::Apart(difference) => refusal(check, alloc, difference),
         Turn::PartApart(index, turned, difference) => {
@@ -207,7 +207,7 @@ fn frames_to(
     alloc: Global,
     sides: &Sides<'_>,
     walk: &mut Walk,
-    part: Part,
+    part: PairPart,
     mut below: Vec<Frame>,
 ) -> Result<Vec<Frame>, AllocError>
     requires straight { sides.now.swapped ≡ false }

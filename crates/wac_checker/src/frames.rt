@@ -12,7 +12,7 @@ ghost use Rattle.wac_checker.specs.Pairs.{HasPart, IsFrameOf, IsPairFrame, IsSta
 ghost use Rattle.wac_component.specs.declared.items.ValueType.TheVariants.{Defined};
 
 use super::leaves::{case_at, extern_at, field_at};
-use super::parts::{EntryPair, Sort};
+use super::parts::{EntryPair, PairSort};
 use super::sides::{Sides, defined_at, func_at, interface_at, world_at};
 use indexmap::IndexMap;
 use std::alloc::AllocError;
@@ -141,13 +141,13 @@ pub(crate) fn pair_frame(
     let sides = &both.of(pair.swapped);
     let (left, right) = (sides.left, sides.right);
     match pair.sort {
-        Sort::Defined => defined_frame(defined_at(left, pair.left), left, index),
-        Sort::Func => func_frame(func_at(left, pair.left), left, index),
-        Sort::Interface => interface_frame(interface_at(right, pair.right), right, index),
-        Sort::World => {
+        PairSort::Defined => defined_frame(defined_at(left, pair.left), left, index),
+        PairSort::Func => func_frame(func_at(left, pair.left), left, index),
+        PairSort::Interface => interface_frame(interface_at(right, pair.right), right, index),
+        PairSort::World => {
             let a = world_at(left, pair.left);
             world_frame(a, left, world_at(right, pair.right), right, index)
         }
-        Sort::Module => unreachable!(),
+        PairSort::Module => unreachable!(),
     }
 }

@@ -4,7 +4,7 @@ ghost use Rattle.std.specs.Prelude.{◌≡◌, false};
 ghost use Rattle.wac_checker.specs.Paired.{IsPairing};
 ghost use Rattle.wac_component.specs.declared.items.ItemKind.TheVariants.{«Type» as OfType};
 
-use super::parts::{EntryPair, Sort};
+use super::parts::{EntryPair, PairSort};
 use wac_component::{ItemKind, ResourceId, Type, ValueType};
 
 // What two items or types are read as. Of two entries it says whether they are one.
@@ -19,7 +19,7 @@ pub(crate) enum Paired {
 
 // Two entries of a sort, by their indices.
 #[inline(always)]
-fn pair(sort: Sort, left: usize, right: usize) -> EntryPair
+fn pair(sort: PairSort, left: usize, right: usize) -> EntryPair
     ensures { result ≡ record { left = left; right = right; sort = sort; swapped = false } }
 {
     EntryPair {
@@ -41,24 +41,27 @@ pub(crate) fn paired_items(a: &ItemKind, b: &ItemKind) -> Paired
             _ => Paired::Others,
         },
         ItemKind::Func(x) => match *b {
-            ItemKind::Func(y) => Paired::Entries(x == y, pair(Sort::Func, x.index(), y.index())),
+            ItemKind::Func(y) => Paired::Entries(
+                x == y,
+                pair(PairSort::Func, x.index(), y.index()),
+            ),
             _ => Paired::Others,
         },
         ItemKind::Instance(x) => match *b {
             ItemKind::Instance(y) => {
-                Paired::Entries(x == y, pair(Sort::Interface, x.index(), y.index()))
+                Paired::Entries(x == y, pair(PairSort::Interface, x.index(), y.index()))
             }
             _ => Paired::Others,
         },
         ItemKind::Component(x) => match *b {
             ItemKind::Component(y) => {
-                Paired::Entries(x == y, pair(Sort::World, x.index(), y.index()))
+                Paired::Entries(x == y, pair(PairSort::World, x.index(), y.index()))
             }
             _ => Paired::Others,
         },
         ItemKind::Module(x) => match *b {
             ItemKind::Module(y) => {
-                Paired::Entries(x == y, pair(Sort::Module, x.index(), y.index()))
+                Paired::Entries(x == y, pair(PairSort::Module, x.index(), y.index()))
             }
             _ => Paired::Others,
         },
@@ -80,7 +83,7 @@ fn paired_types(a: Type, b: Type) -> Paired
             _ => Paired::Others,
         },
         Type::Func(x) => match b {
-            Type::Func(y) => Paired::Entries(x == y, pair(Sort::Func, x.index(), y.index())),
+            Type::Func(y) => Paired::Entries(x == y, pair(PairSort::Func, x.index(), y.index())),
             _ => Paired::Others,
         },
         Type::Value(x) => match b {
@@ -89,16 +92,19 @@ fn paired_types(a: Type, b: Type) -> Paired
         },
         Type::Interface(x) => match b {
             Type::Interface(y) => {
-                Paired::Entries(x == y, pair(Sort::Interface, x.index(), y.index()))
+                Paired::Entries(x == y, pair(PairSort::Interface, x.index(), y.index()))
             }
             _ => Paired::Others,
         },
         Type::World(x) => match b {
-            Type::World(y) => Paired::Entries(x == y, pair(Sort::World, x.index(), y.index())),
+            Type::World(y) => Paired::Entries(x == y, pair(PairSort::World, x.index(), y.index())),
             _ => Paired::Others,
         },
         Type::Module(x) => match b {
-            Type::Module(y) => Paired::Entries(x == y, pair(Sort::Module, x.index(), y.index())),
+            Type::Module(y) => Paired::Entries(
+                x == y,
+                pair(PairSort::Module, x.index(), y.index()),
+            ),
             _ => Paired::Others,
         },
     }

@@ -11,7 +11,7 @@ use wac_mismatch::{CountOf, NameOf, ResultPart};
 
 /// A sort of entry that is compared part by part.
 #[derive(Clone, Copy, PartialEq, Eq, Hash)]
-pub(crate) enum Sort {
+pub(crate) enum PairSort {
     Defined,
     Func,
     Interface,
@@ -25,7 +25,7 @@ pub(crate) enum Sort {
 pub(crate) struct EntryPair {
     pub(crate) left: usize,
     pub(crate) right: usize,
-    pub(crate) sort: Sort,
+    pub(crate) sort: PairSort,
     pub(crate) swapped: bool,
 }
 
@@ -33,13 +33,13 @@ pub(crate) struct EntryPair {
 pub(crate) const NO_PAIR: EntryPair = EntryPair {
     left: 0,
     right: 0,
-    sort: Sort::Defined,
+    sort: PairSort::Defined,
     swapped: false,
 };
 
 /// The part of this index, which fits if this pair does.
 #[derive(Clone, Copy)]
-pub(crate) struct Part {
+pub(crate) struct PairPart {
     pub(crate) pair: EntryPair,
     pub(crate) index: usize,
 }
@@ -53,13 +53,13 @@ pub(crate) enum Named {
 }
 
 /// The parts of the pairs that are open, and behind them those that are being named of one more.
-pub(crate) struct Parts {
-    list: Short<Part>,
+pub(crate) struct PairParts {
+    list: Short<PairPart>,
     // where those that are being named begin
     first: usize,
 }
 
-impl Model for Parts {
+impl Model for PairParts {
     ghost use Rattle.std.specs.Prelude.{take, drop, length, ◌≤◌};
     ghost use Rattle.wac_checker.specs.PartLists.{PartLists};
 
@@ -71,23 +71,23 @@ impl Model for Parts {
 }
 
 // By hand, as of `Known`.
-impl Drop for Parts {
+impl Drop for PairParts {
     fn drop(self) {
-        let Parts { list: _, first: _ } = self;
+        let PairParts { list: _, first: _ } = self;
     }
 }
 
-impl Parts {
+impl PairParts {
     /// No parts.
     #[inline(always)]
     pub(crate) fn new(alloc: Global) -> Self
         ensures { result ≡ record { before = []; items = [] } }
     {
-        let none = Part {
+        let none = PairPart {
             pair: NO_PAIR,
             index: 0,
         };
-        Parts {
+        PairParts {
             list: Short::new(alloc, none),
             first: 0,
         }
@@ -103,7 +103,7 @@ impl Parts {
 
     /// The part of an open pair at an index.
     #[inline(always)]
-    pub(crate) fn at(&self, index: usize) -> Part
+    pub(crate) fn at(&self, index: usize) -> PairPart
         requires { index < length self.now.before }
         ensures { slice_get self.now.before index ≡ Some result }
     {
@@ -121,7 +121,7 @@ impl Parts {
 
     // Names a part.
     #[inline(always)]
-    fn push(&mut self, part: Part) -> Result<(), AllocError>
+    fn push(&mut self, part: PairPart) -> Result<(), AllocError>
         ensures items { OnOk result (self.new.items ≡ self.old.items ++ part ∷ []) }
         ensures kept { self.new.before ≡ self.old.before }
     {
@@ -129,7 +129,7 @@ impl Parts {
     }
 
     /// Takes the part off that was named last.
-    pub(crate) fn pop(&mut self) -> Option<Part>
+    pub(crate) fn pop(&mut self) -> Option<PairPart>
         ensures items { self.old.items ≡ self.new.items ++ option_to_list result }
         ensures none { IfNone result (self.old.items ≡ []) }
         ensures kept { self.new.before ≡ self.old.before }
@@ -163,7 +163,7 @@ impl Parts {
 
 /// Names a pair as the part of an index, unless its entries are one.
 #[inline(always)]
-pub(crate) fn name(parts: &mut Parts, index: usize, same: bool, pair: EntryPair) -> Named
+pub(crate) fn name(parts: &mut PairParts, index: usize, same: bool, pair: EntryPair) -> Named
     ensures named { AreNamedUnless same index pair parts.old.items parts.new.items result }
     ensures kept { parts.new.before ≡ parts.old.before }
 {
@@ -173,7 +173,7 @@ pub(crate) fn name(parts: &mut Parts, index: usize, same: bool, pair: EntryPair)
     if parts.is_last(&pair) {
         return Named::Fits;
     }
-    match parts.push(Part { pair, index }) {
+    match parts.push(PairPart { pair, index }) {
         Ok(()) => Named::Fits,
         Err(_) => Named::Memory,
     }

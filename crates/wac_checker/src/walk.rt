@@ -6,7 +6,7 @@ ghost use Rattle.wac_checker.specs.Pairs.{IsStanding};
 ghost use Rattle.wac_checker.specs.Walk.{AreListed, IsBegun};
 
 use super::composites::list_parts;
-use super::parts::{EntryPair, NO_PAIR, Part, Parts, Turn};
+use super::parts::{EntryPair, NO_PAIR, PairPart, PairParts, Turn};
 use super::short::Short;
 use super::sides::Sides;
 use std::alloc::{AllocError, Global};
@@ -14,9 +14,9 @@ use std::alloc::{AllocError, Global};
 /// A pair whose parts are being compared: those of the list from `first` on. Those before `next`
 /// fit, but for the last of these where another pair is at hand, which is below it.
 #[derive(Clone, Copy)]
-pub(crate) struct Step {
+pub(crate) struct WalkStep {
     // the pair, and which part of the one above it is
-    pub(crate) part: Part,
+    pub(crate) part: PairPart,
     pub(crate) first: usize,
     pub(crate) next: usize,
     // whether the two of the pair differ after these parts
@@ -39,8 +39,8 @@ pub(crate) enum Found {
 pub(crate) struct Walk {
     // the pair that is asked about
     pub(crate) asked: EntryPair,
-    pub(crate) parts: Parts,
-    pub(crate) open: Short<Step>,
+    pub(crate) parts: PairParts,
+    pub(crate) open: Short<WalkStep>,
 }
 
 // By hand, as of `Known`.
@@ -61,11 +61,11 @@ impl Walk {
         ensures parts { result.parts ≡ record { before = []; items = [] } }
         ensures open { result.open ≡ [] }
     {
-        let none = Part {
+        let none = PairPart {
             pair: NO_PAIR,
             index: 0,
         };
-        let step = Step {
+        let step = WalkStep {
             part: none,
             first: 0,
             next: 0,
@@ -73,7 +73,7 @@ impl Walk {
         };
         Walk {
             asked: NO_PAIR,
-            parts: Parts::new(alloc),
+            parts: PairParts::new(alloc),
             open: Short::new(alloc, step),
         }
     }
@@ -83,8 +83,8 @@ impl Walk {
         &mut self,
         alloc: Global,
         sides: &Sides<'_>,
-        part: Part,
-    ) -> Result<Step, AllocError>
+        part: PairPart,
+    ) -> Result<WalkStep, AllocError>
         requires stands { IsStanding sides.now.left.now sides.now.right.now part.pair }
         requires straight { sides.now.swapped ≡ false }
         requires none { self.old.parts.items ≡ [] }
@@ -96,7 +96,7 @@ impl Walk {
         let first = self.parts.len();
         let differs = list_pair(alloc, sides, &part.pair, &mut self.parts)?;
         self.parts.close();
-        Ok(Step {
+        Ok(WalkStep {
             part,
             first,
             next: first,
@@ -111,7 +111,7 @@ fn list_pair(
     alloc: Global,
     sides: &Sides<'_>,
     pair: &EntryPair,
-    parts: &mut Parts,
+    parts: &mut PairParts,
 ) -> Result<bool, AllocError>
     requires stands { IsStanding sides.now.left.now sides.now.right.now pair.now }
     requires straight { sides.now.swapped ≡ false }
@@ -128,7 +128,7 @@ fn list_pair(
 }
 
 /// Whether the pair of a step that begins has parts on the list, or its two differ.
-pub(crate) fn has_more(step: &Step, parts: &Parts) -> bool
+pub(crate) fn has_more(step: &WalkStep, parts: &PairParts) -> bool
     requires { parts.now.items ≡ [] }
     ensures even { result ≡ false → step.now.differs ≡ false }
     ensures none { result ≡ false → length parts.now.before ≤ step.now.first }

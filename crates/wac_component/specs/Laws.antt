@@ -16,11 +16,11 @@ use Rattle.wac_component.specs.declared.items.ValueType.{ValueType}
 use Rattle.wac_component.specs.declared.items.ValueType.TheVariants.{Defined}
 use Rattle.wac_component.specs.declared.items.ItemKind.TheVariants.{Func, Instance, Component, Module}
 
-abbrev pub IsReflexive : Type 0
-IsReflexive = (c : Collection) → Extends c c
+abbrev pub IsGrowthReflexive : Type 0
+IsGrowthReflexive = (c : Collection) → Extends c c
 
-abbrev pub IsTransitive : Type 0
-IsTransitive = (c d e : Collection) → Extends c d → Extends d e → Extends c e
+abbrev pub IsGrowthTransitive : Type 0
+IsGrowthTransitive = (c d e : Collection) → Extends c d → Extends d e → Extends c e
 
 -- each id stands for what its entry says, by what the ids in the entry stand for
 pub record FollowsEntries (c : Collection) : Type 0 where

@@ -1,7 +1,7 @@
 //! Laws of collections and of their entries. Each is the contract of a
 //! function that changes nothing.
 
-ghost use Rattle.wac_component.specs.Laws.{IsReflexive, IsTransitive, TreesFollowEntries, ImportsAreApart, LeavesDependOnLeaves, OneSourceHasOneName, WalksStand, NoWalkReturns, VisitsStand};
+ghost use Rattle.wac_component.specs.Laws.{IsGrowthReflexive, IsGrowthTransitive, TreesFollowEntries, ImportsAreApart, LeavesDependOnLeaves, OneSourceHasOneName, WalksStand, NoWalkReturns, VisitsStand};
 ghost use Rattle.wac_core.specs.Content.{core_module_of};
 ghost use Rattle.wac_component.specs.Content.{defined_content, func_content, interface_content, world_content};
 ghost use Rattle.wac_component.specs.Distinct.{HasDistinctNames, HasDistinctNamesAt};
@@ -15,12 +15,12 @@ use wac_core::ModuleType;
 
 /// A collection extends itself.
 pub fn growth_is_reflexive()
-    ensures { IsReflexive }
+    ensures { IsGrowthReflexive }
 {}
 
 /// A collection that extends one which extends a third extends the third.
 pub fn growth_is_transitive()
-    ensures { IsTransitive }
+    ensures { IsGrowthTransitive }
 {}
 
 /// In a sound collection the tree of each id follows from its entry and

@@ -8,7 +8,7 @@ use Rattle.std.specs.Cmp.Lexicographic.{pointwise}
 use Rattle.std.specs.Bool.{Decides, beq}
 use Rattle.std.proofs.lemmas.Slice.Eq.{slice_eq-Decides}
 use Rattle.wac_model.specs.CoreTree.{HeapTree, concrete, func_heap, extern, any, none, noextern, nofunc, eq, struct, array, i31, exn, noexn, cont, nocont, RefTree, CoreTypeTree, i32, i64, f32, f64, v128, ref}
-use Rattle.wac_core.specs.Content.{heap_tree, ref_tree, core_type_tree, func_content}
+use Rattle.wac_core.specs.Content.{heap_tree, ref_tree, core_type_tree, core_func_content}
 use Rattle.wac_core.specs.contracts.values.HeapType as heaps
 use Rattle.wac_core.specs.contracts.values.CoreType as types
 use Rattle.wac_core.specs.declared.values.HeapType.{HeapType}
@@ -149,7 +149,7 @@ and_both false b h g = h
 
 -- function types that `==` doesn't tell apart have one content, and those
 -- that it tells apart have others
-pub func_decides : (x y : CoreFuncType) → Decides (of_funcs.eq x y) (func_content x ≡ func_content y)
+pub func_decides : (x y : CoreFuncType) → Decides (of_funcs.eq x y) (core_func_content x ≡ core_func_content y)
 func_decides x y =
     let params : Bool = pointwise of_types.eq x.params.items y.params.items in
     let results : Bool = pointwise of_types.eq x.results.items y.results.items in (

@@ -2,7 +2,7 @@
 
 ghost use Rattle.std.specs.Prelude.{◌≡◌, Some, map};
 ghost use Rattle.std.specs.Fmt.{WritesOnOk};
-ghost use Rattle.wac_core.specs.Content.{heap_tree, ref_tree, core_type_tree, func_content};
+ghost use Rattle.wac_core.specs.Content.{heap_tree, ref_tree, core_type_tree, core_func_content};
 ghost use Rattle.wac_core.specs.Texts.{nullable_text, heap_text, ref_text, core_type_text, core_types_text, core_func_text};
 
 use std::alloc::{AllocError, Global};
@@ -94,7 +94,7 @@ impl CoreFuncType {
 }
 
 impl Clone for CoreFuncType {
-    ghost is_clone = { λ f g. func_content g ≡ func_content f };
+    ghost is_clone = { λ f g. core_func_content g ≡ core_func_content f };
 
     fn clone(&self) -> Result<CoreFuncType, AllocError> {
         Ok(CoreFuncType {
@@ -192,7 +192,7 @@ fn write_types<W: fmt::Write>(f: &mut fmt::Formatter<W>, types: &[CoreType]) -> 
 }
 
 impl fmt::Display for CoreFuncType {
-    ghost output = { λ t. Some (core_func_text (func_content t).0 (func_content t).1) };
+    ghost output = { λ t. Some (core_func_text (core_func_content t).0 (core_func_content t).1) };
 
     fn fmt<W: fmt::Write>(&self, f: &mut fmt::Formatter<W>) -> fmt::Result {
         write!(f, "[")?;

@@ -2,7 +2,7 @@
 
 ghost use Rattle.std.specs.Prelude.{◌≡◌, ◌≢◌, MatchResult, IfOk};
 ghost use Rattle.wac_model.specs.CoreTree.{CoreFits};
-ghost use Rattle.wac_core.specs.Content.{core_tree, func_content};
+ghost use Rattle.wac_core.specs.Content.{core_tree, core_func_content};
 ghost use Rattle.wac_core.specs.Texts.{core_extern_text};
 ghost use Rattle.wac_mismatch.specs.Place.{by_check};
 ghost use Rattle.wac_mismatch.specs.Holds.{IsCoreFunc};
@@ -33,8 +33,8 @@ pub(crate) fn sort_text(of: &CoreExtern) -> &'static str
 
 // The fault of two types of functions or tags.
 fn func_fault(expected: &CoreFuncType, found: &CoreFuncType) -> Result<Fault, AllocError>
-    requires { func_content expected.now ≢ func_content found.now }
-    ensures { IfOk result (λ f. IsCoreFunc f (func_content expected.now) (func_content found.now)) }
+    requires { core_func_content expected.now ≢ core_func_content found.now }
+    ensures { IfOk result (λ f. IsCoreFunc f (core_func_content expected.now) (core_func_content found.now)) }
 {
     Ok(Fault::CoreFunc {
         expected: expected.clone()?,
@@ -49,7 +49,7 @@ fn same_funcs(
     a: &CoreFuncType,
     b: &CoreFuncType,
 ) -> Result<(), SubtypeError>
-    ensures { MatchResult result (λ _. func_content a.now ≡ func_content b.now) (IsHere (λ f. by_check check (IsCoreFunc f) (func_content a.now) (func_content b.now))) }
+    ensures { MatchResult result (λ _. core_func_content a.now ≡ core_func_content b.now) (IsHere (λ f. by_check check (IsCoreFunc f) (core_func_content a.now) (core_func_content b.now))) }
 {
     if a == b {
         return Ok(());

@@ -3,7 +3,7 @@
 ghost use Rattle.std.specs.Prelude.{◌↔◌, ◌≢◌, IsTrue, MatchResult};
 ghost use Rattle.wac_core.specs.Content.{ref_tree, core_type_tree};
 ghost use Rattle.wac_model.specs.CoreTree.{CoreFits, LimitsFit};
-ghost use Rattle.wac_core_checker.specs.Fields.{limits_of, table_tree, memory_tree, global_tree};
+ghost use Rattle.wac_core_checker.specs.Fields.{declared_limits, table_tree, memory_tree, global_tree};
 ghost use Rattle.wac_core_checker.specs.Verdict.{RefusesHere};
 
 use std::alloc::Global;
@@ -46,7 +46,7 @@ pub(crate) struct GlobalType {
 
 // Whether limits fit where others are asked for.
 fn limits_fit(a: LimitsType, b: LimitsType) -> bool
-    ensures { IsTrue result ↔ LimitsFit (limits_of a) (limits_of b) }
+    ensures { IsTrue result ↔ LimitsFit (declared_limits a) (declared_limits b) }
 {
     if a.initial < b.initial {
         return false;

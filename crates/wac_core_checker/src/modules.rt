@@ -7,7 +7,7 @@ ghost use Rattle.wac_model.specs.Text.{import_name_eq, lookup};
 ghost use Rattle.wac_model.specs.CoreTree.{ModuleFits};
 ghost use Rattle.wac_core.specs.Content.{core_tree, import_name, module_content};
 ghost use Rattle.wac_core.specs.Texts.{core_extern_text};
-ghost use Rattle.wac_core_checker.specs.Verdict.{AreServed, ExplainsModules, IsMissingCoreImport, IsMissingExport};
+ghost use Rattle.wac_core_checker.specs.Verdict.{AreCoreServed, ExplainsModules, IsMissingCoreImport, IsMissingExport};
 
 use crate::externs::{core_extern_fits, sort_text};
 use std::alloc::{AllocError, Global};
@@ -55,7 +55,7 @@ fn imports_fit(
     a: &ModuleType,
     b: &ModuleType,
 ) -> Result<(), SubtypeError>
-    ensures { MatchResult result (λ _. AreServed import_name_eq (module_content b.now).imports (module_content a.now).imports) (ExplainsModules check (module_content a.now) (module_content b.now)) }
+    ensures { MatchResult result (λ _. AreCoreServed import_name_eq (module_content b.now).imports (module_content a.now).imports) (ExplainsModules check (module_content a.now) (module_content b.now)) }
 {
     for i in 0..a.imports.len() {
         let (name, asked) = import_at(a, i);
@@ -106,7 +106,7 @@ fn exports_fit(
     a: &ModuleType,
     b: &ModuleType,
 ) -> Result<(), SubtypeError>
-    ensures { MatchResult result (λ _. AreServed bytes_eq (module_content a.now).exports (module_content b.now).exports) (ExplainsModules check (module_content a.now) (module_content b.now)) }
+    ensures { MatchResult result (λ _. AreCoreServed bytes_eq (module_content a.now).exports (module_content b.now).exports) (ExplainsModules check (module_content a.now) (module_content b.now)) }
 {
     for i in 0..b.exports.len() {
         let (name, asked) = export_at(b, i);

@@ -9,7 +9,7 @@ use Rattle.std.proofs.lemmas.List.Elements.{All-nil, All-cons, All-head, All-tai
 use Rattle.std.proofs.lemmas.Map.Keys.{IsDistinct-head, IsDistinct-tail}
 use Rattle.wac_model.specs.Text.{lookup}
 use Rattle.wac_core_merge.specs.Names.{put, with_new}
-use Rattle.wac_core_merge.specs.Entries.{Replaces}
+use Rattle.wac_core_merge.specs.Entries.{ReplacesEach}
 use Rattle.wac_core_merge.specs.NameOrder.{HasSomeNames}
 use Rattle.wac_core_merge.proofs.NameLemmas.{absent_before, with_new-absent}
 
@@ -19,7 +19,7 @@ module _ {K V : Type 0} where
   put-append n (Some v) es ts = refl
 
   -- what replaces each value keeps the names
-  pub Replaces-names : (R : K → V → Option V → Type 0) → ((k : K) (v : V) → R k v None → ⊥) → (es ms : List (K × V)) → Replaces R es ms → keys_of ms ≡ keys_of es
+  pub Replaces-names : (R : K → V → Option V → Type 0) → ((k : K) (v : V) → R k v None → ⊥) → (es ms : List (K × V)) → ReplacesEach R es ms → keys_of ms ≡ keys_of es
   Replaces-names R kept [] ms h = ap keys_of h
   Replaces-names R kept (e ∷ es) ms h = go h.0 h.2 h.4 (Replaces-names R kept es h.1 h.3)
     where
@@ -27,7 +27,7 @@ module _ {K V : Type 0} where
       go None r is names = absurd (kept e.0 e.1 r)
       go (Some v) r is names = ap keys_of is ∙ ap (λ ns. e.0 ∷ ns) names
 
-  Replaces-push : (R : K → V → Option V → Type 0) (es ms : List (K × V)) (e : K × V) (o : Option V) → Replaces R es ms → R e.0 e.1 o → Replaces R (es ++ e ∷ []) (ms ++ put e.0 o [])
+  Replaces-push : (R : K → V → Option V → Type 0) (es ms : List (K × V)) (e : K × V) (o : Option V) → ReplacesEach R es ms → R e.0 e.1 o → ReplacesEach R (es ++ e ∷ []) (ms ++ put e.0 o [])
   Replaces-push R [] ms e o h r = (o, [], r, refl, ap (λ l. l ++ put e.0 o []) h)
   Replaces-push R (x ∷ es) ms e o h r =
       (h.0, h.1 ++ put e.0 o [], h.2, Replaces-push R es h.1 e o h.3 r, ap (λ l. l ++ put e.0 o []) h.4 ∙ put-append x.0 h.0 h.1 (put e.0 o []))
@@ -38,7 +38,7 @@ module _ {K V : Type 0} where
     lookup-put_past n m (Some v) es h = rw h refl
 
     -- a name that isn't in a list isn't in what replaces it
-    pub Replaces-absent : (R : K → V → Option V → Type 0) (es ms : List (K × V)) (n : K) → Replaces R es ms → lookup is_same es n ≡ None → lookup is_same ms n ≡ None
+    pub Replaces-absent : (R : K → V → Option V → Type 0) (es ms : List (K × V)) (n : K) → ReplacesEach R es ms → lookup is_same es n ≡ None → lookup is_same ms n ≡ None
     Replaces-absent R [] ms n h g = ap (λ l. lookup is_same l n) h
     Replaces-absent R (e ∷ es) ms n h g = go (is_same n e.0) refl g (Replaces-absent R es h.1 n h.3)
       where
@@ -51,7 +51,7 @@ module _ {K V : Type 0} where
     absent_from n (e ∷ es) h = rw h.0 (absent_from n es h.1)
 
     -- what holds of each value in its place holds of each entry
-    pub Replaces-All : (R : K → V → Option V → Type 0) (P : K × V → Type 0) (es ms : List (K × V)) → Replaces R es ms → All (λ e. (v : V) → R e.0 e.1 (Some v) → P (e.0, v)) es → All P ms
+    pub Replaces-All : (R : K → V → Option V → Type 0) (P : K × V → Type 0) (es ms : List (K × V)) → ReplacesEach R es ms → All (λ e. (v : V) → R e.0 e.1 (Some v) → P (e.0, v)) es → All P ms
     Replaces-All R P [] ms h a = rw h (All-nil P)
     Replaces-All R P (e ∷ es) ms h a =
         rw h.4 (go h.0 h.2 (Replaces-All R P es h.1 h.3 (All-tail (λ e. (v : V) → R e.0 e.1 (Some v) → P (e.0, v)) e es a)))
@@ -62,12 +62,12 @@ module _ {K V : Type 0} where
 
   -- one more of a list that is taken entry by entry, put last if it is kept
   pub Replaces-turn : {eq : K → K → Bool} → IsEquivalence eq → (R : K → V → Option V → Type 0) (all done rest left so_far new : List (K × V)) (e : K × V) (o : Option V)
-      → IsDistinct eq (keys_of all) → all ≡ done ++ rest → rest ≡ e ∷ left → Replaces R done so_far → R e.0 e.1 o → new ≡ with_new eq so_far (put e.0 o [])
-      → (all ≡ (done ++ e ∷ []) ++ left) × Replaces R (done ++ e ∷ []) new
+      → IsDistinct eq (keys_of all) → all ≡ done ++ rest → rest ≡ e ∷ left → ReplacesEach R done so_far → R e.0 e.1 o → new ≡ with_new eq so_far (put e.0 o [])
+      → (all ≡ (done ++ e ∷ []) ++ left) × ReplacesEach R (done ++ e ∷ []) new
   Replaces-turn {eq} laws R all done rest left so_far new e o distinct split here h r new_is =
       let whole : all ≡ done ++ e ∷ left = split ∙ ap (λ l. done ++ l) here in
       let absent = Replaces-absent eq R done so_far e.0 h (absent_before laws done e left (subst (λ l. IsDistinct eq (keys_of l)) whole distinct)) in
-      (whole ∙ sym (append_assoc done (e ∷ []) left), subst (Replaces R (done ++ e ∷ [])) (sym (new_is ∙ pushed o absent)) (Replaces-push R done so_far e o h r))
+      (whole ∙ sym (append_assoc done (e ∷ []) left), subst (ReplacesEach R (done ++ e ∷ [])) (sym (new_is ∙ pushed o absent)) (Replaces-push R done so_far e o h r))
     where
       pushed : (o : Option V) → lookup eq so_far e.0 ≡ None → with_new eq so_far (put e.0 o []) ≡ so_far ++ put e.0 o []
       pushed None h = refl
@@ -86,7 +86,7 @@ module _ {K V : Type 0} (is_same : K → K → Bool) (decides : (m n : K) → De
   lookup-put_here n (Some v) es h = rw ((decides n n).1 refl) refl
 
   -- each name has what it had, replaced
-  pub Replaces-at : (R : K → V → Option V → Type 0) (es ms : List (K × V)) → IsDistinct is_same (keys_of es) → Replaces R es ms → (n : K) (v : V) → lookup is_same es n ≡ Some v → R n v (lookup is_same ms n)
+  pub Replaces-at : (R : K → V → Option V → Type 0) (es ms : List (K × V)) → IsDistinct is_same (keys_of es) → ReplacesEach R es ms → (n : K) (v : V) → lookup is_same es n ≡ Some v → R n v (lookup is_same ms n)
   Replaces-at R [] ms d h n v g = absurd (cc)
   Replaces-at R (e ∷ es) ms d h n v g = go (is_same n e.0) refl g (Replaces-at R es h.1 (IsDistinct-tail is_same e.0 (keys_of es) d) h.3 n v)
     where
@@ -106,7 +106,7 @@ module _ {K V : Type 0} (is_same : K → K → Bool) (decides : (m n : K) → De
       λ i. cond (is_some (sym (lookup-put_past is_same n m o es (apart_turned is_same decides n m h.0)) i)) (m ∷ filter-put n o es ns h.1 i) (filter-put n o es ns h.1 i)
 
   -- what replaces a list has some of its names, in the same order
-  pub Replaces-some_names : (R : K → V → Option V → Type 0) (es ms : List (K × V)) → IsDistinct is_same (keys_of es) → Replaces R es ms → HasSomeNames is_same es ms
+  pub Replaces-some_names : (R : K → V → Option V → Type 0) (es ms : List (K × V)) → IsDistinct is_same (keys_of es) → ReplacesEach R es ms → HasSomeNames is_same es ms
   Replaces-some_names R [] ms d h = ap keys_of h
   Replaces-some_names R (e ∷ es) ms d h =
       let apart = IsDistinct-head is_same e.0 (keys_of es) d in
@@ -147,6 +147,6 @@ module _ {K L V W : Type 0} (show_key : K → L) (show : V → W) (R : K → V �
   put-shown n None es = refl
   put-shown n (Some v) es = refl
 
-  pub Replaces-shown : (es ms : List (K × V)) → Replaces R es ms → Replaces S (map {A = K × V} {B = L × W} (λ e. (show_key e.0, show e.1)) es) (map (λ e. (show_key e.0, show e.1)) ms)
+  pub Replaces-shown : (es ms : List (K × V)) → ReplacesEach R es ms → ReplacesEach S (map {A = K × V} {B = L × W} (λ e. (show_key e.0, show e.1)) es) (map (λ e. (show_key e.0, show e.1)) ms)
   Replaces-shown [] ms h = ap (map shown) h
   Replaces-shown (e ∷ es) ms h = (option_map show h.0, map shown h.1, says e.0 e.1 h.0 h.2, Replaces-shown es h.1 h.3, ap (map shown) h.4 ∙ put-shown e.0 h.0 h.1)

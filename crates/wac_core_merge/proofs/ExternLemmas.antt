@@ -4,7 +4,7 @@ use Rattle.std.proofs.Common.{◌≡◌, ◌↔◌, refl, Bool, true, false, sub
 use Rattle.std.specs.Bool.{beq}
 use Rattle.std.specs.Cmp.{booleans_Decides}
 use Rattle.wac_model.specs.CoreTree.{Limits, CoreTree, plain, limited, func, tag, table, global, LimitsFit, CoreFits, is_within, is_valid_extern}
-use Rattle.wac_core.specs.Content.{ref_tree, core_type_tree, func_content}
+use Rattle.wac_core.specs.Content.{ref_tree, core_type_tree, core_func_content}
 use Rattle.wac_core.specs.declared.values.CoreRefType.{CoreRefType}
 use Rattle.wac_core.specs.declared.values.CoreType.{CoreType}
 use Rattle.wac_core.specs.contracts.values.CoreRefTypePartialEq.TheImpl.{ghosts as of_refs}
@@ -92,14 +92,14 @@ both_parts : {A B : Type 0} {p q : A × B} → p.0 ≡ q.0 → p.1 ≡ q.1 → p
 both_parts e f = λ i. (e i, f i)
 
 module _ (x y : CoreFuncType) (r : Bool) (says : r ≡ of_funcs.eq x y) where
-  one_content : r ≡ true → func_content x ≡ func_content y
+  one_content : r ≡ true → core_func_content x ≡ core_func_content y
   one_content g = (func_decides x y).0 (sym says ∙ g)
 
-  equal : func_content x ≡ func_content y → r ≡ true
+  equal : core_func_content x ≡ core_func_content y → r ≡ true
   equal e = says ∙ (func_decides x y).1 e
 
-  pub func_labels : (r ≡ true) ↔ (of_plain (func (func_content x).0 (func_content x).1) ≡ of_plain (func (func_content y).0 (func_content y).1))
+  pub func_labels : (r ≡ true) ↔ (of_plain (func (core_func_content x).0 (core_func_content x).1) ≡ of_plain (func (core_func_content y).0 (core_func_content y).1))
   func_labels = (λ g. λ i. of_plain (func (one_content g i).0 (one_content g i).1), λ e. equal (both_parts (cc) (cc)))
 
-  pub tag_labels : (r ≡ true) ↔ (of_plain (tag (func_content x).0 (func_content x).1) ≡ of_plain (tag (func_content y).0 (func_content y).1))
+  pub tag_labels : (r ≡ true) ↔ (of_plain (tag (core_func_content x).0 (core_func_content x).1) ≡ of_plain (tag (core_func_content y).0 (core_func_content y).1))
   tag_labels = (λ g. λ i. of_plain (tag (one_content g i).0 (one_content g i).1), λ e. equal (both_parts (cc) (cc)))

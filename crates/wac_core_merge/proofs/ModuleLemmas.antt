@@ -23,7 +23,7 @@ use Rattle.wac_core.specs.Content.{core_tree, import_name}
 use Rattle.wac_core.proofs.CloneLemmas.{entries-clones, import_name-same}
 use Rattle.wac_core.specs.declared.externs.CoreExtern.{CoreExtern}
 use Rattle.wac_core_merge.specs.Names.{put, with_new}
-use Rattle.wac_core_merge.specs.Entries.{AreValid, IsMeetAt, IsJoinAt, Replaces, extern_at, IsEachMet, IsEachJoined, HasNoMeet, AreAllMet}
+use Rattle.wac_core_merge.specs.Entries.{AreValid, IsMeetAt, IsJoinAt, ReplacesEach, core_extern_at, IsEachMet, IsEachJoined, HasNoMeet, AreAllMet}
 use Rattle.wac_core_merge.specs.NameOrder.{HasAllNames, HasSomeNames}
 use Rattle.wac_core_merge.specs.Origin.{IsFrom, from_first, from_second, from_meet, from_join, IsModuleFrom}
 use Rattle.wac_core_merge.proofs.NameLemmas.{lookup-by_test, lookup_at_turn, All-with_new, lookup-with_new, with_new-shown, keys-with_new}
@@ -47,7 +47,7 @@ module _ {K : Type 0} (is_same : K → K → Bool) (decides : (m n : K) → Deci
   abbrev ComesFrom : K × CoreTree → Type 0
   ComesFrom e = IsFrom (lookup is_same es e.0) (lookup is_same ts e.0) e.1
 
-  meets_at : are_valid ts ≡ true → (each : List (K × CoreTree)) → Replaces MeetHere es each → (n : K) → IsMeetAt (lookup is_same es n) (lookup is_same ts n) (lookup is_same (with_new is_same each ts) n)
+  meets_at : are_valid ts ≡ true → (each : List (K × CoreTree)) → ReplacesEach MeetHere es each → (n : K) → IsMeetAt (lookup is_same es n) (lookup is_same ts n) (lookup is_same (with_new is_same each ts) n)
   meets_at valid each h n = subst (IsMeetAt (lookup is_same es n) (lookup is_same ts n)) (sym (lookup-with_new is_same decides each ts n)) (go (lookup is_same es n) refl)
     where
       kept : (v : CoreTree) (o : Option CoreTree) → IsMeetAt (Some v) (lookup is_same ts n) o → IsMeetAt (Some v) (lookup is_same ts n) (option_or o (lookup is_same ts n))
@@ -58,24 +58,24 @@ module _ {K : Type 0} (is_same : K → K → Bool) (decides : (m n : K) → Deci
       go (Some v) p = kept v (lookup is_same each n) (Replaces-at is_same decides MeetHere es each distinct h n v p)
       go None p = rw (Replaces-absent is_same MeetHere es each n h p) (tt, Serves-refl ValidFits (lookup is_same ts n) (valid_refl (lookup is_same ts n) (found_valid is_same ts valid n)), λ c p q. q)
 
-  joins_at : (ms : List (K × CoreTree)) → Replaces JoinHere es ms → (n : K) → IsJoinAt (lookup is_same es n) (lookup is_same ts n) (lookup is_same ms n)
+  joins_at : (ms : List (K × CoreTree)) → ReplacesEach JoinHere es ms → (n : K) → IsJoinAt (lookup is_same es n) (lookup is_same ts n) (lookup is_same ms n)
   joins_at ms h n = go (lookup is_same es n) refl
     where
       go : (o : Option CoreTree) → lookup is_same es n ≡ o → IsJoinAt o (lookup is_same ts n) (lookup is_same ms n)
       go (Some v) p = Replaces-at is_same decides JoinHere es ms distinct h n v p
       go None p = rw (Replaces-absent is_same JoinHere es ms n h p) (tt, tt, λ c p q. p)
 
-  meets_from : (each : List (K × CoreTree)) → Replaces MeetHere es each → IsDistinct is_same (keys_of ts) → All ComesFrom (with_new is_same each ts)
+  meets_from : (each : List (K × CoreTree)) → ReplacesEach MeetHere es each → IsDistinct is_same (keys_of ts) → All ComesFrom (with_new is_same each ts)
   meets_from each h distinct_too =
       All-with_new is_same ComesFrom each ts
       (Replaces-All is_same MeetHere ComesFrom es each h
       (All-weaker (λ e. lookup is_same es e.0 ≡ Some e.1) (λ e. (v : CoreTree) → MeetHere e.0 e.1 (Some v) → ComesFrom (e.0, v)) (λ e at v m. met_from _ _ e.1 v at m) es (All-found is_same decides es distinct)))
       (All-weaker (λ t. lookup is_same ts t.0 ≡ Some t.1) ComesFrom (λ t. from_second) ts (All-found is_same decides ts distinct_too))
 
-  meets_names : (each : List (K × CoreTree)) → Replaces MeetHere es each → HasAllNames is_same es ts (with_new is_same each ts)
+  meets_names : (each : List (K × CoreTree)) → ReplacesEach MeetHere es each → HasAllNames is_same es ts (with_new is_same each ts)
   meets_names each h = keys-with_new is_same each es ts (Replaces-names MeetHere (λ k v m. m.0) es each h)
 
-  joins_from : (ms : List (K × CoreTree)) → Replaces JoinHere es ms → All ComesFrom ms
+  joins_from : (ms : List (K × CoreTree)) → ReplacesEach JoinHere es ms → All ComesFrom ms
   joins_from ms h =
       Replaces-All is_same JoinHere ComesFrom es ms h
       (All-weaker (λ e. lookup is_same es e.0 ≡ Some e.1) (λ e. (v : CoreTree) → JoinHere e.0 e.1 (Some v) → ComesFrom (e.0, v)) (λ e at v m. joined_from _ _ e.1 v at m) es (All-found is_same decides es distinct))
@@ -116,28 +116,28 @@ shown_are_valid show_key (e ∷ es) h =
 -- one more extern of a list that is taken entry by entry
 module _ {K : Type 0} {eq : K → K → Bool} (laws : IsEquivalence eq) (all done rest left ts : List (K × CoreExtern)) (n : K) (v : CoreExtern)
     (distinct : IsDistinct eq (keys_of all)) (split : all ≡ done ++ rest) (here : rest ≡ (n, v) ∷ left) (there : Option CoreExtern) (found : there ≡ lookup_by (eq n) ts) (o : Option CoreExtern) where
-  at : option_map core_tree there ≡ extern_at eq ts n
+  at : option_map core_tree there ≡ core_extern_at eq ts n
   at = ap (option_map core_tree) found
 
   module _ (met : IsMeetIn (Serves ValidFits) (Some (core_tree v)) (option_map core_tree there) (option_map Some (option_map core_tree o))) where
     pub meet_turn : (w : CoreExtern) → o ≡ Some w → (so_far new : List (K × CoreExtern)) → IsEachMet eq done ts so_far → new ≡ with_new eq so_far ((n, w) ∷ [])
         → (all ≡ (done ++ (n, v) ∷ []) ++ left) × IsEachMet eq (done ++ (n, v) ∷ []) ts new
     meet_turn w is so_far new h new_is =
-        Replaces-turn laws (λ n v o. IsMeetAt (Some (core_tree v)) (extern_at eq ts n) (option_map core_tree o)) all done rest left so_far new (n, v) (Some w) distinct split here h
+        Replaces-turn laws (λ n v o. IsMeetAt (Some (core_tree v)) (core_extern_at eq ts n) (option_map core_tree o)) all done rest left so_far new (n, v) (Some w) distinct split here h
         (subst (λ x. IsMeetAt (Some (core_tree v)) x (Some (core_tree w))) at (subst (λ p. IsMeetIn (Serves ValidFits) (Some (core_tree v)) (option_map core_tree there) (option_map Some (option_map core_tree p))) is met)) new_is
 
     pub no_meet_turn : o ≡ None → HasNoMeet eq all ts
     no_meet_turn is =
-        let first : extern_at eq all n ≡ Some (core_tree v) = ap (option_map core_tree) (sym (lookup-by_test eq all n) ∙ lookup_at_turn laws all done rest left (n, v) distinct split here) in (
+        let first : core_extern_at eq all n ≡ Some (core_tree v) = ap (option_map core_tree) (sym (lookup-by_test eq all n) ∙ lookup_at_turn laws all done rest left (n, v) distinct split here) in (
           n,
-          subst (λ x. IsMeetIn (Serves ValidFits) x (extern_at eq ts n) None) (sym first)
+          subst (λ x. IsMeetIn (Serves ValidFits) x (core_extern_at eq ts n) None) (sym first)
               (subst (λ x. IsMeetIn (Serves ValidFits) (Some (core_tree v)) x None) at (subst (λ p. IsMeetIn (Serves ValidFits) (Some (core_tree v)) (option_map core_tree there) (option_map Some (option_map core_tree p))) is met)),
         )
 
   pub join_turn : IsJoinAt (Some (core_tree v)) (option_map core_tree there) (option_map core_tree o) → (so_far new : List (K × CoreExtern)) → IsEachJoined eq done ts so_far → new ≡ with_new eq so_far (put n o [])
       → (all ≡ (done ++ (n, v) ∷ []) ++ left) × IsEachJoined eq (done ++ (n, v) ∷ []) ts new
   join_turn joined so_far new h new_is =
-      Replaces-turn laws (λ n v o. IsJoinAt (Some (core_tree v)) (extern_at eq ts n) (option_map core_tree o)) all done rest left so_far new (n, v) o distinct split here h
+      Replaces-turn laws (λ n v o. IsJoinAt (Some (core_tree v)) (core_extern_at eq ts n) (option_map core_tree o)) all done rest left so_far new (n, v) o distinct split here h
       (subst (λ x. IsJoinAt (Some (core_tree v)) x (option_map core_tree o)) at joined) new_is
 
 -- the same of the trees of two lists of externs, whose names are shown
@@ -145,23 +145,23 @@ module _ {K L : Type 0} (show_key : K → L) (eq : K → K → Bool) (is_same : 
   abbrev shown : List (K × CoreExtern) → List (L × CoreTree)
   shown = map {A = K × CoreExtern} {B = L × CoreTree} (λ e. (show_key e.0, core_tree e.1))
 
-  same_at : (es : List (K × CoreExtern)) (k : K) → extern_at eq es k ≡ lookup is_same (shown es) (show_key k)
+  same_at : (es : List (K × CoreExtern)) (k : K) → core_extern_at eq es k ≡ lookup is_same (shown es) (show_key k)
   same_at es k = lookup-shown show_key core_tree (eq k) is_same (show_key k) (λ l. agree k l) es
 
   module _ (es ts : List (K × CoreExtern)) where
-    each_met : (each : List (K × CoreExtern)) → IsEachMet eq es ts each → Replaces (λ n v o. IsMeetAt (Some v) (lookup is_same (shown ts) n) o) (shown es) (shown each)
+    each_met : (each : List (K × CoreExtern)) → IsEachMet eq es ts each → ReplacesEach (λ n v o. IsMeetAt (Some v) (lookup is_same (shown ts) n) o) (shown es) (shown each)
     each_met each h = Replaces-shown show_key core_tree _ _ (λ k v o. subst (λ x. IsMeetAt (Some (core_tree v)) x (option_map core_tree o)) (same_at ts k)) es each h
 
-    each_joined : (ms : List (K × CoreExtern)) → IsEachJoined eq es ts ms → Replaces (λ n v o. IsJoinAt (Some v) (lookup is_same (shown ts) n) o) (shown es) (shown ms)
+    each_joined : (ms : List (K × CoreExtern)) → IsEachJoined eq es ts ms → ReplacesEach (λ n v o. IsJoinAt (Some v) (lookup is_same (shown ts) n) o) (shown es) (shown ms)
     each_joined ms h = Replaces-shown show_key core_tree _ _ (λ k v o. subst (λ x. IsJoinAt (Some (core_tree v)) x (option_map core_tree o)) (same_at ts k)) es ms h
 
     module _ (xs ys : List (L × CoreTree)) (first : shown es ≡ xs) (second : shown ts ≡ ys) where
       pub no_meet_at : HasNoMeet eq es ts → (n : L) × IsMeetIn (Serves ValidFits) (lookup is_same xs n) (lookup is_same ys n) None
       no_meet_at h =
           let n = show_key h.0 in
-          let at_first : extern_at eq es h.0 ≡ lookup is_same xs n = same_at es h.0 ∙ ap (λ l. lookup is_same l n) first in
-          let at_second : extern_at eq ts h.0 ≡ lookup is_same ys n = same_at ts h.0 ∙ ap (λ l. lookup is_same l n) second in
-          (n, subst (λ x. IsMeetIn (Serves ValidFits) x (lookup is_same ys n) None) at_first (subst (λ y. IsMeetIn (Serves ValidFits) (extern_at eq es h.0) y None) at_second h.1))
+          let at_first : core_extern_at eq es h.0 ≡ lookup is_same xs n = same_at es h.0 ∙ ap (λ l. lookup is_same l n) first in
+          let at_second : core_extern_at eq ts h.0 ≡ lookup is_same ys n = same_at ts h.0 ∙ ap (λ l. lookup is_same l n) second in
+          (n, subst (λ x. IsMeetIn (Serves ValidFits) x (lookup is_same ys n) None) at_first (subst (λ y. IsMeetIn (Serves ValidFits) (core_extern_at eq es h.0) y None) at_second h.1))
 
       module _ (distinct : IsDistinct eq (keys_of es)) (ms : List (K × CoreExtern)) where
         distinct_names : IsDistinct is_same (keys_of (shown es))

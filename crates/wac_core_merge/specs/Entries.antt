@@ -24,27 +24,27 @@ abbrev pub IsJoinAt : Option CoreTree → Option CoreTree → Option CoreTree �
 IsJoinAt a b m = IsJoinIn (Serves CoreFits) a b (Some m)
 
 -- ms is es, with each value replaced by one that is in the relation to it, or left out
-abbrev pub Replaces : {K V : Type 0} → (K → V → Option V → Type 0) → List (K × V) → List (K × V) → Type 0
-Replaces R [] ms = ms ≡ []
-Replaces {K} {V} R (e ∷ es) ms = (o : Option V) × (rest : List (K × V)) × R e.0 e.1 o × Replaces R es rest × (ms ≡ put e.0 o rest)
+abbrev pub ReplacesEach : {K V : Type 0} → (K → V → Option V → Type 0) → List (K × V) → List (K × V) → Type 0
+ReplacesEach R [] ms = ms ≡ []
+ReplacesEach {K} {V} R (e ∷ es) ms = (o : Option V) × (rest : List (K × V)) × R e.0 e.1 o × ReplacesEach R es rest × (ms ≡ put e.0 o rest)
 
 module _ {K : Type 0} (eq : K → K → Bool) where
   -- the extern of a name
-  abbrev pub extern_at : List (K × CoreExtern) → K → Option CoreTree
-  extern_at es n = option_map core_tree (lookup (eq n) es)
+  abbrev pub core_extern_at : List (K × CoreExtern) → K → Option CoreTree
+  core_extern_at es n = option_map core_tree (lookup (eq n) es)
 
   -- ms is es, with each extern met with what ts has under its name
   abbrev pub IsEachMet : (es ts ms : List (K × CoreExtern)) → Type 0
-  IsEachMet es ts ms = Replaces (λ n v o. IsMeetAt (Some (core_tree v)) (extern_at ts n) (option_map core_tree o)) es ms
+  IsEachMet es ts ms = ReplacesEach (λ n v o. IsMeetAt (Some (core_tree v)) (core_extern_at ts n) (option_map core_tree o)) es ms
 
   -- ms is es, with each extern joined with what ts has under its name, or
   -- left out where they have no join
   abbrev pub IsEachJoined : (es ts ms : List (K × CoreExtern)) → Type 0
-  IsEachJoined es ts ms = Replaces (λ n v o. IsJoinAt (Some (core_tree v)) (extern_at ts n) (option_map core_tree o)) es ms
+  IsEachJoined es ts ms = ReplacesEach (λ n v o. IsJoinAt (Some (core_tree v)) (core_extern_at ts n) (option_map core_tree o)) es ms
 
   -- under some name nothing valid is below what es and ts have
   abbrev pub HasNoMeet : (es ts : List (K × CoreExtern)) → Type 0
-  HasNoMeet es ts = (n : K) × IsMeetIn (Serves ValidFits) (extern_at es n) (extern_at ts n) None
+  HasNoMeet es ts = (n : K) × IsMeetIn (Serves ValidFits) (core_extern_at es n) (core_extern_at ts n) None
 
   -- the same, if it has a meet under each name
   abbrev pub IsEachMetIfAny : (es ts : List (K × CoreExtern)) → Option (List (K × CoreExtern)) → Type 0

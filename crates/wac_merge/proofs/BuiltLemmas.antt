@@ -19,8 +19,8 @@ use Rattle.wac_component.proofs.Among.{Contains-first, Contains-cases}
 use Rattle.wac_component.proofs.Keys.{Key-discrete}
 use Rattle.wac_merge.specs.Bounded.{AreIncomparable, IsMetAs, IsJoinedAs}
 use Rattle.wac_merge.specs.Built.{Origins, IsBuilt, first, second, fresh, IsBuiltAt, of_first, of_second, of_both, AreBuilt, IsEntryFrom, of_interfaces, of_worlds, of_modules, IsMadeOf, IsAddedBuilt, OnlyBuilds}
-use Rattle.wac_merge.specs.Items.{entry_item, item_of, Externs}
-use Rattle.wac_merge.specs.Memo.{Made, first_key, second_key, entry_key, IsBoundOf}
+use Rattle.wac_merge.specs.Items.{entry_item, item_of, ExternKinds}
+use Rattle.wac_merge.specs.Memo.{Made, first_key, second_key, bound_key, IsBoundOf}
 use Rattle.wac_merge.specs.Runs.{IsMadeOn, IsNoted, AreMadeOn, FromBuilt, Ran, Runs}
 use Rattle.wac_merge.specs.Told.{LacksOnly}
 use Rattle.wac_merge.specs.declared.memo.Untold.{Untold}
@@ -62,12 +62,12 @@ module _ (c d e : Collection) (o q : Origins) (grown : Extends d e) (agree : Agr
   IsBuilt-grown a b y (fresh k m names stands new a_is b_is apart) =
       fresh k m names (grown.standing m stands) new (a_is ∙ ap (λ (p : Key × Key). entry_item k p.0) (sym (agree m stands))) (b_is ∙ ap (λ (p : Key × Key). entry_item k p.1) (sym (agree m stands))) apart
 
-  IsBuiltAt-grown : (es ts : Externs) (n : Text) (y : ItemKind) → IsBuiltAt c d o es ts n y → IsBuiltAt c e q es ts n y
+  IsBuiltAt-grown : (es ts : ExternKinds) (n : Text) (y : ItemKind) → IsBuiltAt c d o es ts n y → IsBuiltAt c e q es ts n y
   IsBuiltAt-grown es ts n y (of_first h) = of_first h
   IsBuiltAt-grown es ts n y (of_second h) = of_second h
   IsBuiltAt-grown es ts n y (of_both {a = a} {b = b} f g h) = of_both f g (IsBuilt-grown a b y h)
 
-  pub AreBuilt-grown : (es ts ms : Externs) → AreBuilt c d o es ts ms → AreBuilt c e q es ts ms
+  pub AreBuilt-grown : (es ts ms : ExternKinds) → AreBuilt c d o es ts ms → AreBuilt c e q es ts ms
   AreBuilt-grown es ts ms h =
       All-weaker (λ (x : Text × ItemKind). IsBuiltAt c d o es ts x.0 x.1) (λ x. IsBuiltAt c e q es ts x.0 x.1) (λ x. IsBuiltAt-grown es ts x.0 x.1) ms h
 
@@ -99,7 +99,7 @@ module _ (c d e : Collection) (o q : Origins) (grown : Extends d e) (agree : Agr
   }
 
   IsMadeOn-grown : (x : Asked × BoundId) → IsMadeOn c d o x → IsMadeOn c e q x
-  IsMadeOn-grown x h = record { first = h.first; second = h.second; made = (grown.standing (entry_key x.1) h.made.0, h.made.1, agree (entry_key x.1) h.made.0 ∙ h.made.2) }
+  IsMadeOn-grown x h = record { first = h.first; second = h.second; made = (grown.standing (bound_key x.1) h.made.0, h.made.1, agree (bound_key x.1) h.made.0 ∙ h.made.2) }
 
   -- more that is built
   only_more : HasLeavesOf d e → ((m : Key) → Stands e m → Stands d m ⊎ IsAddedBuilt c e q m) → OnlyBuilds c d o → OnlyBuilds c e q
@@ -150,7 +150,7 @@ LacksOnly-from d js ks follow (Lacks a) h = λ c sound was stand. h c sound was 
 noted_more : (ms ns : Made) (m : Key) → IsNoted ms m → IsNoted (ms ++ ns) m
 noted_more ms ns m (x, there, is) = (x, Contains-append_left ms ns x there, is)
 
-noted_last : (ms : Made) (x : Asked × BoundId) (m : Key) → m ≡ entry_key x.1 → IsNoted (ms ++ x ∷ []) m
+noted_last : (ms : Made) (x : Asked × BoundId) (m : Key) → m ≡ bound_key x.1 → IsNoted (ms ++ x ∷ []) m
 noted_last ms x m is = (x, Contains-append_right ms (x ∷ []) x (Contains-first x []), sym is)
 
 -- the origins, with that of one entry more
@@ -178,21 +178,21 @@ with_origin-other o k p m apart = go (Key-discrete m k)
     go (no n) = refl
 
 -- a run that adds one entry, made of two
-module _ (d e : Collection) (a : Asked) (r : BoundId) (x y entry : Entry) (A : Collection → Origins → Type 0) (grown : Extends d e) (leaves : HasLeavesOf d e) (last : IsLast d e entry (entry_key r))
+module _ (d e : Collection) (a : Asked) (r : BoundId) (x y entry : Entry) (A : Collection → Origins → Type 0) (grown : Extends d e) (leaves : HasLeavesOf d e) (last : IsLast d e entry (bound_key r))
     (x_at : entry_at d (first_key a.pair) ≡ Some x) (y_at : entry_at d (second_key a.pair) ≡ Some y) (is_from : (c : Collection) (o : Origins) → A c o → IsEntryFrom c d o x y entry) (bound : IsBoundOf a.bound d e a.pair (Some r)) where
   abbrev keys : List Key
   keys = first_key a.pair ∷ second_key a.pair ∷ []
 
   abbrev more : Origins → Origins
-  more o = with_origin o (entry_key r) (first_key a.pair, second_key a.pair)
+  more o = with_origin o (bound_key r) (first_key a.pair, second_key a.pair)
 
-  here : (o : Origins) → more o (entry_key r) ≡ (first_key a.pair, second_key a.pair)
-  here o = with_origin-here o (entry_key r) (first_key a.pair, second_key a.pair)
+  here : (o : Origins) → more o (bound_key r) ≡ (first_key a.pair, second_key a.pair)
+  here o = with_origin-here o (bound_key r) (first_key a.pair, second_key a.pair)
 
   agree : (o : Origins) → AgreeOn d o (more o)
-  agree o m stands = with_origin-other o (entry_key r) (first_key a.pair, second_key a.pair) m (λ same. last.is_new (subst (Stands d) same stands))
+  agree o m stands = with_origin-other o (bound_key r) (first_key a.pair, second_key a.pair) m (λ same. last.is_new (subst (Stands d) same stands))
 
-  made_last : (c : Collection) (o : Origins) → AllStand c keys → Extends c d → A c o → IsAddedBuilt c e (more o) (entry_key r)
+  made_last : (c : Collection) (o : Origins) → AllStand c keys → Extends c d → A c o → IsAddedBuilt c e (more o) (bound_key r)
   made_last c o stand before built = record {
     first_stands = subst (λ (p : Key × Key). Stands c p.0) (sym (here o)) stand.0;
     second_stands = subst (λ (p : Key × Key). Stands c p.1) (sym (here o)) stand.1.0;
@@ -206,14 +206,14 @@ module _ (d e : Collection) (a : Asked) (r : BoundId) (x y entry : Entry) (A : C
     bound = go a.bound bound;
   }
     where
-      bound_at : (R : ItemTree → ItemTree → Type 0) → ((j : Kind) → IsMeetIn R (item_tree d (entry_item j (first_key a.pair))) (item_tree d (entry_item j (second_key a.pair))) (Some (item_tree e (entry_item j (entry_key r)))))
-          → (j : Kind) → IsMeetIn R (item_tree c (entry_item j (more o (entry_key r)).0)) (item_tree c (entry_item j (more o (entry_key r)).1)) (Some (item_tree e (entry_item j (entry_key r))))
+      bound_at : (R : ItemTree → ItemTree → Type 0) → ((j : Kind) → IsMeetIn R (item_tree d (entry_item j (first_key a.pair))) (item_tree d (entry_item j (second_key a.pair))) (Some (item_tree e (entry_item j (bound_key r)))))
+          → (j : Kind) → IsMeetIn R (item_tree c (entry_item j (more o (bound_key r)).0)) (item_tree c (entry_item j (more o (bound_key r)).1)) (Some (item_tree e (entry_item j (bound_key r))))
       bound_at R h j =
-          subst (λ (p : Key × Key). IsMeetIn R (item_tree c (entry_item j p.0)) (item_tree c (entry_item j p.1)) (Some (item_tree e (entry_item j (entry_key r))))) (sym (here o))
-          (bound_before R c d before (entry_item j (first_key a.pair)) (entry_item j (second_key a.pair)) (entry_item_stands c j (first_key a.pair) stand.0) (entry_item_stands c j (second_key a.pair) stand.1.0) (Some (item_tree e (entry_item j (entry_key r)))) (h j))
+          subst (λ (p : Key × Key). IsMeetIn R (item_tree c (entry_item j p.0)) (item_tree c (entry_item j p.1)) (Some (item_tree e (entry_item j (bound_key r))))) (sym (here o))
+          (bound_before R c d before (entry_item j (first_key a.pair)) (entry_item j (second_key a.pair)) (entry_item_stands c j (first_key a.pair) stand.0) (entry_item_stands c j (second_key a.pair) stand.1.0) (Some (item_tree e (entry_item j (bound_key r)))) (h j))
 
-      go : (u : Bound) → IsBoundOf u d e a.pair (Some r) → ((j : Kind) → IsMetAs c e (entry_item j (more o (entry_key r)).0) (entry_item j (more o (entry_key r)).1) (Some (entry_item j (entry_key r))))
-          ⊎ ((j : Kind) → IsJoinedAs c e (entry_item j (more o (entry_key r)).0) (entry_item j (more o (entry_key r)).1) (Some (entry_item j (entry_key r))))
+      go : (u : Bound) → IsBoundOf u d e a.pair (Some r) → ((j : Kind) → IsMetAs c e (entry_item j (more o (bound_key r)).0) (entry_item j (more o (bound_key r)).1) (Some (entry_item j (bound_key r))))
+          ⊎ ((j : Kind) → IsJoinedAs c e (entry_item j (more o (bound_key r)).0) (entry_item j (more o (bound_key r)).1) (Some (entry_item j (bound_key r))))
       go Meet h = inl (bound_at Fits h)
       go Join h = inr (bound_at (λ s t. Fits t s) h)
 
@@ -236,7 +236,7 @@ module _ (d e : Collection) (a : Asked) (r : BoundId) (x y entry : Entry) (A : C
       record {
         origins = more o;
         only = only_more c d e o (more o) grown (agree o) leaves (λ m stands. elim (last.others m stands) [ inl stood ↦ inl stood | inr same ↦ inr (subst (IsAddedBuilt c e (more o)) (sym same) added) ]) only;
-        made = made_more ms c o made record { first = stand.0; second = stand.1.0; made = (last.stands, λ stood. last.is_new (only.extends.standing (entry_key r) stood), here o) };
+        made = made_more ms c o made record { first = stand.0; second = stand.1.0; made = (last.stands, λ stood. last.is_new (only.extends.standing (bound_key r) stood), here o) };
       }
 
 -- an item that names an entry that was made of those that two items name, which don't compare

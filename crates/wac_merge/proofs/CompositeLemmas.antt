@@ -18,7 +18,7 @@ use Rattle.wac_component.specs.Sound.{IsSound}
 use Rattle.wac_component.specs.Tree.{externs, items_of, item_tree, module_tree}
 use Rattle.wac_component.proofs.Extended.{Extends-trans}
 use Rattle.wac_merge.specs.Bounded.{IsMetAs, IsJoinedAs, AreMet, AreJoined, Clash}
-use Rattle.wac_merge.specs.Items.{Externs, extern_keys, entry_item}
+use Rattle.wac_merge.specs.Items.{ExternKinds, extern_keys, entry_item}
 use Rattle.wac_merge.specs.Reads.{imports_at, exports_at, HasExports}
 use Rattle.wac_merge.proofs.ExternLemmas.{items_met, items_joined, items_clash}
 use Rattle.wac_merge.proofs.ReadLemmas.{imports_stay, exports_stay, imports_at_stand, exports_at_stand, world_tree}
@@ -37,11 +37,11 @@ tree_of_module : (c : Collection) (k : Kind) (x : Id) → item_tree c (entry_ite
 tree_of_module c item x = refl
 tree_of_module c type_item x = refl
 
-interface_form : (c d : Collection) (k : Kind) (x : Id) (es : Externs) → externs c (interface_key x) ≡ record { imports = no_items; exports = items_of (item_tree d) es }
+interface_form : (c d : Collection) (k : Kind) (x : Id) (es : ExternKinds) → externs c (interface_key x) ≡ record { imports = no_items; exports = items_of (item_tree d) es }
     → item_tree c (entry_item k (interface_key x)) ≡ composite k interface no_items (items_of (item_tree d) es)
 interface_form c d k x es h = tree_of_interface c k x ∙ ap (λ t. composite k interface no_items t.exports) h
 
-world_form : (c d : Collection) (k : Kind) (x : Id) (is es : Externs) → externs c (world_key x) ≡ record { imports = items_of (item_tree d) is; exports = items_of (item_tree d) es }
+world_form : (c d : Collection) (k : Kind) (x : Id) (is es : ExternKinds) → externs c (world_key x) ≡ record { imports = items_of (item_tree d) is; exports = items_of (item_tree d) es }
     → item_tree c (entry_item k (world_key x)) ≡ composite k world (items_of (item_tree d) is) (items_of (item_tree d) es)
 world_form c d k x is es h = tree_of_world c k x ∙ ap (λ t. composite k world t.imports t.exports) h
 
@@ -52,14 +52,14 @@ formed R {s} {s'} {t} {t'} {o} {o'} p q r h =
 
 -- c when the two are read, e with the new entry
 module _ (c e : Collection) (x y : Id) (k : Kind) where
-  module _ (es ts : Externs) (hx : HasExports c x es) (hy : HasExports c y ts) where
-    pub interfaces_met : (ms : Externs) (p : Id) → AreMet c c es ts (Some ms) → externs e (interface_key p) ≡ record { imports = no_items; exports = items_of (item_tree c) ms }
+  module _ (es ts : ExternKinds) (hx : HasExports c x es) (hy : HasExports c y ts) where
+    pub interfaces_met : (ms : ExternKinds) (p : Id) → AreMet c c es ts (Some ms) → externs e (interface_key p) ≡ record { imports = no_items; exports = items_of (item_tree c) ms }
         → IsMetAs c e (entry_item k (interface_key x)) (entry_item k (interface_key y)) (Some (entry_item k (interface_key p)))
     interfaces_met ms p met tree =
         formed Fits (interface_form c c k x es hx.tree) (interface_form c c k y ts hy.tree) (ap (λ (t : ItemTree). Some t) (interface_form e c k p ms tree))
         (composite_meet k interface no_items (items_of (item_tree c) es) no_items (items_of (item_tree c) ts) no_items (items_of (item_tree c) ms) (items_met c es ts ms met) (λ n. (tt, tt, λ u q r. q)))
 
-    pub interfaces_joined : (js : Externs) (p : Id) → AreJoined c c es ts js → externs e (interface_key p) ≡ record { imports = no_items; exports = items_of (item_tree c) js }
+    pub interfaces_joined : (js : ExternKinds) (p : Id) → AreJoined c c es ts js → externs e (interface_key p) ≡ record { imports = no_items; exports = items_of (item_tree c) js }
         → IsJoinedAs c e (entry_item k (interface_key x)) (entry_item k (interface_key y)) (Some (entry_item k (interface_key p)))
     interfaces_joined js p joined tree =
         formed (λ s t. Fits t s) (interface_form c c k x es hx.tree) (interface_form c c k y ts hy.tree) (ap (λ (t : ItemTree). Some t) (interface_form e c k p js tree))
@@ -71,26 +71,26 @@ module _ (c e : Collection) (x y : Id) (k : Kind) where
         (composite_no_meet k interface no_items (items_of (item_tree c) es) no_items (items_of (item_tree c) ts) h.name (items_clash c es ts h))
 
   module _ (sound : IsSound c) (sx : Stands c (world_key x)) (sy : Stands c (world_key y)) where
-    abbrev is : Externs
+    abbrev is : ExternKinds
     is = imports_at c (world_key x)
 
-    abbrev es : Externs
+    abbrev es : ExternKinds
     es = exports_at c (world_key x)
 
-    abbrev js : Externs
+    abbrev js : ExternKinds
     js = imports_at c (world_key y)
 
-    abbrev ts : Externs
+    abbrev ts : ExternKinds
     ts = exports_at c (world_key y)
 
-    pub worlds_met : (ms ns : Externs) (p : Id) → AreMet c c (exports_at c (world_key x)) (exports_at c (world_key y)) (Some ms) → AreJoined c c (imports_at c (world_key x)) (imports_at c (world_key y)) ns
+    pub worlds_met : (ms ns : ExternKinds) (p : Id) → AreMet c c (exports_at c (world_key x)) (exports_at c (world_key y)) (Some ms) → AreJoined c c (imports_at c (world_key x)) (imports_at c (world_key y)) ns
         → externs e (world_key p) ≡ record { imports = items_of (item_tree c) ns; exports = items_of (item_tree c) ms }
         → IsMetAs c e (entry_item k (world_key x)) (entry_item k (world_key y)) (Some (entry_item k (world_key p)))
     worlds_met ms ns p met joined tree =
         formed Fits (world_form c c k x is es (world_tree c x sound sx)) (world_form c c k y js ts (world_tree c y sound sy)) (ap (λ (t : ItemTree). Some t) (world_form e c k p ns ms tree))
         (composite_meet k world (items_of (item_tree c) is) (items_of (item_tree c) es) (items_of (item_tree c) js) (items_of (item_tree c) ts) (items_of (item_tree c) ns) (items_of (item_tree c) ms) (items_met c es ts ms met) (items_joined c is js ns joined))
 
-    pub worlds_joined : (ms ns : Externs) (p : Id) → AreMet c c (imports_at c (world_key x)) (imports_at c (world_key y)) (Some ms) → AreJoined c c (exports_at c (world_key x)) (exports_at c (world_key y)) ns
+    pub worlds_joined : (ms ns : ExternKinds) (p : Id) → AreMet c c (imports_at c (world_key x)) (imports_at c (world_key y)) (Some ms) → AreJoined c c (exports_at c (world_key x)) (exports_at c (world_key y)) ns
         → externs e (world_key p) ≡ record { imports = items_of (item_tree c) ms; exports = items_of (item_tree c) ns }
         → IsJoinedAs c e (entry_item k (world_key x)) (entry_item k (world_key y)) (Some (entry_item k (world_key p)))
     worlds_joined ms ns p met joined tree =

@@ -16,8 +16,8 @@ use Rattle.wac_merge.specs.declared.memo.Asked.{Asked}
 use Rattle.wac_merge.specs.declared.memo.Bound.{Bound}
 use Rattle.wac_merge.specs.declared.memo.Bound.TheVariants.{Meet, Join}
 use Rattle.wac_merge.specs.declared.memo.BoundId.{BoundId}
-use Rattle.wac_merge.specs.declared.memo.Pair.{Pair}
-use Rattle.wac_merge.specs.declared.memo.Pair.TheVariants.{Interfaces, Worlds, Modules}
+use Rattle.wac_merge.specs.declared.memo.BoundPair.{BoundPair}
+use Rattle.wac_merge.specs.declared.memo.BoundPair.TheVariants.{Interfaces, Worlds, Modules}
 
 -- what is made once, each for one of these, is no more than these
 no_more : (ms : Made) (qs : List Asked) → AreMadeOnce ms → ((x : Asked × BoundId) → Contains ms x → Contains qs x.0) → length ms ≤ length qs
@@ -30,10 +30,10 @@ no_more (x ∷ xs) qs h all =
 
 -- ---- all that can be asked for
 
-abbrev all_pairs : Collection → List Pair
+abbrev all_pairs : Collection → List BoundPair
 all_pairs c = paired Interfaces (ids c.number (length c.interfaces)) (ids c.number (length c.interfaces)) ++ (paired Worlds (ids c.number (length c.worlds)) (ids c.number (length c.worlds)) ++ paired Modules (ids c.number (length c.modules)) (ids c.number (length c.modules)))
 
-pair_among : (c : Collection) (p : Pair) → Stands c (first_key p) → Stands c (second_key p) → Contains (all_pairs c) p
+pair_among : (c : Collection) (p : BoundPair) → Stands c (first_key p) → Stands c (second_key p) → Contains (all_pairs c) p
 pair_among c (Interfaces x y) sx sy =
     Contains-append_left (paired Interfaces (ids c.number (length c.interfaces)) (ids c.number (length c.interfaces))) (paired Worlds (ids c.number (length c.worlds)) (ids c.number (length c.worlds)) ++ paired Modules (ids c.number (length c.modules)) (ids c.number (length c.modules))) (Interfaces x y)
     (paired_among Interfaces (ids c.number (length c.interfaces)) (ids c.number (length c.interfaces)) x y (id_among c.number (length c.interfaces) x sx.0 (simp length-map at sx.1)) (id_among c.number (length c.interfaces) y sy.0 (simp length-map at sy.1)))
@@ -63,7 +63,7 @@ length-all_pairs c =
 asked_among : (c : Collection) (a : Asked) → Contains (all_pairs c) a.pair → Contains (map (asked_for Meet) (all_pairs c) ++ map (asked_for Join) (all_pairs c)) a
 asked_among c a m = by_bound a.bound a.pair m
   where
-    by_bound : (b : Bound) (p : Pair) → Contains (all_pairs c) p → Contains (map (asked_for Meet) (all_pairs c) ++ map (asked_for Join) (all_pairs c)) (asked_for b p)
+    by_bound : (b : Bound) (p : BoundPair) → Contains (all_pairs c) p → Contains (map (asked_for Meet) (all_pairs c) ++ map (asked_for Join) (all_pairs c)) (asked_for b p)
     by_bound Meet p m = Contains-append_left (map (asked_for Meet) (all_pairs c)) (map (asked_for Join) (all_pairs c)) (asked_for Meet p) (contains_map (asked_for Meet) (all_pairs c) p m)
     by_bound Join p m = Contains-append_right (map (asked_for Meet) (all_pairs c)) (map (asked_for Join) (all_pairs c)) (asked_for Join p) (contains_map (asked_for Join) (all_pairs c) p m)
 

@@ -11,26 +11,26 @@ use Rattle.wac_component.proofs.Keys.{Each-left, Each-right}
 use Rattle.wac_merge.specs.Bounded.{AreIncomparable}
 use Rattle.wac_merge.specs.Built.{Origins, IsBuilt, first, second}
 use Rattle.wac_merge.specs.Items.{entry_item}
-use Rattle.wac_merge.specs.Memo.{made_of, first_key, second_key, entry_key, order_of, IsBoundOf, IsToldOf, IsTrueMemo}
+use Rattle.wac_merge.specs.Memo.{made_of, first_key, second_key, bound_key, order_of, IsBoundOf, IsToldOf, IsTrueMemo}
 use Rattle.wac_merge.specs.Runs.{FromBuilt}
 use Rattle.wac_merge.specs.Told.{of_two, IsBoundIn, IsBoundWith}
 use Rattle.wac_merge.specs.declared.memo.Bound.{Bound}
 use Rattle.wac_merge.specs.declared.memo.Bound.TheVariants.{Meet, Join}
 use Rattle.wac_merge.specs.declared.memo.BoundId.{BoundId}
 use Rattle.wac_merge.specs.declared.memo.BoundMemo.{BoundMemo}
-use Rattle.wac_merge.specs.declared.memo.Pair.{Pair}
+use Rattle.wac_merge.specs.declared.memo.BoundPair.{BoundPair}
 use Rattle.wac_merge.specs.declared.memo.Untold.{Untold}
 use Rattle.wac_merge.proofs.BoundLemmas.{incomparable_before}
 use Rattle.wac_merge.proofs.BuiltLemmas.{entry_item_stands, made_item}
 use Rattle.wac_merge.proofs.ItemKeys.{entry_item-keys}
 
 -- both items, or both as types
-module _ (a b : ItemKind) (k : Kind) (p : Pair) (is_a : a ≡ entry_item k (first_key p)) (is_b : b ≡ entry_item k (second_key p)) where
+module _ (a b : ItemKind) (k : Kind) (p : BoundPair) (is_a : a ≡ entry_item k (first_key p)) (is_b : b ≡ entry_item k (second_key p)) where
   keys_are : item_keys a ++ item_keys b ≡ first_key p ∷ second_key p ∷ []
   keys_are = (λ j. item_keys (is_a j) ++ item_keys (is_b j)) ∙ (λ j. entry_item-keys k (first_key p) j ++ entry_item-keys k (second_key p) j)
 
   -- the bound of the two entries names that of the items
-  pub bound_of : (t : Bound) (d e : Collection) (m : Option BoundId) (r : Option ItemKind) → r ≡ option_map (λ n. entry_item k (entry_key n)) m → IsBoundOf t d e p m
+  pub bound_of : (t : Bound) (d e : Collection) (m : Option BoundId) (r : Option ItemKind) → r ≡ option_map (λ n. entry_item k (bound_key n)) m → IsBoundOf t d e p m
       → IsMeetIn (order_of t) (item_tree d a) (item_tree d b) (option_map (item_tree e) r)
   bound_of t d e m r is h =
       subst (λ x. IsMeetIn (order_of t) (item_tree d x) (item_tree d b) (option_map (item_tree e) r)) (sym is_a)
@@ -38,17 +38,17 @@ module _ (a b : ItemKind) (k : Kind) (p : Pair) (is_a : a ≡ entry_item k (firs
       (subst (λ x. IsMeetIn (order_of t) (item_tree d (entry_item k (first_key p))) (item_tree d (entry_item k (second_key p))) (option_map (item_tree e) x)) (sym is) (h k)))
 
   -- what is told of the two entries is told of the items
-  pub told_bound : (t : Bound) (d : Collection) (n : BoundMemo) (m : Option BoundId) (r : Option ItemKind) → IsTrueMemo d n → IsToldOf n (record { bound = t; pair = p }) (Some m) → r ≡ option_map (λ e. entry_item k (entry_key e)) m → IsBoundIn t d d a b r
+  pub told_bound : (t : Bound) (d : Collection) (n : BoundMemo) (m : Option BoundId) (r : Option ItemKind) → IsTrueMemo d n → IsToldOf n (record { bound = t; pair = p }) (Some m) → r ≡ option_map (λ e. entry_item k (bound_key e)) m → IsBoundIn t d d a b r
   told_bound t d n None r known told is = bound_of t d d None r is (known.refused (record { bound = t; pair = p }) told).none
   told_bound t d n (Some e) r known told is = bound_of t d d (Some e) r is (known.made (record { bound = t; pair = p }, e) told).bound
 
   -- and built of them, where they don't compare
-  pub told_built : (t : Bound) (d : Collection) (n : BoundMemo) (m : Option BoundId) (r : Option ItemKind) → IsToldOf n (record { bound = t; pair = p }) (Some m) → r ≡ option_map (λ e. entry_item k (entry_key e)) m → AreIncomparable (item_tree d a) (item_tree d b)
+  pub told_built : (t : Bound) (d : Collection) (n : BoundMemo) (m : Option BoundId) (r : Option ItemKind) → IsToldOf n (record { bound = t; pair = p }) (Some m) → r ≡ option_map (λ e. entry_item k (bound_key e)) m → AreIncomparable (item_tree d a) (item_tree d b)
       → FromBuilt (item_keys a ++ item_keys b) d (made_of n) (λ c o. IfSome r (IsBuilt c d o a b))
   told_built t d n None r told is apart = λ c o sound stand only made. subst (λ z. IfSome z (IsBuilt c d o a b)) (sym is) tt
   told_built t d n (Some e) r told is apart = λ c o sound stand only made.
       let before : AreIncomparable (item_tree c a) (item_tree c b) = incomparable_before c d only.extends a b (Each-left (Stands c) (item_keys a) (item_keys b) stand) (Each-right (Stands c) (item_keys a) (item_keys b) stand) apart in
-      subst (λ z. IfSome z (IsBuilt c d o a b)) (sym is) (made_item c d o a b k (first_key p) (second_key p) (entry_key e) is_a is_b before (made.each (record { bound = t; pair = p }, e) told).made)
+      subst (λ z. IfSome z (IsBuilt c d o a b)) (sym is) (made_item c d o a b k (first_key p) (second_key p) (bound_key e) is_a is_b before (made.each (record { bound = t; pair = p }, e) told).made)
 
 -- one of the two is built of them
 pub built_of_two : (u : Bound) (c d : Collection) (o : Origins) (a b : ItemKind) → IsBuilt c d o a b (of_two u a b)

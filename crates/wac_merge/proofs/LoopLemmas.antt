@@ -24,7 +24,7 @@ use Rattle.wac_core_merge.proofs.NameLemmas.{lookup-append}
 use Rattle.wac_core_merge.specs.NameOrder.{HasSomeNames}
 use Rattle.wac_merge.specs.Bounded.{IsMetWith, IsJoinedWith, IsFirstMetAt, IsJoinedAt, AreJoined}
 use Rattle.wac_merge.specs.Built.{Origins, IsBuiltWith, IsBuiltAt, of_first, of_both, AreBuilt}
-use Rattle.wac_merge.specs.Items.{Externs, extern_keys}
+use Rattle.wac_merge.specs.Items.{ExternKinds, extern_keys}
 use Rattle.wac_merge.specs.Memo.{Made}
 use Rattle.wac_merge.specs.Runs.{FromBuilt}
 use Rattle.wac_merge.specs.Told.{IsBoundWith, AreFirstBound, HasFirstNames, LacksOnly}
@@ -48,7 +48,7 @@ module _ {A : Type 0} (shows : A → String Global × ItemKind) (all : List (Str
   pub name_has : lookup bytes_eq (named (λ k. k) all) (string_bytes (shows x).0) ≡ Some (shows x).1
   name_has =
       let n : Text = string_bytes (shows x).0 in
-      let rest : Externs = named (λ k. k) u in
+      let rest : ExternKinds = named (λ k. k) u in
       let same : bytes_eq n n ≡ true = (bytes_eq-Decides n n).1 refl in
       ap (λ l. lookup bytes_eq (named (λ k. k) l) n) whole
       ∙ ap (λ l. lookup bytes_eq l n) (map-append (λ (e : String Global × ItemKind). (string_bytes e.0, e.1)) (map shows ys) (shows x ∷ u))
@@ -60,7 +60,7 @@ module _ {A : Type 0} (shows : A → String Global × ItemKind) (all : List (Str
   done_more = ap (named (λ k. k)) (map-append shows ys (x ∷ [])) ∙ map-append (λ (e : String Global × ItemKind). (string_bytes e.0, e.1)) (map shows ys) (shows x ∷ [])
 
 -- what is put stands with all else
-pub stands_put : (c : Collection) (es : Externs) (k : Text) (v : ItemKind) → AllStand c (extern_keys es) → AllStand c (item_keys v) → AllStand c (extern_keys (insert_entry bytes_eq es k v))
+pub stands_put : (c : Collection) (es : ExternKinds) (k : Text) (v : ItemKind) → AllStand c (extern_keys es) → AllStand c (item_keys v) → AllStand c (extern_keys (insert_entry bytes_eq es k v))
 stands_put c [] k v h g = Each-append (Stands c) (item_keys v) [] g tt
 stands_put c (e ∷ es) k v h g = go (bytes_eq k e.0) (stands_put c es k v (Each-right (Stands c) (item_keys e.1) (extern_keys es) h) g)
   where
@@ -73,8 +73,8 @@ pub heights_stay : (c d : Collection) → Extends c d → (ks : List Key) → Al
 heights_stay c d grown ks stand = largest-same (Stands c) (height d) (height c) grown.heights ks stand
 
 -- one turn, in c
-module _ (c : Collection) (es ts done : Externs) (n : Text) (a : ItemKind) (o : Option ItemKind) (absent : lookup bytes_eq done n ≡ None) (other : o ≡ lookup bytes_eq ts n) (ms : Externs) where
-  pub bound_turn : (u : Bound) (m : ItemKind) (fs : Externs) → AreFirstBound u c c done ts (Some ms) → IsBoundWith u c c a o (Some m) → fs ≡ insert_entry bytes_eq ms n m → AreFirstBound u c c (done ++ (n, a) ∷ []) ts (Some fs)
+module _ (c : Collection) (es ts done : ExternKinds) (n : Text) (a : ItemKind) (o : Option ItemKind) (absent : lookup bytes_eq done n ≡ None) (other : o ≡ lookup bytes_eq ts n) (ms : ExternKinds) where
+  pub bound_turn : (u : Bound) (m : ItemKind) (fs : ExternKinds) → AreFirstBound u c c done ts (Some ms) → IsBoundWith u c c a o (Some m) → fs ≡ insert_entry bytes_eq ms n m → AreFirstBound u c c (done ++ (n, a) ∷ []) ts (Some fs)
   bound_turn Meet m fs before here put = turn_put (IsFirstMetAt c c) done ts n a absent ms before m fs put (subst (λ x. IsMetWith c c a x (Some m)) other here)
   bound_turn Join m fs before here put = turn_put (IsJoinedAt c c) done ts n a absent ms before m fs put (subst (λ x. IsJoinedWith c c a x (Some m)) other here)
 
@@ -86,25 +86,25 @@ module _ (c : Collection) (es ts done : Externs) (n : Text) (a : ItemKind) (o : 
   not_yet Meet before = subst (λ x. IsFirstMetAt c c x (lookup bytes_eq ts n) (lookup bytes_eq ms n)) absent (before n)
   not_yet Join before = subst (λ x. IsJoinedAt c c x (lookup bytes_eq ts n) (lookup bytes_eq ms n)) absent (before n)
 
-  pub names_turn : (u : Bound) → AreFirstBound u c c done ts (Some ms) → (m : ItemKind) (fs : Externs) → fs ≡ insert_entry bytes_eq ms n m → HasFirstNames u done ms → HasFirstNames u (done ++ (n, a) ∷ []) fs
+  pub names_turn : (u : Bound) → AreFirstBound u c c done ts (Some ms) → (m : ItemKind) (fs : ExternKinds) → fs ≡ insert_entry bytes_eq ms n m → HasFirstNames u done ms → HasFirstNames u (done ++ (n, a) ∷ []) fs
   names_turn Meet before m fs put names = all_names_put done n a absent ms (not_yet Meet before) m fs put names
   names_turn Join before m fs put names = some_names_put done n a absent ms (not_yet Join before) m fs put names
 
   pub names_dropped : AreJoined c c done ts ms → HasSomeNames bytes_eq done ms → HasSomeNames bytes_eq (done ++ (n, a) ∷ []) ms
   names_dropped before names = some_names_dropped done n a absent ms (not_yet Join before) names
 
-pub standing_turn : (c : Collection) (ms fs : Externs) (n : Text) (m : ItemKind) → AllStand c (extern_keys ms) → AllStand c (item_keys m) → fs ≡ insert_entry bytes_eq ms n m → AllStand c (extern_keys fs)
+pub standing_turn : (c : Collection) (ms fs : ExternKinds) (n : Text) (m : ItemKind) → AllStand c (extern_keys ms) → AllStand c (item_keys m) → fs ≡ insert_entry bytes_eq ms n m → AllStand c (extern_keys fs)
 standing_turn c ms fs n m standing here put = rw put (stands_put c ms n m standing here)
 
 -- what two lists have under a name stands where the lists do
-pub named_stand : (c : Collection) (es ts : Externs) (n : Text) (a : ItemKind) (o : Option ItemKind) → lookup bytes_eq es n ≡ Some a → o ≡ lookup bytes_eq ts n → AllStand c (extern_keys es ++ extern_keys ts) → AllStand c (item_keys a ++ optional_keys item_keys o)
+pub named_stand : (c : Collection) (es ts : ExternKinds) (n : Text) (a : ItemKind) (o : Option ItemKind) → lookup bytes_eq es n ≡ Some a → o ≡ lookup bytes_eq ts n → AllStand c (extern_keys es ++ extern_keys ts) → AllStand c (item_keys a ++ optional_keys item_keys o)
 named_stand c es ts n a o there other stand =
     Each-append (Stands c) (item_keys a) (optional_keys item_keys o)
     (named_stands c es n a there (Each-left (Stands c) (extern_keys es) (extern_keys ts) stand))
     (subst (λ x. AllStand c (optional_keys item_keys x)) (sym other) (found_stands c ts n (Each-right (Stands c) (extern_keys es) (extern_keys ts) stand)))
 
 -- what the turn builds
-module _ (d : Collection) (es ts : Externs) (n : Text) (a : ItemKind) (o : Option ItemKind) (there : lookup bytes_eq es n ≡ Some a) (other : o ≡ lookup bytes_eq ts n) where
+module _ (d : Collection) (es ts : ExternKinds) (n : Text) (a : ItemKind) (o : Option ItemKind) (there : lookup bytes_eq es n ≡ Some a) (other : o ≡ lookup bytes_eq ts n) where
   at_name : (c : Collection) (q : Origins) (m : ItemKind) → IsBuiltWith c d q a o m → IsBuiltAt c d q es ts n m
   at_name c q m h = go o other h
     where
@@ -112,11 +112,11 @@ module _ (d : Collection) (es ts : Externs) (n : Text) (a : ItemKind) (o : Optio
       go None g h = of_first (there ∙ ap (λ (k : ItemKind). Some k) (sym h))
       go (Some x) g h = of_both there (sym g) h
 
-  pub built_turn : {ms : Made} (xs fs : Externs) (m : ItemKind) → fs ≡ insert_entry bytes_eq xs n m → FromBuilt (extern_keys es ++ extern_keys ts) d ms (λ c q. AreBuilt c d q es ts xs)
+  pub built_turn : {ms : Made} (xs fs : ExternKinds) (m : ItemKind) → fs ≡ insert_entry bytes_eq xs n m → FromBuilt (extern_keys es ++ extern_keys ts) d ms (λ c q. AreBuilt c d q es ts xs)
       → FromBuilt (item_keys a ++ optional_keys item_keys o) d ms (λ c q. IsBuiltWith c d q a o m) → FromBuilt (extern_keys es ++ extern_keys ts) d ms (λ c q. AreBuilt c d q es ts fs)
   built_turn xs fs m put before here = λ c q sound stand only made.
       rw put (All-insert_entry (λ z. IsBuiltAt c d q es ts z.0 z.1) xs n m (before c q sound stand only made) (at_name c q m (here c q sound (named_stand c es ts n a o there other stand) only made)))
 
 -- what an item under a name lacks, two lists do
-pub lacks_under : (d : Collection) (es ts : Externs) (n : Text) (a : ItemKind) (o : Option ItemKind) → lookup bytes_eq es n ≡ Some a → o ≡ lookup bytes_eq ts n → (u : Untold) → LacksOnly d (item_keys a ++ optional_keys item_keys o) u → LacksOnly d (extern_keys es ++ extern_keys ts) u
+pub lacks_under : (d : Collection) (es ts : ExternKinds) (n : Text) (a : ItemKind) (o : Option ItemKind) → lookup bytes_eq es n ≡ Some a → o ≡ lookup bytes_eq ts n → (u : Untold) → LacksOnly d (item_keys a ++ optional_keys item_keys o) u → LacksOnly d (extern_keys es ++ extern_keys ts) u
 lacks_under d es ts n a o there other u h = LacksOnly-from d (extern_keys es ++ extern_keys ts) (item_keys a ++ optional_keys item_keys o) (λ b sound was stand. named_stand b es ts n a o there other stand) u h

@@ -13,8 +13,8 @@ use Rattle.wac_component.specs.Laws.{HasLeavesOf}
 use Rattle.wac_component.proofs.Keys.{Each-append}
 use Rattle.wac_component.proofs.Last.{IsLast}
 use Rattle.wac_merge.specs.Built.{uses_of_both, AreBuilt, IsModuleBuilt, of_interfaces, of_worlds, of_modules}
-use Rattle.wac_merge.specs.Items.{Externs, extern_keys, extern_list}
-use Rattle.wac_merge.specs.Memo.{Made, made_of, entry_key, IsBoundOf, IsMade, before, now}
+use Rattle.wac_merge.specs.Items.{ExternKinds, extern_keys, extern_list}
+use Rattle.wac_merge.specs.Memo.{Made, made_of, bound_key, IsBoundOf, IsBoundMade, before, now}
 use Rattle.wac_merge.specs.Reads.{imports_at, exports_at, met_at, joined_at, IsInterfaceOfBoth, IsWorldOfBoth, IsModuleAdded}
 use Rattle.wac_merge.specs.Runs.{FromBuilt, Runs}
 use Rattle.wac_merge.specs.Told.{HasBoundNames, AreSidesOf, AreSidesBuilt}
@@ -25,7 +25,7 @@ use Rattle.wac_merge.specs.declared.memo.Bound.TheVariants.{Meet, Join}
 use Rattle.wac_merge.specs.declared.memo.BoundId.{BoundId}
 use Rattle.wac_merge.specs.declared.memo.BoundId.TheVariants.{Interface, World, Module}
 use Rattle.wac_merge.specs.declared.memo.BoundMemo.{BoundMemo}
-use Rattle.wac_merge.specs.declared.memo.Pair.TheVariants.{Interfaces, Worlds, Modules}
+use Rattle.wac_merge.specs.declared.memo.BoundPair.TheVariants.{Interfaces, Worlds, Modules}
 use Rattle.wac_merge.proofs.BuiltLemmas.{Runs-made, Runs-none}
 use Rattle.wac_merge.proofs.ReadLemmas.{interface_exports_are, module_at, module_last, interface_last, world_last, world_imports_are, world_exports_are, imports_stay, exports_stay, imports_at_stand, exports_at_stand}
 
@@ -39,7 +39,7 @@ leaves_of_module : (c d : Collection) (e : ModuleTree) → d ≡ with_entry c (m
 leaves_of_module c d e h = subst (HasLeavesOf c) (sym h) record { number = refl; resources = refl; defined = refl; funcs = refl }
 
 -- a run that ends with an entry which was made before, or is made now
-made_in : (ks : List Key) (c e : Collection) (m n : BoundMemo) (a : Asked) (r : BoundId) (IsAdded : Type 0) → IsMade c m e n a r IsAdded → (IsAdded → Runs ks c (made_of m) e (made_of m ++ (a, r) ∷ [])) → Runs ks c (made_of m) e (made_of n)
+made_in : (ks : List Key) (c e : Collection) (m n : BoundMemo) (a : Asked) (r : BoundId) (IsAdded : Type 0) → IsBoundMade c m e n a r IsAdded → (IsAdded → Runs ks c (made_of m) e (made_of m ++ (a, r) ∷ [])) → Runs ks c (made_of m) e (made_of n)
 made_in ks c e m n a r IsAdded (before there here same) f = Runs-none ks c e here same.made
 made_in ks c e m n a r IsAdded (now new added put same_refused same) f = subst (λ (l : Made). Runs ks c (made_of m) e l) (sym put) (f added)
 
@@ -78,7 +78,7 @@ joined_stand Join c k sound stands = exports_at_stand c k sound stands
 
 -- c when two entries are read, e at the end
 module _ (u : Bound) (c e : Collection) (m n : BoundMemo) (r : BoundId) (more : Extends c e) (x y : Id) where
-  module _ (sound : IsSound c) (sx : Stands c (interface_key x)) (sy : Stands c (interface_key y)) (fs : Externs) (made : IsMade c m e n (record { bound = u; pair = Interfaces x y }) r ((q : Id) × (r ≡ Interface q) × IsInterfaceOfBoth c e x y fs q))
+  module _ (sound : IsSound c) (sx : Stands c (interface_key x)) (sy : Stands c (interface_key y)) (fs : ExternKinds) (made : IsBoundMade c m e n (record { bound = u; pair = Interfaces x y }) r ((q : Id) × (r ≡ Interface q) × IsInterfaceOfBoth c e x y fs q))
       (bound : IsBoundOf u c e (Interfaces x y) (Some r)) (names : HasBoundNames u (exports_at c (interface_key x)) (exports_at c (interface_key y)) fs) where
     all_or_some : (t : Bound) → HasBoundNames t (exports_at c (interface_key x)) (exports_at c (interface_key y)) fs → HasAllNames bytes_eq (exports_at c (interface_key x)) (exports_at c (interface_key y)) fs ⊎ HasSomeNames bytes_eq (exports_at c (interface_key x)) fs
     all_or_some Meet h = inl h
@@ -94,10 +94,10 @@ module _ (u : Bound) (c e : Collection) (m n : BoundMemo) (r : BoundId) (more : 
             let ts_are : h.second.exports ≡ exports_at c (interface_key y) = sym (interface_exports_are c y h.second h.second_at) in
             let entry : InterfaceContent = record { id = None; uses = uses_of_both h.first.uses h.second.uses; exports = fs } in
             Runs-made c e (record { bound = u; pair = Interfaces x y }) r (interface_entry h.first) (interface_entry h.second) (interface_entry entry) (λ b o. AreBuilt b c o (exports_at c (interface_key x)) (exports_at c (interface_key y)) fs) more
-            (leaves_of_interface c e entry h.added) (subst (λ z. IsLast c e (interface_entry entry) (entry_key z)) (sym is) (interface_last c e x y q fs h)) h.first_at h.second_at
+            (leaves_of_interface c e entry h.added) (subst (λ z. IsLast c e (interface_entry entry) (bound_key z)) (sym is) (interface_last c e x y q fs h)) h.first_at h.second_at
             (λ b o g. of_interfaces record { no_identifier = refl; uses = refl; exports = rw (es_are, ts_are) g; names = rw (es_are, ts_are) (all_or_some u names) }) bound (made_of m) built
 
-  module _ (sound : IsSound c) (sx : Stands c (world_key x)) (sy : Stands c (world_key y)) (w : WorldSides) (made : IsMade c m e n (record { bound = u; pair = Worlds x y }) r ((q : Id) × (r ≡ World q) × IsWorldOfBoth c e x y (extern_list w.imports) (extern_list w.exports) q))
+  module _ (sound : IsSound c) (sx : Stands c (world_key x)) (sy : Stands c (world_key y)) (w : WorldSides) (made : IsBoundMade c m e n (record { bound = u; pair = Worlds x y }) r ((q : Id) × (r ≡ World q) × IsWorldOfBoth c e x y (extern_list w.imports) (extern_list w.exports) q))
       (bound : IsBoundOf u c e (Worlds x y) (Some r)) (sides : AreSidesOf u c (world_key x) (world_key y) w) where
     abbrev AreNamed : Type 0
     AreNamed = (HasAllNames bytes_eq (exports_at c (world_key x)) (exports_at c (world_key y)) (extern_list w.exports) × HasSomeNames bytes_eq (imports_at c (world_key x)) (extern_list w.imports))
@@ -119,12 +119,12 @@ module _ (u : Bound) (c e : Collection) (m n : BoundMemo) (r : BoundId) (more : 
             let ts_are : h.second.exports ≡ exports_at c (world_key y) = sym (world_exports_are c y h.second h.second_at) in
             let entry : WorldContent = record { id = None; uses = uses_of_both h.first.uses h.second.uses; imports = extern_list w.imports; exports = extern_list w.exports } in
             Runs-made c e (record { bound = u; pair = Worlds x y }) r (world_entry h.first) (world_entry h.second) (world_entry entry) (λ b o. AreSidesBuilt b c o (world_key x) (world_key y) w) more
-            (leaves_of_world c e entry h.added) (subst (λ z. IsLast c e (world_entry entry) (entry_key z)) (sym is) (world_last c e x y q (extern_list w.imports) (extern_list w.exports) h)) h.first_at h.second_at
+            (leaves_of_world c e entry h.added) (subst (λ z. IsLast c e (world_entry entry) (bound_key z)) (sym is) (world_last c e x y q (extern_list w.imports) (extern_list w.exports) h)) h.first_at h.second_at
             (λ b o g. of_worlds record { no_identifier = refl; uses = refl; imports = rw (is_are, js_are) g.0; exports = rw (es_are, ts_are) g.1; names = rw (es_are, ts_are, is_are, js_are) (side_names u sides) }) bound (made_of m) built
 
   pub module_run : (s t : ModuleTree) (mt : ModuleContent) → slice_get c.modules x.index ≡ Some s → slice_get c.modules y.index ≡ Some t → IsModuleBuilt s.content t.content (module_of mt).content
-      → IsMade c m e n (record { bound = u; pair = Modules x y }) r ((q : Id) × (r ≡ Module q) × IsModuleAdded c e mt q) → IsBoundOf u c e (Modules x y) (Some r) → Runs (module_key x ∷ module_key y ∷ []) c (made_of m) e (made_of n)
+      → IsBoundMade c m e n (record { bound = u; pair = Modules x y }) r ((q : Id) × (r ≡ Module q) × IsModuleAdded c e mt q) → IsBoundOf u c e (Modules x y) (Some r) → Runs (module_key x ∷ module_key y ∷ []) c (made_of m) e (made_of n)
   module_run s t mt at_x at_y is_built made bound =
       made_in (module_key x ∷ module_key y ∷ []) c e m n (record { bound = u; pair = Modules x y }) r ((q : Id) × (r ≡ Module q) × IsModuleAdded c e mt q) made
       (λ h. Runs-made c e (record { bound = u; pair = Modules x y }) r (module_entry s) (module_entry t) (module_entry (module_of mt)) (λ b o. Unit {0}) more (leaves_of_module c e (module_of mt) h.2.added)
-      (subst (λ z. IsLast c e (module_entry (module_of mt)) (entry_key z)) (sym h.1) (module_last c e h.0 (module_of mt) h.2.added h.2.placed)) (module_at c x s at_x) (module_at c y t at_y) (λ b o g. of_modules is_built) bound (made_of m) (λ b o sound stand only made. tt))
+      (subst (λ z. IsLast c e (module_entry (module_of mt)) (bound_key z)) (sym h.1) (module_last c e h.0 (module_of mt) h.2.added h.2.placed)) (module_at c x s at_x) (module_at c y t at_y) (λ b o g. of_modules is_built) bound (made_of m) (λ b o sound stand only made. tt))

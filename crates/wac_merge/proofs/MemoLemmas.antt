@@ -11,12 +11,12 @@ use Rattle.wac_component.proofs.Extended.{Extends-refl}
 use Rattle.wac_checker.proofs.ComparedGrowth.{KnowsTruly-grown}
 use Rattle.wac_checker.specs.Compared.{KnowsTruly}
 use Rattle.wac_merge.specs.Items.{entry_item}
-use Rattle.wac_merge.specs.Memo.{Made, made_of, refused_of, first_key, second_key, entry_key, order_of, IsNew, IsSame, IsBoundOf, IsRefused, IsTrueMade, IsTrueRefused, AreMadeOnce, IsTrueMemo, Grows, IsMade, before, now}
+use Rattle.wac_merge.specs.Memo.{Made, made_of, refused_of, first_key, second_key, bound_key, order_of, IsNew, IsSame, IsBoundOf, IsRefused, IsTrueMade, IsTrueRefused, AreMadeOnce, IsTrueMemo, Grows, IsBoundMade, before, now}
 use Rattle.wac_merge.specs.declared.memo.Asked.{Asked}
 use Rattle.wac_merge.specs.declared.memo.Bound.{Bound}
 use Rattle.wac_merge.specs.declared.memo.BoundId.{BoundId}
 use Rattle.wac_merge.specs.declared.memo.BoundMemo.{BoundMemo}
-use Rattle.wac_merge.specs.declared.memo.Pair.{Pair}
+use Rattle.wac_merge.specs.declared.memo.BoundPair.{BoundPair}
 use Rattle.wac_merge.proofs.BoundLemmas.{bound_later, bound_after}
 use Rattle.wac_merge.proofs.BuiltLemmas.{entry_item_stands}
 
@@ -59,9 +59,9 @@ module _ (d e : Collection) (grown : Extends d e) where
   IsTrueMade-grown x h = record {
     first = grown.standing (first_key x.0.pair) h.first;
     second = grown.standing (second_key x.0.pair) h.second;
-    stands = grown.standing (entry_key x.1) h.stands;
-    bound = λ k. bound_later (order_of x.0.bound) d e grown (entry_item k (first_key x.0.pair)) (entry_item k (second_key x.0.pair)) (entry_item_stands d k (first_key x.0.pair) h.first) (entry_item_stands d k (second_key x.0.pair) h.second) (Some (item_tree e (entry_item k (entry_key x.1))))
-        (bound_after (order_of x.0.bound) d e grown (item_tree d (entry_item k (first_key x.0.pair))) (item_tree d (entry_item k (second_key x.0.pair))) (entry_item k (entry_key x.1)) (entry_item_stands d k (entry_key x.1) h.stands) (h.bound k));
+    stands = grown.standing (bound_key x.1) h.stands;
+    bound = λ k. bound_later (order_of x.0.bound) d e grown (entry_item k (first_key x.0.pair)) (entry_item k (second_key x.0.pair)) (entry_item_stands d k (first_key x.0.pair) h.first) (entry_item_stands d k (second_key x.0.pair) h.second) (Some (item_tree e (entry_item k (bound_key x.1))))
+        (bound_after (order_of x.0.bound) d e grown (item_tree d (entry_item k (first_key x.0.pair))) (item_tree d (entry_item k (second_key x.0.pair))) (entry_item k (bound_key x.1)) (entry_item_stands d k (bound_key x.1) h.stands) (h.bound k));
   }
 
   IsTrueRefused-grown : (a : Asked) → IsTrueRefused d a → IsTrueRefused e a
@@ -122,15 +122,15 @@ Grows-noted d m n same h = record { extends = Extends-refl d; counted = ap (λ (
 
 -- ---- an entry that was made before or is made now
 
-pub record IsDone (t : Bound) (p : Pair) (c : Collection) (m : BoundMemo) (e : Collection) (n : BoundMemo) (r : BoundId) : Type 0 where
+pub record IsDone (t : Bound) (p : BoundPair) (c : Collection) (m : BoundMemo) (e : Collection) (n : BoundMemo) (r : BoundId) : Type 0 where
   pub grows : Grows c m e n
   pub bound : IsBoundOf t c e p (Some r)
 
-module _ (t : Bound) (p : Pair) (c : Collection) (m : BoundMemo) (e : Collection) (n : BoundMemo) (r : BoundId) (more : Extends c e) (sx : Stands c (first_key p)) (sy : Stands c (second_key p)) (known : IsTrueMemo c m) where
+module _ (t : Bound) (p : BoundPair) (c : Collection) (m : BoundMemo) (e : Collection) (n : BoundMemo) (r : BoundId) (more : Extends c e) (sx : Stands c (first_key p)) (sy : Stands c (second_key p)) (known : IsTrueMemo c m) where
   bound_at_end : IsBoundOf t c e p (Some r) → IsBoundOf t e e p (Some r)
-  bound_at_end h = λ k. bound_later (order_of t) c e more (entry_item k (first_key p)) (entry_item k (second_key p)) (entry_item_stands c k (first_key p) sx) (entry_item_stands c k (second_key p) sy) (Some (item_tree e (entry_item k (entry_key r)))) (h k)
+  bound_at_end h = λ k. bound_later (order_of t) c e more (entry_item k (first_key p)) (entry_item k (second_key p)) (entry_item_stands c k (first_key p) sx) (entry_item_stands c k (second_key p) sy) (Some (item_tree e (entry_item k (bound_key r)))) (h k)
 
-  pub done : (IsAdded : Type 0) → (IsAdded → (entry_count e ≡ suc (entry_count c)) × IsBoundOf t c e p (Some r) × Stands e (entry_key r)) → IsMade c m e n (record { bound = t; pair = p }) r IsAdded → IsDone t p c m e n r
+  pub done : (IsAdded : Type 0) → (IsAdded → (entry_count e ≡ suc (entry_count c)) × IsBoundOf t c e p (Some r) × Stands e (bound_key r)) → IsBoundMade c m e n (record { bound = t; pair = p }) r IsAdded → IsDone t p c m e n r
   done IsAdded f (before there here same) =
       subst (λ z. IsDone t p c m z n r) (sym here) record { grows = Grows-same c c m n known refl same; bound = (known.made (record { bound = t; pair = p }, r) there).bound }
   done IsAdded f (now new added put same_refused same) =

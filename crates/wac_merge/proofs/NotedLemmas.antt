@@ -8,8 +8,8 @@ use Rattle.wac_component.specs.Key.{Stands, interface_key, world_key, module_key
 use Rattle.wac_component.specs.Sound.{IsSound}
 use Rattle.wac_component.specs.Tree.{module_tree}
 use Rattle.wac_merge.specs.Built.{AreBuilt}
-use Rattle.wac_merge.specs.Items.{Externs, extern_list}
-use Rattle.wac_merge.specs.Memo.{asked_for, Made, made_of, IsMade, IsTrueMemo, IsTrueRefused, Grows}
+use Rattle.wac_merge.specs.Items.{ExternKinds, extern_list}
+use Rattle.wac_merge.specs.Memo.{asked_for, Made, made_of, IsBoundMade, IsTrueMemo, IsTrueRefused, Grows}
 use Rattle.wac_merge.specs.Reads.{exports_at, IsInterfaceOfBoth, IsWorldOfBoth}
 use Rattle.wac_merge.specs.Runs.{FromBuilt, Runs}
 use Rattle.wac_merge.specs.Told.{AreBound, HasBoundNames, AreSides, AreSidesOf, AreSidesBuilt, IsModuleBoundIn}
@@ -20,8 +20,8 @@ use Rattle.wac_merge.specs.declared.memo.Bound.TheVariants.{Meet, Join}
 use Rattle.wac_merge.specs.declared.memo.BoundId.{BoundId}
 use Rattle.wac_merge.specs.declared.memo.BoundId.TheVariants.{Interface, World}
 use Rattle.wac_merge.specs.declared.memo.BoundMemo.{BoundMemo}
-use Rattle.wac_merge.specs.declared.memo.Pair.{Pair}
-use Rattle.wac_merge.specs.declared.memo.Pair.TheVariants.{Interfaces, Worlds, Modules}
+use Rattle.wac_merge.specs.declared.memo.BoundPair.{BoundPair}
+use Rattle.wac_merge.specs.declared.memo.BoundPair.TheVariants.{Interfaces, Worlds, Modules}
 use Rattle.wac_merge.proofs.CompositeLemmas.{interfaces_clash, worlds_clash, worlds_do_not_join, modules_met, modules_joined}
 use Rattle.wac_merge.proofs.DoneLemmas.{interface_done, world_done}
 use Rattle.wac_merge.proofs.MadeLemmas.{interface_run, world_run}
@@ -30,7 +30,7 @@ use Rattle.wac_merge.proofs.ReadLemmas.{has_exports_at}
 
 -- c when two entries are read, and l is remembered; m with what is compared since; e and n at the end
 module _ (c e : Collection) (l m n : BoundMemo) (u : Bound) (r : BoundId) (same : made_of m ≡ made_of l) (known : IsTrueMemo c m) (more : Extends c e) (sound : IsSound c) (x y : Id) where
-  module _ (sx : Stands c (interface_key x)) (sy : Stands c (interface_key y)) (fs : Externs) (made : IsMade c m e n (asked_for u (Interfaces x y)) r ((q : Id) × (r ≡ Interface q) × IsInterfaceOfBoth c e x y fs q))
+  module _ (sx : Stands c (interface_key x)) (sy : Stands c (interface_key y)) (fs : ExternKinds) (made : IsBoundMade c m e n (asked_for u (Interfaces x y)) r ((q : Id) × (r ≡ Interface q) × IsInterfaceOfBoth c e x y fs q))
       (bound : AreBound u c c (exports_at c (interface_key x)) (exports_at c (interface_key y)) (Some fs)) where
     pub interface_grows : Grows c l e n
     interface_grows = Grows-after c e l m n same (interface_done u c e m n r known more x y sound sx sy fs bound made).grows
@@ -42,7 +42,7 @@ module _ (c e : Collection) (l m n : BoundMemo) (u : Bound) (r : BoundId) (same 
         (interface_run u c e m n r more x y sound sx sy fs made (interface_done u c e m n r known more x y sound sx sy fs bound made).bound names
         (subst (λ (z : Made). FromBuilt (interface_key x ∷ interface_key y ∷ []) c z (λ b o. AreBuilt b c o (exports_at c (interface_key x)) (exports_at c (interface_key y)) fs)) (sym same) built))
 
-  module _ (sx : Stands c (world_key x)) (sy : Stands c (world_key y)) (w : WorldSides) (made : IsMade c m e n (asked_for u (Worlds x y)) r ((q : Id) × (r ≡ World q) × IsWorldOfBoth c e x y (extern_list w.imports) (extern_list w.exports) q))
+  module _ (sx : Stands c (world_key x)) (sy : Stands c (world_key y)) (w : WorldSides) (made : IsBoundMade c m e n (asked_for u (Worlds x y)) r ((q : Id) × (r ≡ World q) × IsWorldOfBoth c e x y (extern_list w.imports) (extern_list w.exports) q))
       (bound : AreSidesOf u c (world_key x) (world_key y) w) where
     pub world_grows : Grows c l e n
     world_grows = Grows-after c e l m n same (world_done u c e m n r known more x y sound sx sy w bound made).grows

@@ -9,20 +9,20 @@ use Rattle.wac_component.proofs.Among.{Contains-first, Contains-later, Contains-
 use Rattle.wac_component.proofs.Keys.{Key-discrete}
 use Rattle.wac_merge.specs.Built.{Origins, IsAdded, IsBoundAs, AreOnes}
 use Rattle.wac_merge.specs.Items.{entry_item}
-use Rattle.wac_merge.specs.Memo.{Made, made_of, first_key, second_key, entry_key, IsBoundOf, AreMadeOnce, IsTrueMemo}
+use Rattle.wac_merge.specs.Memo.{Made, made_of, first_key, second_key, bound_key, IsBoundOf, AreMadeOnce, IsTrueMemo}
 use Rattle.wac_merge.specs.Runs.{IsNoted, AreMadeOn}
 use Rattle.wac_merge.specs.declared.memo.Asked.{Asked}
 use Rattle.wac_merge.specs.declared.memo.Bound.{Bound}
 use Rattle.wac_merge.specs.declared.memo.Bound.TheVariants.{Meet, Join}
 use Rattle.wac_merge.specs.declared.memo.BoundId.{BoundId}
 use Rattle.wac_merge.specs.declared.memo.BoundMemo.{BoundMemo}
-use Rattle.wac_merge.specs.declared.memo.Pair.{Pair}
-use Rattle.wac_merge.specs.declared.memo.Pair.TheVariants.{Interfaces, Worlds, Modules}
+use Rattle.wac_merge.specs.declared.memo.BoundPair.{BoundPair}
+use Rattle.wac_merge.specs.declared.memo.BoundPair.TheVariants.{Interfaces, Worlds, Modules}
 use Rattle.wac_merge.proofs.BoundLemmas.{bound_before}
 use Rattle.wac_merge.proofs.BuiltLemmas.{entry_item_stands}
 
 -- a pair is the two that it names
-pair_same : (p q : Pair) → first_key p ≡ first_key q → second_key p ≡ second_key q → p ≡ q
+pair_same : (p q : BoundPair) → first_key p ≡ first_key q → second_key p ≡ second_key q → p ≡ q
 pair_same (Interfaces x y) (Interfaces u v) f s = λ i. Interfaces (f i).id (s i).id
 pair_same (Worlds x y) (Worlds u v) f s = λ i. Worlds (f i).id (s i).id
 pair_same (Modules x y) (Modules u v) f s = λ i. Modules (f i).id (s i).id
@@ -57,46 +57,46 @@ bound_in (no h) b c = c
 
 chosen : Made → Key → Bound
 chosen [] m = Meet
-chosen (x ∷ xs) m = bound_in (Key-discrete (entry_key x.1) m) x.0.bound (chosen xs m)
+chosen (x ∷ xs) m = bound_in (Key-discrete (bound_key x.1) m) x.0.bound (chosen xs m)
 
 record Noted (ms : Made) (m : Key) (b : Bound) : Type 0 where
   asked : Asked × BoundId
   there : Contains ms asked
-  is : entry_key asked.1 ≡ m
+  is : bound_key asked.1 ≡ m
   bound : asked.0.bound ≡ b
 
 noted : (ms : Made) (m : Key) → IsNoted ms m → Noted ms m (chosen ms m)
 unfolding chosen bound_in
 noted [] m (x, there, is) = absurd (omega (arith, there.1))
-noted (y ∷ ys) m (x, there, is) = go (Key-discrete (entry_key y.1) m) (λ later. noted ys m (x, later, is))
+noted (y ∷ ys) m (x, there, is) = go (Key-discrete (bound_key y.1) m) (λ later. noted ys m (x, later, is))
   where
-    go : (h : Dec (entry_key y.1 ≡ m)) → (Contains ys x → Noted ys m (chosen ys m)) → Noted (y ∷ ys) m (bound_in h y.0.bound (chosen ys m))
+    go : (h : Dec (bound_key y.1 ≡ m)) → (Contains ys x → Noted ys m (chosen ys m)) → Noted (y ∷ ys) m (bound_in h y.0.bound (chosen ys m))
     go (yes e) f = record { asked = y; there = Contains-first y ys; is = e; bound = refl }
     go (no apart) f = elim (Contains-cases x y ys there) [
-      | inl same ↦ elim (apart (ap (λ (z : Asked × BoundId). entry_key z.1) same ∙ is)) [ ]
+      | inl same ↦ elim (apart (ap (λ (z : Asked × BoundId). bound_key z.1) same ∙ is)) [ ]
       | inr later ↦ let r = f later in record { asked = r.asked; there = Contains-later r.asked y ys r.there; is = r.is; bound = r.bound }
     ]
 
 -- from c to d, with all that d has more remembered in n
 module _ (c d : Collection) (o : Origins) (n : BoundMemo) (grown : Extends c d) (known : IsTrueMemo d n) (made : AreMadeOn c d o (made_of n)) where
-  as_bound : (b : Bound) (p : Pair) (r : BoundId) → Stands c (first_key p) → Stands c (second_key p) → IsBoundOf b d d p (Some r) → IsBoundAs b c d (first_key p, second_key p) (entry_key r)
+  as_bound : (b : Bound) (p : BoundPair) (r : BoundId) → Stands c (first_key p) → Stands c (second_key p) → IsBoundOf b d d p (Some r) → IsBoundAs b c d (first_key p, second_key p) (bound_key r)
   as_bound Meet p r sx sy h =
-      λ k. bound_before Fits c d grown (entry_item k (first_key p)) (entry_item k (second_key p)) (entry_item_stands c k (first_key p) sx) (entry_item_stands c k (second_key p) sy) (Some (item_tree d (entry_item k (entry_key r)))) (h k)
+      λ k. bound_before Fits c d grown (entry_item k (first_key p)) (entry_item k (second_key p)) (entry_item_stands c k (first_key p) sx) (entry_item_stands c k (second_key p) sy) (Some (item_tree d (entry_item k (bound_key r)))) (h k)
   as_bound Join p r sx sy h =
-      λ k. bound_before (λ s t. Fits t s) c d grown (entry_item k (first_key p)) (entry_item k (second_key p)) (entry_item_stands c k (first_key p) sx) (entry_item_stands c k (second_key p) sy) (Some (item_tree d (entry_item k (entry_key r)))) (h k)
+      λ k. bound_before (λ s t. Fits t s) c d grown (entry_item k (first_key p)) (entry_item k (second_key p)) (entry_item_stands c k (first_key p) sx) (entry_item_stands c k (second_key p) sy) (Some (item_tree d (entry_item k (bound_key r)))) (h k)
 
   added_noted : (m : Key) → IsAdded c d m → Noted (made_of n) m (chosen (made_of n) m)
   added_noted m added = elim (made.all m added.0) [ inl stood ↦ elim (added.1 stood) [ ] | inr here ↦ noted (made_of n) m here ]
 
   -- the two of its origin are those that it was made for
-  made_for : (m : Key) (x : Asked × BoundId) → Contains (made_of n) x → entry_key x.1 ≡ m → o m ≡ (first_key x.0.pair, second_key x.0.pair)
+  made_for : (m : Key) (x : Asked × BoundId) → Contains (made_of n) x → bound_key x.1 ≡ m → o m ≡ (first_key x.0.pair, second_key x.0.pair)
   made_for m x there is = ap o (sym is) ∙ (made.each x there).made.2
 
   is_bound : (m : Key) → IsAdded c d m → IsBoundAs (chosen (made_of n) m) c d (o m) m
   is_bound m added =
       let x = added_noted m added in
       let on = made.each x.asked x.there in
-      let here : IsBoundAs x.asked.0.bound c d (first_key x.asked.0.pair, second_key x.asked.0.pair) (entry_key x.asked.1) = as_bound x.asked.0.bound x.asked.0.pair x.asked.1 on.first on.second (known.made x.asked x.there).bound in
+      let here : IsBoundAs x.asked.0.bound c d (first_key x.asked.0.pair, second_key x.asked.0.pair) (bound_key x.asked.1) = as_bound x.asked.0.bound x.asked.0.pair x.asked.1 on.first on.second (known.made x.asked x.there).bound in
       subst (λ (b : Bound). IsBoundAs b c d (o m) m) x.bound
       (subst (λ (p : Key × Key). IsBoundAs x.asked.0.bound c d p m) (sym (made_for m x.asked x.there x.is))
       (subst (λ (z : Key). IsBoundAs x.asked.0.bound c d (first_key x.asked.0.pair, second_key x.asked.0.pair) z) x.is here))
@@ -109,7 +109,7 @@ module _ (c d : Collection) (o : Origins) (n : BoundMemo) (grown : Extends c d) 
       let pairs : x.asked.0.pair ≡ y.asked.0.pair = pair_same x.asked.0.pair y.asked.0.pair (ap (λ (z : Key × Key). z.0) both) (ap (λ (z : Key × Key). z.1) both) in
       let asked : x.asked.0 ≡ y.asked.0 = asked_same x.asked.0 y.asked.0 (x.bound ∙ same_bound ∙ sym y.bound) pairs in
       let entry : x.asked.1 ≡ y.asked.1 = made_once (made_of n) known.once y.asked.0 x.asked.1 y.asked.1 (subst (λ (a : Asked). Contains (made_of n) (a, x.asked.1)) asked x.there) y.there in
-      sym x.is ∙ ap entry_key entry ∙ y.is
+      sym x.is ∙ ap bound_key entry ∙ y.is
 
   pub ones : AreOnes c d o
   ones = record { bound = chosen (made_of n); is_bound = is_bound; one = one }

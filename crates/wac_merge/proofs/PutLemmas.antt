@@ -13,10 +13,10 @@ use Rattle.wac_component.specs.Content.{named}
 use Rattle.wac_component.specs.declared.items.ItemKind.{ItemKind}
 use Rattle.wac_checker.proofs.Lookups.{get_named}
 use Rattle.wac_core_merge.proofs.NameLemmas.{lookup-append, lookup-by_test, absent_before}
-use Rattle.wac_merge.specs.Items.{Externs}
+use Rattle.wac_merge.specs.Items.{ExternKinds}
 
 -- a look-up after an item is put under a name
-pub lookup-insert_entry : (es : Externs) (k : Text) (v : ItemKind) (n : Text) → lookup bytes_eq (insert_entry bytes_eq es k v) n ≡ cond (bytes_eq n k) (Some v) (lookup bytes_eq es n)
+pub lookup-insert_entry : (es : ExternKinds) (k : Text) (v : ItemKind) (n : Text) → lookup bytes_eq (insert_entry bytes_eq es k v) n ≡ cond (bytes_eq n k) (Some v) (lookup bytes_eq es n)
 lookup-insert_entry [] k v n = refl
 lookup-insert_entry (e ∷ es) k v n = go (bytes_eq k e.0) refl (lookup-insert_entry es k v n)
   where
@@ -40,7 +40,7 @@ lookup-insert_entry (e ∷ es) k v n = go (bytes_eq k e.0) refl (lookup-insert_e
         let yes : bytes_eq k e.0 ≡ true = (bytes_eq-Decides k e.0).1 met in cc in
         ap (λ o. cond (bytes_eq n e.0) (Some e.1) o) ih ∙ past (bytes_eq n e.0) (bytes_eq n k) apart (lookup bytes_eq es n)
 
-pub All-insert_entry : (P : Text × ItemKind → Type 0) (es : Externs) (k : Text) (v : ItemKind) → All P es → P (k, v) → All P (insert_entry bytes_eq es k v)
+pub All-insert_entry : (P : Text × ItemKind → Type 0) (es : ExternKinds) (k : Text) (v : ItemKind) → All P es → P (k, v) → All P (insert_entry bytes_eq es k v)
 All-insert_entry P [] k v h p = All-cons P (k, v) [] p h
 All-insert_entry P (e ∷ es) k v h p = go (bytes_eq k e.0) refl (All-insert_entry P es k v (All-tail P e es h) p)
   where
@@ -60,16 +60,16 @@ named-insert_entry (e ∷ es) k v = go (bytes_eq (string_bytes k) (string_bytes 
     go : (b : Bool) → named (λ i. i) (insert_entry (λ s t. bytes_eq (string_bytes s) (string_bytes t)) es k v) ≡ insert_entry bytes_eq (named (λ i. i) es) (string_bytes k) v
         → named (λ i. i) (cond b ((e.0, v) ∷ es) (e ∷ insert_entry (λ s t. bytes_eq (string_bytes s) (string_bytes t)) es k v)) ≡ cond b ((string_bytes e.0, v) ∷ named (λ i. i) es) ((string_bytes e.0, e.1) ∷ insert_entry bytes_eq (named (λ i. i) es) (string_bytes k) v)
     go true h = refl
-    go false h = ap (λ (l : Externs). (string_bytes e.0, e.1) ∷ l) h
+    go false h = ap (λ (l : ExternKinds). (string_bytes e.0, e.1) ∷ l) h
 
 or_none : (o : Option ItemKind) → option_or o None ≡ o
 or_none None = refl
 or_none (Some k) = refl
 
 -- a fact of what stands under each name among the entries before a new name, one entry more
-module _ (P : Option ItemKind → Option ItemKind → Option ItemKind → Type 0) (done ts : Externs) (n : Text) (a : ItemKind) (absent : lookup bytes_eq done n ≡ None) (ms : Externs)
+module _ (P : Option ItemKind → Option ItemKind → Option ItemKind → Type 0) (done ts : ExternKinds) (n : Text) (a : ItemKind) (absent : lookup bytes_eq done n ≡ None) (ms : ExternKinds)
     (before : (q : Text) → P (lookup bytes_eq done q) (lookup bytes_eq ts q) (lookup bytes_eq ms q)) where
-  more : Externs
+  more : ExternKinds
   more = done ++ (n, a) ∷ []
 
   more_here : lookup bytes_eq more n ≡ Some a
@@ -82,7 +82,7 @@ module _ (P : Option ItemKind → Option ItemKind → Option ItemKind → Type 0
   unfolding more
   more_past q g = lookup-append bytes_eq done ((n, a) ∷ []) q ∙ ap (λ b. option_or (lookup bytes_eq done q) (cond b (Some a) None)) g ∙ or_none (lookup bytes_eq done q)
 
-  pub turn_put : (m : ItemKind) (fs : Externs) → fs ≡ insert_entry bytes_eq ms n m → P (Some a) (lookup bytes_eq ts n) (Some m)
+  pub turn_put : (m : ItemKind) (fs : ExternKinds) → fs ≡ insert_entry bytes_eq ms n m → P (Some a) (lookup bytes_eq ts n) (Some m)
       → (q : Text) → P (lookup bytes_eq (done ++ (n, a) ∷ []) q) (lookup bytes_eq ts q) (lookup bytes_eq fs q)
   unfolding more
   turn_put m fs put here q = go (bytes_eq q n) refl

@@ -22,8 +22,8 @@ use Rattle.wac_component.proofs.Members.{uses_stand, world_uses_stand, exports_s
 use Rattle.wac_component.proofs.Reading.{interface_standing, interface_lower}
 use Rattle.wac_component.proofs.Trees.{interface-externs, world-externs}
 use Rattle.wac_merge.specs.Built.{uses_of_both}
-use Rattle.wac_merge.specs.Items.{Externs, extern_keys}
-use Rattle.wac_merge.specs.Reads.{entry_imports, entry_exports, imports_at, exports_at, HasExports, IsInterfaceOfBoth, IsWorldOfBoth}
+use Rattle.wac_merge.specs.Items.{ExternKinds, extern_keys}
+use Rattle.wac_merge.specs.Reads.{entry_imports, exports_in_entry, imports_at, exports_at, HasExports, IsInterfaceOfBoth, IsWorldOfBoth}
 use Rattle.wac_component.proofs.Last.{IsLast, with_entry-last}
 
 -- an entry of the list of its sort
@@ -36,7 +36,7 @@ world_at c x e h = slice_get-map world_entry c.worlds x.index ∙ ap (option_map
 pub module_at : (c : Collection) (x : Id) (e : ModuleTree) → slice_get c.modules x.index ≡ Some e → entry_at c (module_key x) ≡ Some (module_entry e)
 module_at c x e h = slice_get-map module_entry c.modules x.index ∙ ap (option_map module_entry) h
 
-pub reads_interface : (c : Collection) (x : Id) (e : InterfaceContent) (es : Externs) → slice_get c.interfaces x.index ≡ Some e → externs c (interface_key x) ≡ interface_externs (item_tree c) e
+pub reads_interface : (c : Collection) (x : Id) (e : InterfaceContent) (es : ExternKinds) → slice_get c.interfaces x.index ≡ Some e → externs c (interface_key x) ≡ interface_externs (item_tree c) e
     → AllStand c (interface_keys e) → keys_height c (interface_keys e) < height c (interface_key x) → es ≡ e.exports → HasExports c x es
 reads_interface c x e es at tree stand lower same = record {
   entry = e;
@@ -51,7 +51,7 @@ reads_interface c x e es at tree stand lower same = record {
 
 pub interface_exports_are : (c : Collection) (x : Id) (e : InterfaceContent) → entry_at c (interface_key x) ≡ Some (interface_entry e) → exports_at c (interface_key x) ≡ e.exports
 unfolding exports_at
-interface_exports_are c x e h = ap (λ o. option_map_or entry_exports o []) h
+interface_exports_are c x e h = ap (λ o. option_map_or exports_in_entry o []) h
 
 -- what a world imports and exports, by its entry
 
@@ -61,7 +61,7 @@ world_imports_are c x e h = ap (λ o. option_map_or entry_imports o []) h
 
 pub world_exports_are : (c : Collection) (x : Id) (e : WorldContent) → entry_at c (world_key x) ≡ Some (world_entry e) → exports_at c (world_key x) ≡ e.exports
 unfolding exports_at
-world_exports_are c x e h = ap (λ o. option_map_or entry_exports o []) h
+world_exports_are c x e h = ap (λ o. option_map_or exports_in_entry o []) h
 
 -- what an id imports and exports is the same while the collection grows
 
@@ -71,7 +71,7 @@ imports_stay c d grown k stands = ap (λ o. option_map_or entry_imports o []) (g
 
 pub exports_stay : (c d : Collection) → Extends c d → (k : Key) → Stands c k → exports_at d k ≡ exports_at c k
 unfolding exports_at
-exports_stay c d grown k stands = ap (λ o. option_map_or entry_exports o []) (grown.same_entry k stands)
+exports_stay c d grown k stands = ap (λ o. option_map_or exports_in_entry o []) (grown.same_entry k stands)
 
 -- it stands where the id does
 
@@ -92,7 +92,7 @@ pub exports_at_stand : (c : Collection) (k : Key) → IsSound c → Stands c k �
 unfolding exports_at
 exports_at_stand c k sound stands = go (entry_at c k) (sound.standing k stands)
   where
-    go : (o : Option Entry) → AllStand c (optional_keys entry_keys o) → AllStand c (extern_keys (option_map_or entry_exports o []))
+    go : (o : Option Entry) → AllStand c (optional_keys entry_keys o) → AllStand c (extern_keys (option_map_or exports_in_entry o []))
     go None h = tt
     go (Some (defined_entry e)) h = tt
     go (Some (resource_entry e)) h = tt
@@ -128,14 +128,14 @@ world_tree c x sound stands = elim (slice_get_cases c.worlds x.index).1 [
 
 -- the entries that are added are last
 
-pub interface_last : (c d : Collection) (x y p : Id) (es : Externs) (h : IsInterfaceOfBoth c d x y es p)
+pub interface_last : (c d : Collection) (x y p : Id) (es : ExternKinds) (h : IsInterfaceOfBoth c d x y es p)
     → IsLast c d (interface_entry (record { id = None; uses = uses_of_both h.first.uses h.second.uses; exports = es })) (interface_key p)
 interface_last c d x y p es h =
     let e : InterfaceContent = record { id = None; uses = uses_of_both h.first.uses h.second.uses; exports = es } in
     subst (λ z. IsLast c z (interface_entry e) (interface_key p)) (sym h.added)
     (with_entry-last c (interface_entry e) (interface_key p) refl (ap (λ (z : Id). z.number) h.placed) (ap (λ (z : Id). z.index) h.placed ∙ sym (length-map c.interfaces interface_entry)))
 
-pub world_last : (c d : Collection) (x y p : Id) (is es : Externs) (h : IsWorldOfBoth c d x y is es p)
+pub world_last : (c d : Collection) (x y p : Id) (is es : ExternKinds) (h : IsWorldOfBoth c d x y is es p)
     → IsLast c d (world_entry (record { id = None; uses = uses_of_both h.first.uses h.second.uses; imports = is; exports = es })) (world_key p)
 world_last c d x y p is es h =
     let e : WorldContent = record { id = None; uses = uses_of_both h.first.uses h.second.uses; imports = is; exports = es } in
@@ -166,18 +166,18 @@ uses_stand_together c us vs h g = joined us h
     joined [] h = kept (λ v. is_new bytes_eq us v.0) vs g
     joined (x ∷ xs) h = (h.0, joined xs h.1)
 
-pub interface_stands : (c : Collection) (us : List (Text × UseContent)) (es : Externs) (a b : InterfaceContent) → us ≡ uses_of_both a.uses b.uses → AllStand c (interface_keys a) → AllStand c (interface_keys b) → AllStand c (extern_keys es)
+pub interface_stands : (c : Collection) (us : List (Text × UseContent)) (es : ExternKinds) (a b : InterfaceContent) → us ≡ uses_of_both a.uses b.uses → AllStand c (interface_keys a) → AllStand c (interface_keys b) → AllStand c (extern_keys es)
     → AllStand c (interface_keys (record { id = None; uses = us; exports = es }))
 interface_stands c us es a b is sa sb se =
     Each-append (Stands c) (named_keys use_keys us) (named_keys item_keys es) (rw is (uses_stand_together c a.uses b.uses (uses_stand c a sa) (uses_stand c b sb))) se
 
-pub world_stands : (c : Collection) (us : List (Text × UseContent)) (is es : Externs) (a b : WorldContent) → us ≡ uses_of_both a.uses b.uses → AllStand c (world_keys a) → AllStand c (world_keys b) → AllStand c (extern_keys is) → AllStand c (extern_keys es)
+pub world_stands : (c : Collection) (us : List (Text × UseContent)) (is es : ExternKinds) (a b : WorldContent) → us ≡ uses_of_both a.uses b.uses → AllStand c (world_keys a) → AllStand c (world_keys b) → AllStand c (extern_keys is) → AllStand c (extern_keys es)
     → AllStand c (world_keys (record { id = None; uses = us; imports = is; exports = es }))
 world_stands c us is es a b same sa sb si se =
     Each-append (Stands c) (named_keys use_keys us ++ named_keys item_keys is) (named_keys item_keys es)
     (Each-append (Stands c) (named_keys use_keys us) (named_keys item_keys is) (rw same (uses_stand_together c a.uses b.uses (world_uses_stand c a sa) (world_uses_stand c b sb))) si) se
 
-pub interface_made : (r : Result Id AllocError) (c d : Collection) (x y : Id) (us : List (Text × UseContent)) (es : Externs) (a b : InterfaceContent) → us ≡ uses_of_both a.uses b.uses
+pub interface_made : (r : Result Id AllocError) (c d : Collection) (x y : Id) (us : List (Text × UseContent)) (es : ExternKinds) (a b : InterfaceContent) → us ≡ uses_of_both a.uses b.uses
     → slice_get c.interfaces x.index ≡ Some a → slice_get c.interfaces y.index ≡ Some b
     → OnOk r (d ≡ with_entry c (interface_entry (record { id = None; uses = us; exports = es }))) → IfOk r (λ p. p ≡ record { number = c.number; index = length c.interfaces })
     → IfOk r (λ p. Stands d (interface_key p)) → IfOk r (λ p. externs d (interface_key p) ≡ interface_externs (item_tree c) (record { id = None; uses = us; exports = es }))
@@ -194,7 +194,7 @@ interface_made (Ok p) c d x y us es a b is at_x at_y added placed stands tree = 
   tree = tree;
 }
 
-pub world_made : (r : Result Id AllocError) (c d : Collection) (x y : Id) (us : List (Text × UseContent)) (is es : Externs) (a b : WorldContent) → us ≡ uses_of_both a.uses b.uses
+pub world_made : (r : Result Id AllocError) (c d : Collection) (x y : Id) (us : List (Text × UseContent)) (is es : ExternKinds) (a b : WorldContent) → us ≡ uses_of_both a.uses b.uses
     → slice_get c.worlds x.index ≡ Some a → slice_get c.worlds y.index ≡ Some b
     → OnOk r (d ≡ with_entry c (world_entry (record { id = None; uses = us; imports = is; exports = es }))) → IfOk r (λ p. p ≡ record { number = c.number; index = length c.worlds })
     → IfOk r (λ p. Stands d (world_key p)) → IfOk r (λ p. externs d (world_key p) ≡ world_externs (item_tree c) (record { id = None; uses = us; imports = is; exports = es }))

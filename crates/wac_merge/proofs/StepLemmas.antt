@@ -11,7 +11,7 @@ use Rattle.wac_component.specs.Tree.{item_tree}
 use Rattle.wac_component.specs.declared.items.ItemKind.{ItemKind}
 use Rattle.wac_component.proofs.Extended.{AllStand-Extends}
 use Rattle.wac_component.proofs.Keys.{Each-append}
-use Rattle.wac_merge.specs.Bounded.{IsKept}
+use Rattle.wac_merge.specs.Bounded.{KeepsFitting}
 use Rattle.wac_merge.specs.Built.{Origins, IsBuilt, Builds}
 use Rattle.wac_merge.specs.Memo.{Made, made_of, first_key, second_key, order_of, IsTrueMemo, Grows}
 use Rattle.wac_merge.specs.Runs.{Runs, StepsStand, IsUnderWay}
@@ -20,7 +20,7 @@ use Rattle.wac_merge.specs.declared.memo.Bound.{Bound}
 use Rattle.wac_merge.specs.declared.memo.BoundMemo.{BoundMemo}
 use Rattle.wac_merge.specs.declared.memo.Untold.{Untold}
 use Rattle.wac_merge.specs.declared.memo.Untold.TheVariants.{Memory, Lacks}
-use Rattle.wac_merge.specs.declared.steps.Step.{Step}
+use Rattle.wac_merge.specs.declared.steps.BoundStep.{BoundStep}
 use Rattle.wac_merge.proofs.BoundLemmas.{bound_before}
 use Rattle.wac_merge.proofs.BuiltLemmas.{nothing_built, nothing_made}
 use Rattle.wac_merge.proofs.CountLemmas.{made_bounded}
@@ -45,13 +45,13 @@ pub underway_compared : (c d : Collection) (m n : BoundMemo) → made_of n ≡ m
 underway_compared c d m n same known h = record { ran = rw same h.ran; counted = rw same h.counted; true_memo = known }
 
 -- of all steps the last one, and the others
-pub steps_popped : (c : Collection) (ss ts : List Step) (r : Option Step) (s : Step) → ss ≡ ts ++ option_to_list r → r ≡ Some s → StepsStand c ss → StepsStand c ts × AllStand c (first_key s.asked.pair ∷ second_key s.asked.pair ∷ [])
+pub steps_popped : (c : Collection) (ss ts : List BoundStep) (r : Option BoundStep) (s : BoundStep) → ss ≡ ts ++ option_to_list r → r ≡ Some s → StepsStand c ss → StepsStand c ts × AllStand c (first_key s.asked.pair ∷ second_key s.asked.pair ∷ [])
 steps_popped c ss ts r s is last h =
-    let parts = All-pop (λ (t : Step). AllStand c (first_key t.asked.pair ∷ second_key t.asked.pair ∷ [])) ss ts r is h in
+    let parts = All-pop (λ (t : BoundStep). AllStand c (first_key t.asked.pair ∷ second_key t.asked.pair ∷ [])) ss ts r is h in
     (parts.0, rw last at parts.1)
 
-pub no_steps_stand : (c : Collection) (ss : List Step) → ss ≡ [] → StepsStand c ss
-no_steps_stand c ss none = All-same (λ (t : Step). AllStand c (first_key t.asked.pair ∷ second_key t.asked.pair ∷ [])) ss [] none (All-nil (λ (t : Step). AllStand c (first_key t.asked.pair ∷ second_key t.asked.pair ∷ [])))
+pub no_steps_stand : (c : Collection) (ss : List BoundStep) → ss ≡ [] → StepsStand c ss
+no_steps_stand c ss none = All-same (λ (t : BoundStep). AllStand c (first_key t.asked.pair ∷ second_key t.asked.pair ∷ [])) ss [] none (All-nil (λ (t : BoundStep). AllStand c (first_key t.asked.pair ∷ second_key t.asked.pair ∷ [])))
 
 -- no more is added than what is made of ordered pairs
 pub underway_bounded : (c d : Collection) (m : BoundMemo) → IsUnderWay c d m → entry_count d ≤ entry_count c + 2 * entry_count c * entry_count c

@@ -9,7 +9,7 @@ use Rattle.wac_bounds.specs.MeetIn.{IsMeetIn, IsJoinIn}
 use Rattle.wac_component.specs.Collection.{Collection}
 use Rattle.wac_component.specs.Tree.{item_tree}
 use Rattle.wac_component.specs.declared.items.ItemKind.{ItemKind}
-use Rattle.wac_merge.specs.Items.{Externs}
+use Rattle.wac_merge.specs.Items.{ExternKinds}
 
 -- neither fits where the other is asked for
 abbrev pub AreIncomparable : ItemTree → ItemTree → Type 0
@@ -27,8 +27,8 @@ AreUnlike s t = Unit {0}
 
 -- the answer is x where the first tree fits where the second is asked for, else y where the
 -- second does where the first is
-abbrev pub IsKept : ItemTree → ItemTree → ItemKind → ItemKind → Option ItemKind → Type 0
-IsKept s t x y answer = (Fits s t → answer ≡ Some x) × (¬ (Fits s t) → Fits t s → answer ≡ Some y)
+abbrev pub KeepsFitting : ItemTree → ItemTree → ItemKind → ItemKind → Option ItemKind → Type 0
+KeepsFitting s t x y answer = (Fits s t → answer ≡ Some x) × (¬ (Fits s t) → Fits t s → answer ≡ Some y)
 
 -- m, in d, is the meet of two items in c; none where nothing is below both
 abbrev pub IsMetAs : Collection → Collection → ItemKind → ItemKind → Option ItemKind → Type 0
@@ -65,7 +65,7 @@ IsJoinedAt c d None b m = m ≡ None
 IsJoinedAt c d (Some a) b m = IsJoinedWith c d a b m
 
 -- a name of both under which two items with no meet stand
-pub record Clash (c : Collection) (es ts : Externs) : Type 0 where
+pub record Clash (c : Collection) (es ts : ExternKinds) : Type 0 where
   pub name : Text
   pub left : ItemKind
   pub right : ItemKind
@@ -74,15 +74,15 @@ pub record Clash (c : Collection) (es ts : Externs) : Type 0 where
   pub no_meet : IsMetAs c c left right None
 
 -- the names of both, with what both have met; none where they clash
-abbrev pub AreMet : Collection → Collection → Externs → Externs → Option Externs → Type 0
+abbrev pub AreMet : Collection → Collection → ExternKinds → ExternKinds → Option ExternKinds → Type 0
 AreMet c d es ts None = Clash c es ts
 AreMet c d es ts (Some ms) = (n : Text) → IsMetAt c d (lookup bytes_eq es n) (lookup bytes_eq ts n) (lookup bytes_eq ms n)
 
 -- the names of the first, with what both have met
-abbrev pub AreFirstMet : Collection → Collection → Externs → Externs → Option Externs → Type 0
+abbrev pub AreFirstMet : Collection → Collection → ExternKinds → ExternKinds → Option ExternKinds → Type 0
 AreFirstMet c d es ts None = Clash c es ts
 AreFirstMet c d es ts (Some ms) = (n : Text) → IsFirstMetAt c d (lookup bytes_eq es n) (lookup bytes_eq ts n) (lookup bytes_eq ms n)
 
 -- the names that both have, with what both have joined; those without a join are dropped
-abbrev pub AreJoined : Collection → Collection → Externs → Externs → Externs → Type 0
+abbrev pub AreJoined : Collection → Collection → ExternKinds → ExternKinds → ExternKinds → Type 0
 AreJoined c d es ts js = (n : Text) → IsJoinedAt c d (lookup bytes_eq es n) (lookup bytes_eq ts n) (lookup bytes_eq js n)

@@ -14,7 +14,7 @@ use Rattle.wac_component.specs.Growth.{Extends}
 use Rattle.wac_component.specs.Laws.{HasLeavesOf}
 use Rattle.wac_component.specs.Tree.{item_tree}
 use Rattle.wac_component.specs.declared.items.ItemKind.{ItemKind}
-use Rattle.wac_merge.specs.Items.{entry_item, Externs}
+use Rattle.wac_merge.specs.Items.{entry_item, ExternKinds}
 use Rattle.wac_merge.specs.Bounded.{AreIncomparable, IsMetAs, IsJoinedAs}
 use Rattle.wac_merge.specs.declared.memo.Bound.{Bound}
 use Rattle.wac_merge.specs.declared.memo.Bound.TheVariants.{Meet, Join}
@@ -32,7 +32,7 @@ pub data IsBuilt (c d : Collection) (o : Origins) (a b y : ItemKind) : Type 0 wh
       → AreIncomparable (item_tree c a) (item_tree c b) → IsBuilt c d o a b y
 
 -- y stands under the name in one of the two lists, or is built of what both have there
-pub data IsBuiltAt (c d : Collection) (o : Origins) (es ts : Externs) (n : Text) (y : ItemKind) : Type 0 where
+pub data IsBuiltAt (c d : Collection) (o : Origins) (es ts : ExternKinds) (n : Text) (y : ItemKind) : Type 0 where
   of_first : lookup bytes_eq es n ≡ Some y → IsBuiltAt c d o es ts n y
   of_second : lookup bytes_eq ts n ≡ Some y → IsBuiltAt c d o es ts n y
   of_both : {a b : ItemKind} → lookup bytes_eq es n ≡ Some a → lookup bytes_eq ts n ≡ Some b → IsBuilt c d o a b y → IsBuiltAt c d o es ts n y
@@ -42,7 +42,7 @@ abbrev pub IsBuiltWith : Collection → Collection → Origins → ItemKind → 
 IsBuiltWith c d o a None y = y ≡ a
 IsBuiltWith c d o a (Some b) y = IsBuilt c d o a b y
 
-abbrev pub AreBuilt : Collection → Collection → Origins → Externs → Externs → Externs → Type 0
+abbrev pub AreBuilt : Collection → Collection → Origins → ExternKinds → ExternKinds → ExternKinds → Type 0
 AreBuilt c d o es ts ms = All (λ (e : Text × ItemKind). IsBuiltAt c d o es ts e.0 e.1) ms
 
 -- what the first uses, and then what the second uses under other names

@@ -32,17 +32,17 @@ abbrev pub entry_item : Kind → Key → ItemKind
 entry_item k m = item_of k m.sort m.id
 
 -- items by their names
-abbrev pub Externs : Type 0
-Externs = List (Text × ItemKind)
+abbrev pub ExternKinds : Type 0
+ExternKinds = List (Text × ItemKind)
 
 -- the ids in them
-abbrev pub extern_keys : Externs → List Key
+abbrev pub extern_keys : ExternKinds → List Key
 extern_keys es = named_keys item_keys es
 
 -- what a map from names to items holds
-abbrev pub extern_list : {S : Type 0} → IndexMap (String Global) ItemKind S → Externs
+abbrev pub extern_list : {S : Type 0} → IndexMap (String Global) ItemKind S → ExternKinds
 extern_list m = named (λ k. k) m.entries
 
 -- no entry is hidden by another of its name
-abbrev pub AreFound : Externs → Type 0
-AreFound es = All (λ (e : Text × ItemKind). lookup bytes_eq es e.0 ≡ Some e.1) es
+abbrev pub AreUnhidden : ExternKinds → Type 0
+AreUnhidden es = All (λ (e : Text × ItemKind). lookup bytes_eq es e.0 ≡ Some e.1) es

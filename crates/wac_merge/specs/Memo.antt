@@ -15,33 +15,33 @@ use Rattle.wac_checker.specs.Compared.{KnowsTruly}
 use Rattle.wac_merge.specs.Items.{entry_item}
 use Rattle.wac_merge.specs.declared.memo.Bound.{Bound}
 use Rattle.wac_merge.specs.declared.memo.Bound.TheVariants.{Meet, Join}
-use Rattle.wac_merge.specs.declared.memo.Pair.{Pair}
-use Rattle.wac_merge.specs.declared.memo.Pair.TheVariants.{Interfaces, Worlds, Modules}
+use Rattle.wac_merge.specs.declared.memo.BoundPair.{BoundPair}
+use Rattle.wac_merge.specs.declared.memo.BoundPair.TheVariants.{Interfaces, Worlds, Modules}
 use Rattle.wac_merge.specs.declared.memo.Asked.{Asked}
 use Rattle.wac_merge.specs.declared.memo.BoundId.{BoundId}
 use Rattle.wac_merge.specs.declared.memo.BoundId.TheVariants.{Interface, World, Module}
 use Rattle.wac_merge.specs.declared.memo.BoundMemo.{BoundMemo}
 
 -- a type, or else an item
-abbrev pub kind_of : Bool → Kind
-kind_of true = type_item
-kind_of false = item
+abbrev pub sort_kind : Bool → Kind
+sort_kind true = type_item
+sort_kind false = item
 
 -- the first and the second of a pair
-abbrev pub first_key : Pair → Key
+abbrev pub first_key : BoundPair → Key
 first_key (Interfaces x y) = interface_key x
 first_key (Worlds x y) = world_key x
 first_key (Modules x y) = module_key x
 
-abbrev pub second_key : Pair → Key
+abbrev pub second_key : BoundPair → Key
 second_key (Interfaces x y) = interface_key y
 second_key (Worlds x y) = world_key y
 second_key (Modules x y) = module_key y
 
-abbrev pub entry_key : BoundId → Key
-entry_key (Interface p) = interface_key p
-entry_key (World p) = world_key p
-entry_key (Module p) = module_key p
+abbrev pub bound_key : BoundId → Key
+bound_key (Interface p) = interface_key p
+bound_key (World p) = world_key p
+bound_key (Module p) = module_key p
 
 -- what was made, each with what it was made for
 abbrev pub Made : Type 0
@@ -90,15 +90,15 @@ order_of Join s t = Fits t s
 
 -- the entry, in d, is the meet or the join of two in c, as items and as
 -- types; none where there is none
-abbrev pub IsBoundOf : Bound → Collection → Collection → Pair → Option BoundId → Type 0
+abbrev pub IsBoundOf : Bound → Collection → Collection → BoundPair → Option BoundId → Type 0
 IsBoundOf b c d p m = (k : Kind) → IsMeetIn (order_of b) (item_tree c (entry_item k (first_key p))) (item_tree c (entry_item k (second_key p)))
-    (option_map (item_tree d) (option_map (λ e. entry_item k (entry_key e)) m))
+    (option_map (item_tree d) (option_map (λ e. entry_item k (bound_key e)) m))
 
 -- what was made is what was asked for
 pub record IsTrueMade (d : Collection) (x : Asked × BoundId) : Type 0 where
   pub first : Stands d (first_key x.0.pair)
   pub second : Stands d (second_key x.0.pair)
-  pub stands : Stands d (entry_key x.1)
+  pub stands : Stands d (bound_key x.1)
   pub bound : IsBoundOf x.0.bound d d x.0.pair (Some x.1)
 
 -- what is refused has no bound
@@ -126,14 +126,14 @@ pub record Grows (d : Collection) (m : BoundMemo) (e : Collection) (n : BoundMem
   pub true_memo : IsTrueMemo e n
 
 -- what is asked for of a pair
-abbrev pub asked_for : Bound → Pair → Asked
+abbrev pub asked_for : Bound → BoundPair → Asked
 asked_for b p = record { bound = b; pair = p }
 
 -- the entry was made before for what is asked, and nothing is added; or it is made now, and noted
-pub data IsMade (d : Collection) (m : BoundMemo) (e : Collection) (n : BoundMemo) (a : Asked) (p : BoundId) (IsAdded : Type 0) : Type 0 where
-  before : Contains (made_of m) (a, p) → e ≡ d → IsSame m n → IsMade d m e n a p IsAdded
-  now : IsNew (made_of m) a → IsAdded → made_of n ≡ made_of m ++ (a, p) ∷ [] → refused_of n ≡ refused_of m → n.compared ≡ m.compared → IsMade d m e n a p IsAdded
+pub data IsBoundMade (d : Collection) (m : BoundMemo) (e : Collection) (n : BoundMemo) (a : Asked) (p : BoundId) (IsAdded : Type 0) : Type 0 where
+  before : Contains (made_of m) (a, p) → e ≡ d → IsSame m n → IsBoundMade d m e n a p IsAdded
+  now : IsNew (made_of m) a → IsAdded → made_of n ≡ made_of m ++ (a, p) ∷ [] → refused_of n ≡ refused_of m → n.compared ≡ m.compared → IsBoundMade d m e n a p IsAdded
 
 -- the same of an entry of one sort, of which this holds where it is made now
 abbrev pub IsMadeAs : Collection → BoundMemo → Collection → BoundMemo → Asked → (Id → BoundId) → (Id → Type 0) → BoundId → Type 0
-IsMadeAs d m e n a of_sort IsAdded p = IsMade d m e n a p ((q : Id) × (p ≡ of_sort q) × IsAdded q)
+IsMadeAs d m e n a of_sort IsAdded p = IsBoundMade d m e n a p ((q : Id) × (p ≡ of_sort q) × IsAdded q)

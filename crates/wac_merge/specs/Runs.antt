@@ -4,21 +4,21 @@ use Rattle.wac_component.specs.Collection.{Collection}
 use Rattle.wac_component.specs.Key.{Key, Stands, AllStand}
 use Rattle.wac_component.specs.Sound.{IsSound, entry_count}
 use Rattle.wac_merge.specs.Built.{Origins, IsMadeOf, OnlyBuilds}
-use Rattle.wac_merge.specs.Memo.{Made, made_of, first_key, second_key, entry_key, IsTrueMemo}
+use Rattle.wac_merge.specs.Memo.{Made, made_of, first_key, second_key, bound_key, IsTrueMemo}
 use Rattle.wac_merge.specs.declared.memo.Asked.{Asked}
 use Rattle.wac_merge.specs.declared.memo.BoundId.{BoundId}
 use Rattle.wac_merge.specs.declared.memo.BoundMemo.{BoundMemo}
-use Rattle.wac_merge.specs.declared.steps.Step.{Step}
+use Rattle.wac_merge.specs.declared.steps.BoundStep.{BoundStep}
 
 -- an entry that is remembered was made of the two that it was made for, which stood in c
 pub record IsMadeOn (c d : Collection) (o : Origins) (x : Asked × BoundId) : Type 0 where
   pub first : Stands c (first_key x.0.pair)
   pub second : Stands c (second_key x.0.pair)
-  pub made : IsMadeOf c d o (first_key x.0.pair) (second_key x.0.pair) (entry_key x.1)
+  pub made : IsMadeOf c d o (first_key x.0.pair) (second_key x.0.pair) (bound_key x.1)
 
 -- it is the entry of one that is remembered
 abbrev pub IsNoted : Made → Key → Type 0
-IsNoted ms m = (x : Asked × BoundId) × Contains ms x × (entry_key x.1 ≡ m)
+IsNoted ms m = (x : Asked × BoundId) × Contains ms x × (bound_key x.1 ≡ m)
 
 -- and of what d has more than c all is remembered
 pub record AreMadeOn (c d : Collection) (o : Origins) (ms : Made) : Type 0 where
@@ -40,8 +40,8 @@ abbrev pub FromBuilt : List Key → Collection → Made → (Collection → Orig
 FromBuilt ks d ms Answer = (c : Collection) (o : Origins) → IsSound c → AllStand c ks → OnlyBuilds c d o → AreMadeOn c d o ms → Answer c o
 
 -- the entries of each step stood in c
-abbrev pub StepsStand : Collection → List Step → Type 0
-StepsStand c ss = All (λ (s : Step). AllStand c (first_key s.asked.pair ∷ second_key s.asked.pair ∷ [])) ss
+abbrev pub StepsStand : Collection → List BoundStep → Type 0
+StepsStand c ss = All (λ (s : BoundStep). AllStand c (first_key s.asked.pair ∷ second_key s.asked.pair ∷ [])) ss
 
 -- between two steps: from c, where nothing was built, to d, with all that was built remembered
 pub record IsUnderWay (c d : Collection) (m : BoundMemo) : Type 0 where

@@ -17,9 +17,9 @@ use Rattle.wac_component.specs.Key.{Key, AllStand, item_keys}
 use Rattle.wac_component.specs.Sound.{IsSound}
 use Rattle.wac_component.specs.Tree.{item_tree}
 use Rattle.wac_component.specs.declared.items.ItemKind.{ItemKind}
-use Rattle.wac_merge.specs.Bounded.{IsKept, IsMetWith, IsJoinedWith, AreMet, AreFirstMet, AreJoined, Clash}
+use Rattle.wac_merge.specs.Bounded.{KeepsFitting, IsMetWith, IsJoinedWith, AreMet, AreFirstMet, AreJoined, Clash}
 use Rattle.wac_merge.specs.Built.{Origins, IsBuilt, AreBuilt}
-use Rattle.wac_merge.specs.Items.{Externs, extern_list}
+use Rattle.wac_merge.specs.Items.{ExternKinds, extern_list}
 use Rattle.wac_merge.specs.Memo.{Made, asked_for, made_of, IsMadeAs, first_key, second_key, order_of}
 use Rattle.wac_merge.specs.Reads.{imports_at, exports_at, met_at, joined_at, IsInterfaceOfBoth, IsWorldOfBoth}
 use Rattle.wac_merge.specs.Runs.{FromBuilt, StepsStand, IsUnderWay}
@@ -29,10 +29,10 @@ use Rattle.wac_merge.specs.declared.memo.Bound.TheVariants.{Meet, Join}
 use Rattle.wac_merge.specs.declared.memo.BoundId.{BoundId}
 use Rattle.wac_merge.specs.declared.memo.BoundId.TheVariants.{Interface, World}
 use Rattle.wac_merge.specs.declared.memo.BoundMemo.{BoundMemo}
-use Rattle.wac_merge.specs.declared.memo.Pair.TheVariants.{Interfaces, Worlds}
+use Rattle.wac_merge.specs.declared.memo.BoundPair.TheVariants.{Interfaces, Worlds}
 use Rattle.wac_merge.specs.declared.memo.Untold.{Untold}
 use Rattle.wac_merge.specs.declared.memo.Untold.TheVariants.{Memory, Lacks}
-use Rattle.wac_merge.specs.declared.steps.Step.{Step}
+use Rattle.wac_merge.specs.declared.steps.BoundStep.{BoundStep}
 
 -- of two items of which the first fits where the second is asked for, that which is their bound
 abbrev pub of_two : Bound → ItemKind → ItemKind → ItemKind
@@ -54,31 +54,31 @@ IsModuleBoundIn Meet s t m = IsMeetIn ValidModuleFits s t m
 IsModuleBoundIn Join s t m = IsJoinIn ValidModuleFits s t m
 
 -- the names of both, met, or none where they clash; the names that both have, joined
-abbrev pub AreBound : Bound → Collection → Collection → Externs → Externs → Option Externs → Type 0
+abbrev pub AreBound : Bound → Collection → Collection → ExternKinds → ExternKinds → Option ExternKinds → Type 0
 AreBound Meet c d es ts r = AreMet c d es ts r
 AreBound Join c d es ts None = ⊥
 AreBound Join c d es ts (Some js) = AreJoined c d es ts js
 
 -- the same for the names of the first alone
-abbrev pub AreFirstBound : Bound → Collection → Collection → Externs → Externs → Option Externs → Type 0
+abbrev pub AreFirstBound : Bound → Collection → Collection → ExternKinds → ExternKinds → Option ExternKinds → Type 0
 AreFirstBound Meet c d es ts r = AreFirstMet c d es ts r
 AreFirstBound Join c d es ts None = ⊥
 AreFirstBound Join c d es ts (Some js) = AreJoined c d es ts js
 
-abbrev pub HasBoundNames : Bound → Externs → Externs → Externs → Type 0
+abbrev pub HasBoundNames : Bound → ExternKinds → ExternKinds → ExternKinds → Type 0
 HasBoundNames Meet es ts fs = HasAllNames bytes_eq es ts fs
 HasBoundNames Join es ts fs = HasSomeNames bytes_eq es fs
 
-abbrev pub HasFirstNames : Bound → Externs → Externs → Type 0
+abbrev pub HasFirstNames : Bound → ExternKinds → ExternKinds → Type 0
 HasFirstNames Meet es fs = keys_of fs ≡ keys_of es
 HasFirstNames Join es fs = HasSomeNames bytes_eq es fs
 
 -- of the sides of a world that which is met, for a meet or a join, and that which is joined
-abbrev pub met_of : Bound → WorldSides → Externs
+abbrev pub met_of : Bound → WorldSides → ExternKinds
 met_of Meet w = extern_list w.exports
 met_of Join w = extern_list w.imports
 
-abbrev pub joined_of : Bound → WorldSides → Externs
+abbrev pub joined_of : Bound → WorldSides → ExternKinds
 joined_of Meet w = extern_list w.imports
 joined_of Join w = extern_list w.exports
 
@@ -98,11 +98,11 @@ abbrev pub AreSidesBuilt : Collection → Collection → Origins → Key → Key
 AreSidesBuilt c d o x y w = AreBuilt c d o (imports_at d x) (imports_at d y) (extern_list w.imports) × AreBuilt c d o (exports_at d x) (exports_at d y) (extern_list w.exports)
 
 -- what is answered, if anything is, is built of these lists, wherever the ids stood
-abbrev pub AnswersBuilt : {S E : Type 0} → List Key → Externs → Externs → Collection → Made → Result (Option (IndexMap (String Global) ItemKind S)) E → Type 0
+abbrev pub AnswersBuilt : {S E : Type 0} → List Key → ExternKinds → ExternKinds → Collection → Made → Result (Option (IndexMap (String Global) ItemKind S)) E → Type 0
 AnswersBuilt ks es ts d ms r = FromBuilt ks d ms (λ c o. IfOk r (λ m. IfSome m (λ fs. AreBuilt c d o es ts (extern_list fs))))
 
 -- the entry is the interface that was made of two, with these exports, or the world, with these sides
-abbrev pub IsInterfaceMade : Collection → BoundMemo → Collection → BoundMemo → Bound → Id → Id → Externs → BoundId → Type 0
+abbrev pub IsInterfaceMade : Collection → BoundMemo → Collection → BoundMemo → Bound → Id → Id → ExternKinds → BoundId → Type 0
 IsInterfaceMade c m d n b x y es p = IsMadeAs c m d n (asked_for b (Interfaces x y)) Interface (IsInterfaceOfBoth c d x y es) p
 
 abbrev pub IsWorldMade : Collection → BoundMemo → Collection → BoundMemo → Bound → Id → Id → WorldSides → BoundId → Type 0
@@ -120,10 +120,10 @@ LacksStand c (Lacks a) = AllStand c (first_key a.pair ∷ second_key a.pair ∷ 
 -- r, in d, is told to be the bound of two items that stand in d
 pub record IsToldIn (u : Bound) (d : Collection) (m : BoundMemo) (a b : ItemKind) (r : Option ItemKind) : Type 0 where
   pub bound : IsBoundIn u d d a b r
-  pub kept : IsKept (item_tree d a) (item_tree d b) (of_two u a b) (of_two u b a) r
+  pub kept : KeepsFitting (item_tree d a) (item_tree d b) (of_two u a b) (of_two u b a) r
   pub standing : IfSome r (λ k. AllStand d (item_keys k))
   pub built : FromBuilt (item_keys a ++ item_keys b) d (made_of m) (λ c o. IfSome r (IsBuilt c d o a b))
 
 -- a turn for these ids, that stood before anything was built
-abbrev pub GoesOn : List Key → Collection → BoundMemo → List Step → Collection → BoundMemo → List Step → Type 0
+abbrev pub GoesOn : List Key → Collection → BoundMemo → List BoundStep → Collection → BoundMemo → List BoundStep → Type 0
 GoesOn ks d m ss e n ts = (c : Collection) → IsSound c → AllStand c ks → IsUnderWay c d m → StepsStand c ss → IsUnderWay c e n × StepsStand c ts

@@ -7,7 +7,7 @@ ghost use Rattle.wac_component.specs.Growth.{Extends};
 ghost use Rattle.wac_component.specs.Key.{AllStand, item_keys};
 ghost use Rattle.wac_component.specs.Sound.{entry_count};
 ghost use Rattle.wac_component.specs.Tree.{item_tree};
-ghost use Rattle.wac_merge.specs.Bounded.{IsKept};
+ghost use Rattle.wac_merge.specs.Bounded.{KeepsFitting};
 ghost use Rattle.wac_merge.specs.Built.{Builds};
 
 use crate::memo::Bound;
@@ -34,7 +34,7 @@ pub fn meet(
     requires left { AllStand types.old (item_keys a) }
     requires right { AllStand types.old (item_keys b) }
     ensures meet { IfOk result (λ m. IsMeetIfAny (option_map (item_tree types.new) m) (item_tree types.old a ∷ item_tree types.old b ∷ [])) }
-    ensures kept { IfOk result (IsKept (item_tree types.old a) (item_tree types.old b) a b) }
+    ensures kept { IfOk result (KeepsFitting (item_tree types.old a) (item_tree types.old b) a b) }
     ensures standing { IfOk result (λ m. IfSome m (λ k. AllStand types.new (item_keys k))) }
     ensures builds { Builds types.old types.new a b result }
     ensures grows { Extends types.old types.new }
@@ -63,7 +63,7 @@ pub fn join(
     requires left { AllStand types.old (item_keys a) }
     requires right { AllStand types.old (item_keys b) }
     ensures join { IfOk result (λ j. IsJoinIfAny (option_map (item_tree types.new) j) (item_tree types.old a ∷ item_tree types.old b ∷ [])) }
-    ensures kept { IfOk result (IsKept (item_tree types.old a) (item_tree types.old b) b a) }
+    ensures kept { IfOk result (KeepsFitting (item_tree types.old a) (item_tree types.old b) b a) }
     ensures standing { IfOk result (λ j. IfSome j (λ k. AllStand types.new (item_keys k))) }
     ensures builds { Builds types.old types.new a b result }
     ensures grows { Extends types.old types.new }

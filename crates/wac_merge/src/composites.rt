@@ -12,7 +12,7 @@ ghost use Rattle.wac_merge.specs.Told.{AnswersBuilt, LacksOnly, AreBound, HasBou
 
 use crate::entries::{WorldSides, exports_of, interface_of, joined_side, met_side, world_of};
 use crate::externs::bound_externs;
-use crate::memo::{Asked, Bound, BoundMemo, Pair, Untold};
+use crate::memo::{Asked, Bound, BoundMemo, BoundPair, Untold};
 use crate::modules::bound_modules;
 use indexmap::IndexMap;
 use wac_component::{InterfaceId, ItemKind, Types, WorldId};
@@ -32,9 +32,9 @@ pub(crate) fn bound_entries(
 {
     let Asked { bound, pair } = asked;
     match &pair {
-        Pair::Interfaces(x, y) => bound_interfaces(types, memo, bound, *x, *y),
-        Pair::Worlds(x, y) => bound_worlds(types, memo, bound, *x, *y),
-        Pair::Modules(x, y) => bound_modules(types, memo, bound, *x, *y),
+        BoundPair::Interfaces(x, y) => bound_interfaces(types, memo, bound, *x, *y),
+        BoundPair::Worlds(x, y) => bound_worlds(types, memo, bound, *x, *y),
+        BoundPair::Modules(x, y) => bound_modules(types, memo, bound, *x, *y),
     }
 }
 
@@ -59,7 +59,7 @@ fn bound_interfaces(
             interface_of(types, memo, bound, x, y, exports)?;
             Ok(())
         }
-        None => Ok(memo.refuse(bound, Pair::Interfaces(x, y))?),
+        None => Ok(memo.refuse(bound, BoundPair::Interfaces(x, y))?),
     }
 }
 
@@ -110,7 +110,7 @@ fn bound_worlds(
             world_of(types, memo, bound, x, y, sides)?;
             Ok(())
         }
-        None => Ok(memo.refuse(bound, Pair::Worlds(x, y))?),
+        None => Ok(memo.refuse(bound, BoundPair::Worlds(x, y))?),
     }
 }
 

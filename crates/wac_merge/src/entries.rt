@@ -11,7 +11,7 @@ ghost use Rattle.wac_merge.specs.Memo.{IsSame};
 ghost use Rattle.wac_merge.specs.Reads.{imports_at, exports_at, met_at, joined_at, IsInterfaceOfBoth, IsWorldOfBoth};
 ghost use Rattle.wac_merge.specs.Told.{IsInterfaceMade, IsWorldMade};
 
-use crate::memo::{Asked, Bound, BoundId, BoundMemo, Pair};
+use crate::memo::{Asked, Bound, BoundId, BoundMemo, BoundPair};
 use indexmap::IndexMap;
 use std::alloc::AllocError;
 use wac_component::{Interface, InterfaceId, ItemKind, Types, UsedType, World, WorldId};
@@ -166,7 +166,7 @@ pub(crate) fn interface_of(
     ensures err { OnErr result (types.new ≡ types.old) }
     ensures err_memo { OnErr result (IsSame memo.old memo.new) }
 {
-    let pair = Pair::Interfaces(first, second);
+    let pair = BoundPair::Interfaces(first, second);
     if let Some(made) = memo.made_for(&Asked { bound, pair }) {
         return Ok(made);
     }
@@ -194,7 +194,7 @@ pub(crate) fn world_of(
     ensures err { OnErr result (types.new ≡ types.old) }
     ensures err_memo { OnErr result (IsSame memo.old memo.new) }
 {
-    let pair = Pair::Worlds(first, second);
+    let pair = BoundPair::Worlds(first, second);
     if let Some(made) = memo.made_for(&Asked { bound, pair }) {
         return Ok(made);
     }

@@ -3,7 +3,7 @@
 ghost use Rattle.std.specs.Prelude.{◌≡◌, ◌++◌, IfOk, IfErr, IfSome};
 ghost use Rattle.wac_component.specs.Key.{AllStand, item_keys, optional_keys};
 ghost use Rattle.wac_component.specs.Tree.{item_tree};
-ghost use Rattle.wac_merge.specs.Bounded.{IsKept};
+ghost use Rattle.wac_merge.specs.Bounded.{KeepsFitting};
 ghost use Rattle.wac_merge.specs.Built.{IsBuilt, IsBuiltWith};
 ghost use Rattle.wac_merge.specs.Memo.{IsTrueMemo, made_of};
 ghost use Rattle.wac_merge.specs.Runs.{FromBuilt};
@@ -28,7 +28,7 @@ pub(crate) fn bound_items(
     ensures memo { IsTrueMemo types.now memo.new }
     ensures made { made_of memo.new ≡ made_of memo.old }
     ensures bound { IfOk result (IsBoundIn bound types.now types.now a b) }
-    ensures kept { IfOk result (IsKept (item_tree types.now a) (item_tree types.now b) (of_two bound a b) (of_two bound b a)) }
+    ensures kept { IfOk result (KeepsFitting (item_tree types.now a) (item_tree types.now b) (of_two bound a b) (of_two bound b a)) }
     ensures standing { IfOk result (λ m. IfSome m (λ k. AllStand types.now (item_keys k))) }
     ensures built { FromBuilt (item_keys a ++ item_keys b) types.now (made_of memo.old) (λ c o. IfOk result (λ m. IfSome m (IsBuilt c types.now o a b))) }
     ensures lacks { IfErr result (LacksOnly types.now (item_keys a ++ item_keys b)) }

@@ -32,7 +32,7 @@ impl Bound {
 
 /// Two entries of one sort, in order.
 #[derive(Clone, Copy, PartialEq, Eq, Hash)]
-pub(crate) enum Pair {
+pub(crate) enum BoundPair {
     Interfaces(InterfaceId, InterfaceId),
     Worlds(WorldId, WorldId),
     Modules(ModuleTypeId, ModuleTypeId),
@@ -42,7 +42,7 @@ pub(crate) enum Pair {
 #[derive(Clone, Copy, PartialEq, Eq, Hash)]
 pub(crate) struct Asked {
     pub(crate) bound: Bound,
-    pub(crate) pair: Pair,
+    pub(crate) pair: BoundPair,
 }
 
 /// An entry that a bound of two may be.
@@ -137,7 +137,12 @@ impl BoundMemo {
 
     /// Notes what was made for what is asked, for which nothing was. With room
     /// for it this needs no memory.
-    pub(crate) fn put(&mut self, bound: Bound, pair: Pair, made: BoundId) -> Result<(), AllocError>
+    pub(crate) fn put(
+        &mut self,
+        bound: Bound,
+        pair: BoundPair,
+        made: BoundId,
+    ) -> Result<(), AllocError>
         requires room { HasRoom self.old }
         requires new { IsNew (made_of self.old) (record { bound = bound; pair = pair }) }
         ensures ok { IsOk result }
@@ -150,7 +155,7 @@ impl BoundMemo {
     }
 
     /// Notes that what is asked has no bound.
-    pub(crate) fn refuse(&mut self, bound: Bound, pair: Pair) -> Result<(), AllocError>
+    pub(crate) fn refuse(&mut self, bound: Bound, pair: BoundPair) -> Result<(), AllocError>
         ensures made { made_of self.new ≡ made_of self.old }
         ensures refused { IsRefused self.old self.new (record { bound = bound; pair = pair }) }
         ensures compared { self.new.compared ≡ self.old.compared }

@@ -13,7 +13,7 @@ ghost use Rattle.wac_merge.specs.Reads.{IsModuleAdded};
 ghost use Rattle.wac_merge.specs.Runs.{Runs};
 ghost use Rattle.wac_merge.specs.Told.{IsModuleBoundIn, LacksOnly};
 
-use crate::memo::{Asked, Bound, BoundId, BoundMemo, Pair, Untold};
+use crate::memo::{Asked, Bound, BoundId, BoundMemo, BoundPair, Untold};
 use std::alloc::{AllocError, Global};
 use wac_component::valid::add_valid_module_type;
 use wac_component::{ModuleTypeId, Types};
@@ -30,12 +30,12 @@ fn module_of(
     ty: ModuleType,
 ) -> Result<BoundId, AllocError>
     requires { IsTrue (is_valid_module (module_content ty)) }
-    ensures made { IfOk result (IsMadeAs types.old memo.old types.new memo.new (asked_for bound (Pair.Modules first second)) BoundId.Module (IsModuleAdded types.old types.new (module_content ty))) }
+    ensures made { IfOk result (IsMadeAs types.old memo.old types.new memo.new (asked_for bound (BoundPair.Modules first second)) BoundId.Module (IsModuleAdded types.old types.new (module_content ty))) }
     ensures grows { Extends types.old types.new }
     ensures err { OnErr result (types.new ≡ types.old) }
     ensures err_memo { OnErr result (IsSame memo.old memo.new) }
 {
-    let pair = Pair::Modules(first, second);
+    let pair = BoundPair::Modules(first, second);
     if let Some(made) = memo.made_for(&Asked { bound, pair }) {
         return Ok(made);
     }
@@ -83,6 +83,6 @@ pub(crate) fn bound_modules(
             module_of(types, memo, bound, x, y, ty)?;
             Ok(())
         }
-        None => Ok(memo.refuse(bound, Pair::Modules(x, y))?),
+        None => Ok(memo.refuse(bound, BoundPair::Modules(x, y))?),
     }
 }

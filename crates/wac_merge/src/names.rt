@@ -5,7 +5,7 @@ ghost use Rattle.std.specs.Str.{bytes_eq};
 ghost use Rattle.indexmap.specs.IndexMap.{insert_entry};
 ghost use Rattle.wac_model.specs.Text.{lookup};
 ghost use Rattle.wac_core_merge.specs.Names.{with_new};
-ghost use Rattle.wac_merge.specs.Items.{AreFound, extern_list};
+ghost use Rattle.wac_merge.specs.Items.{AreUnhidden, extern_list};
 
 use indexmap::IndexMap;
 use std::alloc::AllocError;
@@ -37,7 +37,7 @@ pub(crate) fn add_others(
     second: &IndexMap<String, ItemKind>,
 ) -> Result<(), AllocError>
     ensures added { OnOk result (extern_list externs.new ≡ with_new bytes_eq (extern_list externs.old) (extern_list second.now)) }
-    ensures found { OnOk result (AreFound (extern_list second.now)) }
+    ensures found { OnOk result (AreUnhidden (extern_list second.now)) }
 {
     add_new(externs, second.clone()?)
 }

@@ -7,7 +7,7 @@ ghost use Rattle.wac_component.specs.Growth.{Extends};
 ghost use Rattle.wac_component.specs.Key.{Stands, AllStand, item_keys, interface_key, world_key};
 ghost use Rattle.wac_component.specs.Sound.{IsSound, entry_count};
 ghost use Rattle.wac_component.specs.Tree.{item_tree};
-ghost use Rattle.wac_merge.specs.Bounded.{IsKept};
+ghost use Rattle.wac_merge.specs.Bounded.{KeepsFitting};
 ghost use Rattle.wac_merge.specs.Built.{Builds};
 ghost use Rattle.wac_merge.specs.Items.{extern_keys, extern_list};
 ghost use Rattle.wac_merge.specs.Memo.{IsTrueMemo, Grows, made_of, first_key, second_key};
@@ -17,7 +17,7 @@ ghost use Rattle.wac_merge.specs.Told.{of_two, IsBoundIn, IsToldIn, LacksOnly, L
 use crate::composites::bound_entries;
 use crate::entries::{exports_of, joined_side, met_side};
 use crate::items::{bound_items, bound_with};
-use crate::memo::{Asked, Bound, BoundMemo, Pair, Untold};
+use crate::memo::{Asked, Bound, BoundMemo, BoundPair, Untold};
 use crate::names::extern_named;
 use indexmap::IndexMap;
 use std::alloc::{AllocError, Global};
@@ -26,18 +26,18 @@ use wac_component::{InterfaceId, ItemKind, Types, WorldId};
 /// Two entries whose bound is to be made, and how many of the first one's names are known to have
 /// one: of those that are met, and of those that are joined.
 #[derive(Clone, Copy)]
-pub(crate) struct Step {
+pub(crate) struct BoundStep {
     asked: Asked,
     met: usize,
     joined: usize,
 }
 
-impl Step {
+impl BoundStep {
     // Nothing is known yet.
-    fn of(asked: Asked) -> Step
+    fn of(asked: Asked) -> BoundStep
         ensures { result.asked ≡ asked }
     {
-        Step {
+        BoundStep {
             asked,
             met: 0,
             joined: 0,
@@ -57,7 +57,7 @@ pub(crate) fn bound_of(
     requires left { AllStand types.old (item_keys a) }
     requires right { AllStand types.old (item_keys b) }
     ensures bound { IfOk result (IsBoundIn bound types.old types.new a b) }
-    ensures kept { IfOk result (IsKept (item_tree types.old a) (item_tree types.old b) (of_two bound a b) (of_two bound b a)) }
+    ensures kept { IfOk result (KeepsFitting (item_tree types.old a) (item_tree types.old b) (of_two bound a b) (of_two bound b a)) }
     ensures standing { IfOk result (λ m. IfSome m (λ k. AllStand types.new (item_keys k))) }
     ensures builds { Builds types.old types.new a b result }
     ensures grows { Extends types.old types.new }
@@ -73,7 +73,7 @@ pub(crate) fn bound_of(
 fn take_steps(
     types: &mut Types,
     memo: &mut BoundMemo,
-    steps: &mut Vec<Step>,
+    steps: &mut Vec<BoundStep>,
     bound: Bound,
     a: ItemKind,
     b: ItemKind,
@@ -84,7 +84,7 @@ fn take_steps(
     requires new { made_of memo.old ≡ [] }
     requires no_steps { steps.old.items ≡ [] }
     ensures bound { IfOk result (IsBoundIn bound types.old types.new a b) }
-    ensures kept { IfOk result (IsKept (item_tree types.old a) (item_tree types.old b) (of_two bound a b) (of_two bound b a)) }
+    ensures kept { IfOk result (KeepsFitting (item_tree types.old a) (item_tree types.old b) (of_two bound a b) (of_two bound b a)) }
     ensures standing { IfOk result (λ m. IfSome m (λ k. AllStand types.new (item_keys k))) }
     ensures builds { Builds types.old types.new a b result }
     ensures grows { Extends types.old types.new }
@@ -103,7 +103,7 @@ fn take_steps(
 fn turn(
     types: &mut Types,
     memo: &mut BoundMemo,
-    steps: &mut Vec<Step>,
+    steps: &mut Vec<BoundStep>,
     bound: Bound,
     a: &ItemKind,
     b: &ItemKind,
@@ -128,7 +128,7 @@ fn turn(
 fn ask(
     types: &Types,
     memo: &mut BoundMemo,
-    steps: &mut Vec<Step>,
+    steps: &mut Vec<BoundStep>,
     bound: Bound,
     a: &ItemKind,
     b: &ItemKind,
@@ -152,8 +152,8 @@ fn ask(
 fn take(
     types: &mut Types,
     memo: &mut BoundMemo,
-    steps: &mut Vec<Step>,
-    step: Step,
+    steps: &mut Vec<BoundStep>,
+    step: BoundStep,
 ) -> Result<(), AllocError>
     requires entries { AllStand types.old (first_key step.asked.pair ∷ second_key step.asked.pair ∷ []) }
     requires memo { IsTrueMemo types.old memo.old }
@@ -170,30 +170,30 @@ fn take(
 }
 
 // Puts a step last.
-fn push_step(steps: &mut Vec<Step>, step: &Step) -> Result<(), AllocError>
+fn push_step(steps: &mut Vec<BoundStep>, step: &BoundStep) -> Result<(), AllocError>
     ensures { (c : Collection) → AllStand c (first_key step.now.asked.pair ∷ second_key step.now.asked.pair ∷ []) → StepsStand c steps.old.items → StepsStand c steps.new.items }
 {
     let Asked { bound, pair } = step.asked;
     let asked = Asked { bound, pair };
     let (met, joined) = (step.met, step.joined);
-    match steps.push(Step { asked, met, joined }) {
+    match steps.push(BoundStep { asked, met, joined }) {
         Ok(()) => Ok(()),
         Err(_) => Err(AllocError),
     }
 }
 
 // Puts what is lacking last.
-fn push_lacking(steps: &mut Vec<Step>, untold: &Untold) -> Result<(), AllocError>
+fn push_lacking(steps: &mut Vec<BoundStep>, untold: &Untold) -> Result<(), AllocError>
     ensures { (c : Collection) → LacksStand c untold.now → StepsStand c steps.old.items → StepsStand c steps.new.items }
 {
     match untold {
         Untold::Memory => Err(AllocError),
-        Untold::Lacks(asked) => push_step(steps, &Step::of(*asked)),
+        Untold::Lacks(asked) => push_step(steps, &BoundStep::of(*asked)),
     }
 }
 
 // Makes the bound of a step's entries, once all is known that it needs.
-fn take_step(types: &mut Types, memo: &mut BoundMemo, step: &mut Step) -> Result<(), Untold>
+fn take_step(types: &mut Types, memo: &mut BoundMemo, step: &mut BoundStep) -> Result<(), Untold>
     requires entries { AllStand types.old (first_key step.old.asked.pair ∷ second_key step.old.asked.pair ∷ []) }
     requires memo { IsTrueMemo types.old memo.old }
     ensures grows { Grows types.old memo.old types.new memo.new }
@@ -209,7 +209,7 @@ fn take_step(types: &mut Types, memo: &mut BoundMemo, step: &mut Step) -> Result
 }
 
 // Looks for what the bound of a step's entries lacks, from where it was found the last time on.
-fn seek(types: &Types, memo: &mut BoundMemo, step: &mut Step) -> Result<(), Untold>
+fn seek(types: &Types, memo: &mut BoundMemo, step: &mut BoundStep) -> Result<(), Untold>
     requires sound { IsSound types.now }
     requires entries { AllStand types.now (first_key step.old.asked.pair ∷ second_key step.old.asked.pair ∷ []) }
     requires memo { IsTrueMemo types.now memo.old }
@@ -220,9 +220,9 @@ fn seek(types: &Types, memo: &mut BoundMemo, step: &mut Step) -> Result<(), Unto
 {
     let Asked { bound, pair } = step.asked;
     match &pair {
-        Pair::Interfaces(x, y) => seek_exports(types, memo, bound, *x, *y, &mut step.met),
-        Pair::Worlds(x, y) => seek_sides(types, memo, bound, *x, *y, step),
-        Pair::Modules(_, _) => Ok(()),
+        BoundPair::Interfaces(x, y) => seek_exports(types, memo, bound, *x, *y, &mut step.met),
+        BoundPair::Worlds(x, y) => seek_sides(types, memo, bound, *x, *y, step),
+        BoundPair::Modules(_, _) => Ok(()),
     }
 }
 
@@ -258,7 +258,7 @@ fn seek_sides(
     bound: Bound,
     x: WorldId,
     y: WorldId,
-    step: &mut Step,
+    step: &mut BoundStep,
 ) -> Result<(), Untold>
     requires sound { IsSound types.now }
     requires left { Stands types.now (world_key x) }

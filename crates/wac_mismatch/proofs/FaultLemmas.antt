@@ -6,7 +6,7 @@ use Rattle.wac_model.specs.CoreTree.{CoreTree, RefTree, CoreTypeTree, CoreFits, 
 use Rattle.wac_model.specs.ItemTree.{ItemTree, Kind, Leaf, leaf, core_module, composite, no_items, item, type_item, resource, func, value, interface, world}
 use Rattle.wac_model.specs.Order.{Fits, FitsAt, leaves, modules, composites, not_asked, there}
 use Rattle.wac_mismatch.specs.Place.{Side, item_side, core_side, value_side, absent, SideFits, by_check}
-use Rattle.wac_mismatch.specs.Holds.{IsResource, IsCount, DifferAt, IsFixedSize, IsOfNames, IsOfResult, IsOfVariant, IsOfFunc, HoldsOfValues, HoldsOfLeaves, HoldsOfItems, IsCoreFunc, IsTableElement, IsGlobalType, HoldsOfCore, HoldsOfSides, LacksExport, LacksImport, LacksCoreImport, DifferIn, HoldsOfPlace, Holds}
+use Rattle.wac_mismatch.specs.Holds.{IsResource, IsCount, DifferAt, IsFixedSize, IsOfNames, IsOfResult, IsOfVariant, IsOfFunc, HoldsOfValues, HoldsOfLeaves, HoldsOfItems, IsCoreFunc, IsTableElement, IsGlobalType, HoldsOfCore, HoldsOfSides, LacksExport, LacksImport, LacksCoreImport, DifferInField, HoldsOfPlace, Holds}
 use Rattle.wac_mismatch.specs.declared.check.SubtypeCheck.{SubtypeCheck}
 use Rattle.wac_mismatch.specs.declared.check.SubtypeCheck.TheVariants.{Covariant, Contravariant}
 use Rattle.wac_mismatch.specs.declared.fault.CountOf.{CountOf}
@@ -187,7 +187,7 @@ core_import_refutes : (k : Text) (n : ImportName) (a b : Side) → LacksCoreImpo
 core_import_refutes k n (item_side (core_module i m)) (item_side (core_module i' m')) lacks (modules p) = core_not_there _ _ (p.imports n) lacks.1 lacks.2.0 lacks.2.1
 core_import_refutes k n a b lacks fits = elim lacks [ ]
 
-field_refutes : (field : CoreField) (a b : Side) → DifferIn field a b → SideFits a b → ⊥
+field_refutes : (field : CoreField) (a b : Side) → DifferInField field a b → SideFits a b → ⊥
 field_refutes core_field.TableLimits (core_side (limited (table e t s) l)) (core_side (limited (table e' t' s') l')) h fits = h fits.1
 field_refutes core_field.Table64 (core_side (limited (table e t s) l)) (core_side (limited (table e' t' s') l')) h fits = let same = fits.0 in h (cc)
 field_refutes core_field.TableShared (core_side (limited (table e t s) l)) (core_side (limited (table e' t' s') l')) h fits = let same = fits.0 in h (cc)

@@ -2,7 +2,7 @@
 use Rattle.std.proofs.Common.{[], ◌∷◌, inl, inr}
 use Rattle.wac_model.specs.ValueTree.{ValueTree}
 use Rattle.wac_mismatch.specs.Place.{Side, value_side, place, by_check, SideFits}
-use Rattle.wac_mismatch.specs.Holds.{HoldsOfSides, DifferIn, Holds}
+use Rattle.wac_mismatch.specs.Holds.{HoldsOfSides, DifferInField, Holds}
 use Rattle.wac_mismatch.specs.Path.{Leads, Explains, Refutes}
 use Rattle.wac_mismatch.specs.Laws.{APathRefutes}
 use Rattle.wac_mismatch.specs.Steps.{IsHere, IsUnder}
@@ -50,7 +50,7 @@ values_hold (fault.MissingImport _ _ _) c x y (inr h) = elim h.1 [ ]
 values_hold (fault.MissingCoreImport _ _ _ _) c x y (inr h) = elim h.1 [ ]
 values_hold (fault.Core field) c x y (inr h) = no_field field h
   where
-    no_field : (field : CoreField) → DifferIn field (value_side x) (value_side y) → by_check c (HoldsOfSides (fault.Core field)) (value_side x) (value_side y)
+    no_field : (field : CoreField) → DifferInField field (value_side x) (value_side y) → by_check c (HoldsOfSides (fault.Core field)) (value_side x) (value_side y)
     no_field core_field.TableLimits h = elim h [ ]
     no_field core_field.Table64 h = elim h [ ]
     no_field core_field.TableShared h = elim h [ ]

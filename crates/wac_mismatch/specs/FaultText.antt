@@ -8,7 +8,7 @@ use Rattle.wac_mismatch.specs.declared.fault.NameOf.TheVariants as name_of
 use Rattle.wac_mismatch.specs.declared.fault.ResultPart.{ResultPart}
 use Rattle.wac_mismatch.specs.declared.fault.ResultPart.TheVariants as result_part
 use Rattle.wac_core.specs.declared.values.CoreFuncType.{CoreFuncType}
-use Rattle.wac_core.specs.Content.{ref_tree, core_type_tree, func_content}
+use Rattle.wac_core.specs.Content.{ref_tree, core_type_tree, core_func_content}
 use Rattle.wac_core.specs.Texts.{ref_text, core_type_text, core_func_text}
 use Rattle.wac_mismatch.specs.declared.check.SubtypeCheck.{SubtypeCheck}
 use Rattle.wac_mismatch.specs.declared.check.SubtypeCheck.TheVariants.{Covariant, Contravariant}
@@ -100,7 +100,7 @@ core_field_text core_field.GlobalMutable = codes "mismatched mutable flag for gl
 core_field_text core_field.GlobalShared = codes "mismatched shared flag for globals"
 
 abbrev pub core_func_type_text : CoreFuncType → Text
-core_func_type_text f = core_func_text (func_content f).0 (func_content f).1
+core_func_type_text f = core_func_text (core_func_content f).0 (core_func_content f).1
 
 abbrev pub fault_text : Fault → Text
 fault_text (Kind x y) = joined (codes "expected " ∷ x.now ∷ codes ", found " ∷ y.now ∷ [])

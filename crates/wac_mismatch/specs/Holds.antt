@@ -6,7 +6,7 @@ use Rattle.wac_model.specs.Desc.{value_desc, item_desc}
 use Rattle.wac_model.specs.ValueTree.{ValueTree, FuncTree, node, part_count, primitive, borrow, own, tuple, list, fixed_size_list, map_of, option, result_of, variant, record_of, flags, enum, stream, future}
 use Rattle.wac_model.specs.CoreTree.{CoreTree, RefTree, CoreTypeTree, LimitsFit, plain, limited, func as core_func, tag, global, table, memory}
 use Rattle.wac_model.specs.ItemTree.{ItemTree, Kind, Leaf, leaf, core_module, composite, item, type_item, resource, func, value, interface, world, item_at}
-use Rattle.wac_core.specs.Content.{ref_tree, core_type_tree, func_content}
+use Rattle.wac_core.specs.Content.{ref_tree, core_type_tree, core_func_content}
 use Rattle.wac_core.specs.Texts.{core_extern_text}
 use Rattle.wac_mismatch.specs.Place.{Side, item_side, core_side, value_side, absent, Place, by_check}
 use Rattle.wac_mismatch.specs.declared.fault.CountOf.{CountOf}
@@ -20,9 +20,9 @@ use Rattle.wac_mismatch.specs.declared.fault.Fault.{Fault}
 use Rattle.wac_mismatch.specs.declared.fault.Fault.TheVariants as fault
 
 -- different kinds, with these descriptions
-abbrev pub IsKind : Fault → Text → Text → Type 0
-IsKind (fault.Kind e f) x y = (e.now ≡ x) × (f.now ≡ y)
-IsKind _ x y = ⊥
+abbrev pub IsKindFault : Fault → Text → Text → Type 0
+IsKindFault (fault.Kind e f) x y = (e.now ≡ x) × (f.now ≡ y)
+IsKindFault _ x y = ⊥
 
 -- resources of different names
 abbrev pub IsResource : Fault → Text → Text → Type 0
@@ -67,7 +67,7 @@ IsOfVariant f xs ys = IsOfNames count_of.Variant name_of.Variant f (map (λ p. p
 
 -- a fault of two value types
 abbrev pub HoldsOfValues : Fault → ValueTree → ValueTree → Type 0
-HoldsOfValues f (node (primitive p) ts) (node (primitive q) us) = (p ≢ q) × IsKind f (value_desc (node (primitive p) ts)) (value_desc (node (primitive q) us))
+HoldsOfValues f (node (primitive p) ts) (node (primitive q) us) = (p ≢ q) × IsKindFault f (value_desc (node (primitive p) ts)) (value_desc (node (primitive q) us))
 HoldsOfValues f (node (borrow r) ts) (node (borrow s) us) = IsResource f r s
 HoldsOfValues f (node (own r) ts) (node (own s) us) = IsResource f r s
 HoldsOfValues f (node tuple ts) (node tuple us) = IsCount count_of.Tuple f (part_count ts) (part_count us)
@@ -82,7 +82,7 @@ HoldsOfValues f (node (flags xs) ts) (node (flags ys) us) = IsOfNames count_of.F
 HoldsOfValues f (node (enum xs) ts) (node (enum ys) us) = IsOfNames count_of.Enum name_of.Enum f xs ys
 HoldsOfValues f (node (stream p) ts) (node (stream q) us) = ⊥
 HoldsOfValues f (node (future p) ts) (node (future q) us) = ⊥
-HoldsOfValues f x y = IsKind f (value_desc x) (value_desc y)
+HoldsOfValues f x y = IsKindFault f (value_desc x) (value_desc y)
 
 -- a fault of two functions
 abbrev pub IsOfFunc : Fault → FuncTree → FuncTree → Type 0
@@ -97,7 +97,7 @@ abbrev pub HoldsOfLeaves : Fault → Kind → Leaf → Leaf → Type 0
 HoldsOfLeaves f k (resource r) (resource s) = IsResource f r s
 HoldsOfLeaves f k (func x) (func y) = IsOfFunc f x y
 HoldsOfLeaves f k (value x) (value y) = HoldsOfValues f x y
-HoldsOfLeaves f k x y = IsKind f (item_desc (leaf k x)) (item_desc (leaf k y))
+HoldsOfLeaves f k x y = IsKindFault f (item_desc (leaf k x)) (item_desc (leaf k y))
 
 -- a fault of two items; what two interfaces, two worlds or two core modules lack is told below
 abbrev pub HoldsOfItems : Fault → ItemTree → ItemTree → Type 0
@@ -109,11 +109,11 @@ HoldsOfItems f (composite item interface is es) (composite item interface is' es
 HoldsOfItems f (composite item world is es) (composite item world is' es') = ⊥
 HoldsOfItems f (composite type_item interface is es) (composite type_item interface is' es') = ⊥
 HoldsOfItems f (composite type_item world is es) (composite type_item world is' es') = ⊥
-HoldsOfItems f x y = IsKind f (item_desc x) (item_desc y)
+HoldsOfItems f x y = IsKindFault f (item_desc x) (item_desc y)
 
 -- two core functions or tags of different types
 abbrev pub IsCoreFunc : Fault → List CoreTypeTree × List CoreTypeTree → List CoreTypeTree × List CoreTypeTree → Type 0
-IsCoreFunc (fault.CoreFunc e f) x y = (x ≢ y) × (func_content e ≡ x) × (func_content f ≡ y)
+IsCoreFunc (fault.CoreFunc e f) x y = (x ≢ y) × (core_func_content e ≡ x) × (core_func_content f ≡ y)
 IsCoreFunc _ x y = ⊥
 
 -- tables with elements of different types
@@ -133,7 +133,7 @@ HoldsOfCore f (plain (tag ps rs)) (plain (tag ps' rs')) = IsCoreFunc f (ps, rs) 
 HoldsOfCore f (plain (global v m s)) (plain (global v' m' s')) = IsGlobalType f v v'
 HoldsOfCore f (limited (table e t s) l) (limited (table e' t' s') l') = IsTableElement f e e'
 HoldsOfCore f (limited (memory m s p) l) (limited (memory m' s' p') l') = ⊥
-HoldsOfCore f x y = IsKind f (core_extern_text x) (core_extern_text y)
+HoldsOfCore f x y = IsKindFault f (core_extern_text x) (core_extern_text y)
 
 -- a fault of an expected side and a found one
 abbrev pub HoldsOfSides : Fault → Side → Side → Type 0
@@ -162,24 +162,24 @@ LacksCoreImport k n (item_side (core_module i m)) (item_side (core_module i' m')
 LacksCoreImport k n a b = ⊥
 
 -- two core externs of one sort that differ in this, or whose limits don't fit
-abbrev pub DifferIn : CoreField → Side → Side → Type 0
-DifferIn core_field.TableLimits (core_side (limited (table e t s) l)) (core_side (limited (table e' t' s') l')) = ¬ (LimitsFit l l')
-DifferIn core_field.Table64 (core_side (limited (table e t s) l)) (core_side (limited (table e' t' s') l')) = t ≢ t'
-DifferIn core_field.TableShared (core_side (limited (table e t s) l)) (core_side (limited (table e' t' s') l')) = s ≢ s'
-DifferIn core_field.MemoryShared (core_side (limited (memory m s p) l)) (core_side (limited (memory m' s' p') l')) = s ≢ s'
-DifferIn core_field.Memory64 (core_side (limited (memory m s p) l)) (core_side (limited (memory m' s' p') l')) = m ≢ m'
-DifferIn core_field.MemoryLimits (core_side (limited (memory m s p) l)) (core_side (limited (memory m' s' p') l')) = ¬ (LimitsFit l l')
-DifferIn core_field.PageSizeLog2 (core_side (limited (memory m s p) l)) (core_side (limited (memory m' s' p') l')) = p ≢ p'
-DifferIn core_field.GlobalMutable (core_side (plain (global v m s))) (core_side (plain (global v' m' s'))) = m ≢ m'
-DifferIn core_field.GlobalShared (core_side (plain (global v m s))) (core_side (plain (global v' m' s'))) = s ≢ s'
-DifferIn field a b = ⊥
+abbrev pub DifferInField : CoreField → Side → Side → Type 0
+DifferInField core_field.TableLimits (core_side (limited (table e t s) l)) (core_side (limited (table e' t' s') l')) = ¬ (LimitsFit l l')
+DifferInField core_field.Table64 (core_side (limited (table e t s) l)) (core_side (limited (table e' t' s') l')) = t ≢ t'
+DifferInField core_field.TableShared (core_side (limited (table e t s) l)) (core_side (limited (table e' t' s') l')) = s ≢ s'
+DifferInField core_field.MemoryShared (core_side (limited (memory m s p) l)) (core_side (limited (memory m' s' p') l')) = s ≢ s'
+DifferInField core_field.Memory64 (core_side (limited (memory m s p) l)) (core_side (limited (memory m' s' p') l')) = m ≢ m'
+DifferInField core_field.MemoryLimits (core_side (limited (memory m s p) l)) (core_side (limited (memory m' s' p') l')) = ¬ (LimitsFit l l')
+DifferInField core_field.PageSizeLog2 (core_side (limited (memory m s p) l)) (core_side (limited (memory m' s' p') l')) = p ≢ p'
+DifferInField core_field.GlobalMutable (core_side (plain (global v m s))) (core_side (plain (global v' m' s'))) = m ≢ m'
+DifferInField core_field.GlobalShared (core_side (plain (global v m s))) (core_side (plain (global v' m' s'))) = s ≢ s'
+DifferInField field a b = ⊥
 
 -- a fault that speaks of the left side and the right one
 abbrev pub HoldsOfPlace : Fault → Place → Type 0
 HoldsOfPlace (fault.MissingExport h k n c) p = (c ≡ p.check) × LacksExport h.now k.now (string_bytes n) p.left p.right
 HoldsOfPlace (fault.MissingImport k n c) p = (c ≡ p.check) × LacksImport k.now (string_bytes n) p.left p.right
 HoldsOfPlace (fault.MissingCoreImport k m n c) p = (c ≡ p.check) × LacksCoreImport k.now (string_bytes m, string_bytes n) p.left p.right
-HoldsOfPlace (fault.Core field) p = DifferIn field p.left p.right
+HoldsOfPlace (fault.Core field) p = DifferInField field p.left p.right
 HoldsOfPlace f p = ⊥
 
 -- a fault of a place: of what is expected there and what is found, or of

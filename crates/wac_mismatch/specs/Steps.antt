@@ -36,9 +36,9 @@ IsCase n (frame.Case m) = string_bytes m ≡ n
 IsCase n _ = ⊥
 
 -- the fault of these two names at an index
-abbrev pub IsName : Fault → NameOf → ℕ → Text → Text → Type 0
-IsName (fault.Name o i e f) of index x y = (o ≡ of) × (i ≡ index) × (string_bytes e ≡ x) × (string_bytes f ≡ y)
-IsName _ of index x y = ⊥
+abbrev pub IsNameFault : Fault → NameOf → ℕ → Text → Text → Type 0
+IsNameFault (fault.Name o i e f) of index x y = (o ≡ of) × (i ≡ index) × (string_bytes e ≡ x) × (string_bytes f ≡ y)
+IsNameFault _ of index x y = ⊥
 
 -- the fault of these two names of a parameter
 abbrev pub IsParamName : Fault → ℕ → Text → Text → Type 0

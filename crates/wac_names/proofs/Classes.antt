@@ -11,8 +11,8 @@ use Rattle.semver.proofs.Grammar.{version_parts-complete, version_parts-sound}
 use Rattle.semver.specs.declared.error.Error.{Error}
 use Rattle.semver.specs.Identifiers.{parts_text}
 use Rattle.semver.specs.Parse.{Parts, version_parts}
-use Rattle.wac_names.specs.Track.{HasKey, HasNoAt, IsCompatible, IsKeyOf, IsKeyText, IsTracked, IsVersioned}
-use Rattle.wac_names.specs.Class.{ClassesAreDecided, ClassesTellNames, KeysAreTracks, alone, class_of, class_with, is_at, key_of, key_of_parts, key_of_version, on_track}
+use Rattle.wac_names.specs.Track.{HasTrackKey, HasNoAt, IsCompatible, IsKeyOf, IsKeyText, IsTracked, IsVersioned}
+use Rattle.wac_names.specs.Class.{ClassesAreDecided, ClassesTellNames, KeysAreTracks, alone, class_of, class_with, is_at, class_key, key_of_parts, key_of_version, on_track}
 
 -- ---- where a name is cut
 
@@ -66,7 +66,7 @@ key_parts base key p e = elim (cases_Bool (length p.3 == 0)) [
   some_same : {k l : List ℕ} → ◌≡◌ {A = Option (List ℕ)} (Some k) (Some l) → k ≡ l
   some_same e = cc e
 
-key_of-complete : (name key : List ℕ) (p : Parts) → IsTracked name key p → key_of name ≡ Some key
+key_of-complete : (name key : List ℕ) (p : Parts) → IsTracked name key p → class_key name ≡ Some key
 key_of-complete name key p t =
     let base = t.base in
     let text = parts_text p in
@@ -100,24 +100,24 @@ read_after_at name p e = elim (cases_Bool (nat_lt (position_or_len is_at name) (
       cc (ap version_parts nothing, e)
 ]
 
-key_of-sound : (name key : List ℕ) → key_of name ≡ Some key → HasKey name key
+key_of-sound : (name key : List ℕ) → class_key name ≡ Some key → HasTrackKey name key
 key_of-sound name key e = step (version_parts (after_first is_at name)) refl e where
-  step : (o : Result Parts Error) → version_parts (after_first is_at name) ≡ o → key_of_version (before_first is_at name) o ≡ Some key → HasKey name key
+  step : (o : Result Parts Error) → version_parts (after_first is_at name) ≡ o → key_of_version (before_first is_at name) o ≡ Some key → HasTrackKey name key
   step (Err d) at h = cc h
   step (Ok p) at h =
       let k = key_parts (before_first is_at name) key p h in
       (p, record { base = before_first is_at name; versioned = read_after_at name p at; release = k.0; key_text = k.1 })
 
-key_of-is : (name : List ℕ) → IsKeyOf name (key_of name)
-key_of-is name = at (key_of name) refl where
-  at : (o : Option (List ℕ)) → key_of name ≡ o → IsKeyOf name o
+key_of-is : (name : List ℕ) → IsKeyOf name (class_key name)
+key_of-is name = at (class_key name) refl where
+  at : (o : Option (List ℕ)) → class_key name ≡ o → IsKeyOf name o
   at (Some key) e = key_of-sound name key e
   at None e = λ key h. cc (key_of-complete name key h.0 h.1, e)
 
-key_of-only : (name : List ℕ) (o : Option (List ℕ)) → IsKeyOf name o → o ≡ key_of name
+key_of-only : (name : List ℕ) (o : Option (List ℕ)) → IsKeyOf name o → o ≡ class_key name
 key_of-only name (Some key) h = sym (key_of-complete name key h.0 h.1)
-key_of-only name None none = at (key_of name) refl where
-  at : (o : Option (List ℕ)) → key_of name ≡ o → ◌≡◌ {A = Option (List ℕ)} None (key_of name)
+key_of-only name None none = at (class_key name) refl where
+  at : (o : Option (List ℕ)) → class_key name ≡ o → ◌≡◌ {A = Option (List ℕ)} None (class_key name)
   at (Some key) e = absurd (none key (key_of-sound name key e))
   at None e = sym e
 
@@ -127,10 +127,10 @@ keys_are_tracks = record { is_key = key_of-is; only_key = key_of-only }
 -- ---- classes
 
 -- the class of a name with this track key, and of a name without one
-pub class_of-keyed : (name key : List ℕ) → HasKey name key → on_track key ≡ class_of name
+pub class_of-keyed : (name key : List ℕ) → HasTrackKey name key → on_track key ≡ class_of name
 class_of-keyed name key h = ap (class_with name) (key_of-only name (Some key) h)
 
-pub class_of-alone : (name : List ℕ) → ((key : List ℕ) → HasKey name key → ⊥) → alone name ≡ class_of name
+pub class_of-alone : (name : List ℕ) → ((key : List ℕ) → HasTrackKey name key → ⊥) → alone name ≡ class_of name
 class_of-alone name none = ap (class_with name) (key_of-only name None none)
 
 class_complete : (a b : List ℕ) → IsCompatible a b → class_of a ≡ class_of b
@@ -139,11 +139,11 @@ class_complete a b (inr s) =
     ap (λ (o : Option (List ℕ)). class_with a o) (key_of-complete a s.0 s.1.0 s.1.1) ∙ sym (ap (λ (o : Option (List ℕ)). class_with b o) (key_of-complete b s.0 s.2.0 s.2.1))
 
 class_sound : (a b : List ℕ) → class_of a ≡ class_of b → IsCompatible a b
-class_sound a b e = at (key_of a) (key_of b) refl refl e where
-  at : (o r : Option (List ℕ)) → key_of a ≡ o → key_of b ≡ r → class_with a o ≡ class_with b r → IsCompatible a b
+class_sound a b e = at (class_key a) (class_key b) refl refl e where
+  at : (o r : Option (List ℕ)) → class_key a ≡ o → class_key b ≡ r → class_with a o ≡ class_with b r → IsCompatible a b
   at (Some k) (Some l) x y e =
       let same : k ≡ l = cc e in
-      inr (l, subst (λ (t : List ℕ). HasKey a t) same (key_of-sound a k x), key_of-sound b l y)
+      inr (l, subst (λ (t : List ℕ). HasTrackKey a t) same (key_of-sound a k x), key_of-sound b l y)
   at (Some k) None x y e = cc e
   at None (Some l) x y e = cc e
   at None None x y e = inl cc

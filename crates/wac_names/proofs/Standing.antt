@@ -16,8 +16,8 @@ use Rattle.indexmap.specs.IndexMap.{insert_entry}
 use Rattle.semver.specs.Identifiers.{parts_of}
 use Rattle.semver.specs.OrderLaws.{build_total, pre_total}
 use Rattle.semver.specs.Parse.{Parts}
-use Rattle.wac_names.specs.Track.{HasKey, IsTracked, version_cmp}
-use Rattle.wac_names.specs.Interner.{Extends, Interning, IsKnown, IsLawful}
+use Rattle.wac_names.specs.Track.{HasTrackKey, IsTracked, version_cmp}
+use Rattle.wac_names.specs.Interner.{ExtendsInterning, Interning, IsKnown, IsLawful}
 use Rattle.wac_names.specs.Pairs.{HasText, IsFound, value_at, with_pair}
 use Rattle.wac_names.specs.Lends.{WritesAt}
 use Rattle.wac_names.specs.NameMap.{InsertAnswers, IsLead, Lead, Notes, Represents}
@@ -143,11 +143,11 @@ module _ {K V : Type 0} (f : Interning K) (ps : List (List ℕ × V)) (name : Li
 -- ---- maps
 
 module _ {K V : Type 0} {eq : K → K → Bool} (same : IsEquivalence eq) where
-  note_more : {f g : Interning K} (ps : List (List ℕ × V)) (track : List ℕ) (o : Option (Lead K)) → Extends f g → Notes f ps track o → Notes g ps track o
+  note_more : {f g : Interning K} (ps : List (List ℕ × V)) (track : List ℕ) (o : Option (Lead K)) → ExtendsInterning f g → Notes f ps track o → Notes g ps track o
   note_more ps track None x n = n
   note_more ps track (Some lead) x n = record { text = n.text; there = n.there; key = x n.text lead.0 n.key; tracked = n.tracked; greatest = n.greatest }
 
-  zip_more : {f g : Interning K} (es : List (K × V)) (ps : List (List ℕ × V)) → Extends f g
+  zip_more : {f g : Interning K} (es : List (K × V)) (ps : List (List ℕ × V)) → ExtendsInterning f g
       → AllZip (λ (e : K × V) (p : List ℕ × V). (f p.0 e.0 ≡ true) × (e.1 ≡ p.1)) es ps → AllZip (λ (e : K × V) (p : List ℕ × V). (g p.0 e.0 ≡ true) × (e.1 ≡ p.1)) es ps
   zip_more [] [] x a = a
   zip_more [] (p ∷ ps) x a = a
@@ -155,7 +155,7 @@ module _ {K V : Type 0} {eq : K → K → Bool} (same : IsEquivalence eq) where
   zip_more (e ∷ es) (p ∷ ps) x a = ((x p.0 e.0 a.0.0, a.0.1), zip_more es ps x a.1)
 
   -- a map stands for its pairs under a function that has more
-  pub stands_more : {f g : Interning K} (m : NameMap K V) (ps : List (List ℕ × V)) → IsLawful eq g → Extends f g → Represents eq f m ps → Represents eq g m ps
+  pub stands_more : {f g : Interning K} (m : NameMap K V) (ps : List (List ℕ × V)) → IsLawful eq g → ExtendsInterning f g → Represents eq f m ps → Represents eq g m ps
   stands_more {f = f} {g = g} m ps law x s = record {
     defined = zip_more m.definitions.entries ps x s.defined;
     distinct = s.distinct;
@@ -383,9 +383,9 @@ module _ {K V : Type 0} (eq : K → K → Bool) (g : Interning K) (same : IsEqui
 
 module _ {K T E : Type 0} (r : Result T E) where
   pub track_known_ok : (g : Interning K) (name track : List ℕ) (w : Parts) (k : K) → IsTracked name track w → g track k ≡ true
-      → OnOk r ((t : List ℕ) → HasKey name t → IsKnown g t)
+      → OnOk r ((t : List ℕ) → HasTrackKey name t → IsKnown g t)
   track_known_ok g name track w k here h = on_ok r (λ t x. (k, subst (λ (u : List ℕ). g u k ≡ true) (tracked_same name track t w x.0 here x.1).0 h)) where
-    on_ok : (q : Result T E) → ((t : List ℕ) → HasKey name t → IsKnown g t) → OnOk q ((t : List ℕ) → HasKey name t → IsKnown g t)
+    on_ok : (q : Result T E) → ((t : List ℕ) → HasTrackKey name t → IsKnown g t) → OnOk q ((t : List ℕ) → HasTrackKey name t → IsKnown g t)
     on_ok (Ok x) p = p
     on_ok (Err e) p = tt
 

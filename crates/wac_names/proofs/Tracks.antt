@@ -14,7 +14,7 @@ use Rattle.semver.specs.OrderLaws.{pre-anti, build-anti}
 use Rattle.semver.specs.Parse.{Parts, version_parts}
 use Rattle.semver.proofs.Grammar.{version_parts-complete}
 use Rattle.semver.proofs.Numerals.{ok-value}
-use Rattle.wac_names.specs.Track.{HasNoAt, HasKey, IsCompatible, IsEquivalenceOfNames, IsKeyText, IsTracked, SameKey, VersionsTellNames, version_cmp}
+use Rattle.wac_names.specs.Track.{HasNoAt, HasTrackKey, IsCompatible, IsEquivalenceOfNames, IsKeyText, IsTracked, SameKey, VersionsTellNames, version_cmp}
 
 -- two texts cut at their first `@` are cut in the same place
 pub split_same : (a b x y : List ℕ) → HasNoAt a → HasNoAt b → a ++ 64 ∷ x ≡ b ++ 64 ∷ y → (a ≡ b) × (x ≡ y)
@@ -94,7 +94,7 @@ compatible_trans a b c (inl e) y = subst (λ (n : List ℕ). IsCompatible n c) (
 compatible_trans a b c (inr x) (inl e) = subst (λ (n : List ℕ). IsCompatible a n) e (inr x)
 compatible_trans a b c (inr x) (inr y) =
     let same = (tracked_same b x.0 y.0 x.2.0 y.1.0 x.2.1 y.1.1).0 in
-    inr (x.0, x.1, subst (λ (k : List ℕ). HasKey c k) (sym same) y.2)
+    inr (x.0, x.1, subst (λ (k : List ℕ). HasTrackKey c k) (sym same) y.2)
 
 compatible_sym : (a b : List ℕ) → IsCompatible a b → IsCompatible b a
 compatible_sym a b (inl e) = inl (sym e)
@@ -104,15 +104,15 @@ pub compatible_equivalence : IsEquivalenceOfNames
 compatible_equivalence = record { reflexive = λ a. inl refl; symmetric = compatible_sym; transitive = compatible_trans }
 
 -- two names, of which the second has no key
-pub stands_alone : (a b : List ℕ) → a ≢ b → ((key : List ℕ) → HasKey b key → ⊥) → IsCompatible a b → ⊥
+pub stands_alone : (a b : List ℕ) → a ≢ b → ((key : List ℕ) → HasTrackKey b key → ⊥) → IsCompatible a b → ⊥
 stands_alone a b ne none (inl e) = ne e
 stands_alone a b ne none (inr s) = none s.0 s.2
 
 -- two names with keys
-pub keys_compare : (a b k l : List ℕ) (r : Bool) → a ≢ b → HasKey a k → HasKey b l → r ≡ bytes_eq k l
+pub keys_compare : (a b k l : List ℕ) (r : Bool) → a ≢ b → HasTrackKey a k → HasTrackKey b l → r ≡ bytes_eq k l
     → (IsTrue r → IsCompatible a b) × (IsCompatible a b → IsTrue r)
 keys_compare a b k l r ne x y e = (
-  λ h. let same : k ≡ l = (bytes_decides k l).0 (sym e ∙ h) in inr (l, subst (λ (m : List ℕ). HasKey a m) same x, y),
+  λ h. let same : k ≡ l = (bytes_decides k l).0 (sym e ∙ h) in inr (l, subst (λ (m : List ℕ). HasTrackKey a m) same x, y),
   elim [
     | inl s ↦ absurd (ne s)
     | inr s ↦
@@ -126,7 +126,7 @@ pub not_same : (a b : List ℕ) → bytes_eq a b ≡ false → a ≢ b
 not_same a b f e = cc (f, (bytes_decides a b).1 e)
 
 -- names whose keys differ have no key in common
-pub keys_apart : (a b k l : List ℕ) → bytes_eq k l ≡ false → HasKey a k → HasKey b l → SameKey a b → ⊥
+pub keys_apart : (a b k l : List ℕ) → bytes_eq k l ≡ false → HasTrackKey a k → HasTrackKey b l → SameKey a b → ⊥
 keys_apart a b k l f x y s =
     let one = (tracked_same a k s.0 x.0 s.1.0 x.1 s.1.1).0 in
     let two = (tracked_same b l s.0 y.0 s.2.0 y.1 s.2.1).0 in

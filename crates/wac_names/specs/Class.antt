@@ -52,8 +52,8 @@ key_of_version base (Ok p) = key_of_parts base p
 key_of_version base (Err e) = None
 
 -- the track key of a name
-abbrev pub key_of : Text → Option Text
-key_of name = key_of_version (before_first is_at name) (version_parts (after_first is_at name))
+abbrev pub class_key : Text → Option Text
+class_key name = key_of_version (before_first is_at name) (version_parts (after_first is_at name))
 
 -- the class of a name with this track key
 abbrev pub class_with : Text → Option Text → Class
@@ -62,14 +62,14 @@ class_with name None = alone name
 
 -- the class of a name
 abbrev pub class_of : Text → Class
-class_of name = class_with name (key_of name)
+class_of name = class_with name (class_key name)
 
 -- ---- laws
 
 -- the key of a name is its track key, and no other is
 pub record KeysAreTracks : Type 0 where
-  pub is_key : (name : Text) → IsKeyOf name (key_of name)
-  pub only_key : (name : Text) (key : Option Text) → IsKeyOf name key → key ≡ key_of name
+  pub is_key : (name : Text) → IsKeyOf name (class_key name)
+  pub only_key : (name : Text) (key : Option Text) → IsKeyOf name key → key ≡ class_key name
 
 -- names are compatible exactly where their classes are equal
 abbrev pub ClassesTellNames : Type 0

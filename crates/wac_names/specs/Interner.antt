@@ -20,8 +20,8 @@ module _ {K : Type 0} where
   IsKnown f text = (key : K) × (f text key ≡ true)
 
   -- the second function has what the first has
-  abbrev pub Extends : Interning K → Interning K → Type 0
-  Extends f g = (text : Text) (key : K) → f text key ≡ true → g text key ≡ true
+  abbrev pub ExtendsInterning : Interning K → Interning K → Type 0
+  ExtendsInterning f g = (text : Text) (key : K) → f text key ≡ true → g text key ≡ true
 
   -- the second function has nothing new but at such texts
   abbrev pub GrowsOnlyAt : Interning K → Interning K → (Text → Type 0) → Type 0

@@ -7,8 +7,8 @@ use Rattle.semver.specs.Identifiers.{parts_of}
 use Rattle.semver.specs.Parse.{Parts}
 use Rattle.semver.specs.declared.Version.{Version}
 use Rattle.wac_model.specs.Text.{Text}
-use Rattle.wac_names.specs.Track.{HasKey, IsTracked, version_cmp}
-use Rattle.wac_names.specs.Interner.{Extends, Interning, IsKnown, IsLawful}
+use Rattle.wac_names.specs.Track.{HasTrackKey, IsTracked, version_cmp}
+use Rattle.wac_names.specs.Interner.{ExtendsInterning, Interning, IsKnown, IsLawful}
 use Rattle.wac_names.specs.Pairs.{HasDistinctTexts, HasText}
 use Rattle.wac_names.specs.declared.error.NameError.{NameError}
 use Rattle.wac_names.specs.declared.error.NameError.TheVariants.{Memory, Twice}
@@ -62,7 +62,7 @@ pub record Represents {K V : Type 0} (eq : K → K → Bool) (f : Interning K) (
 
 -- where a name may be new to the interner afterwards: at the name and at its track key
 abbrev pub IsNameOrKey : Text → Text → Type 0
-IsNameOrKey name text = (text ≡ name) ⊎ HasKey name text
+IsNameOrKey name text = (text ≡ name) ⊎ HasTrackKey name text
 
 -- the fact, where the answer is that the name is there already
 abbrev pub OnTwice : {K : Type 0} → Result K NameError → Type 0 → Type 0
@@ -98,4 +98,4 @@ IsNameMapClone {K} {V} eq C D m n = ((j k : K) → C j k → eq j k ≡ true) �
 
 -- a map stands for the same pairs where the interner's function has grown
 abbrev pub StandsAsInternerGrows : {K V : Type 0} → (K → K → Bool) → NameMap K V → Type 0
-StandsAsInternerGrows {K} {V} eq m = (f g : Interning K) (ps : List (Text × V)) → IsLawful eq g → Extends f g → Represents eq f m ps → Represents eq g m ps
+StandsAsInternerGrows {K} {V} eq m = (f g : Interning K) (ps : List (Text × V)) → IsLawful eq g → ExtendsInterning f g → Represents eq f m ps → Represents eq g m ps

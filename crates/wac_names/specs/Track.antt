@@ -37,12 +37,12 @@ pub record IsTracked (name key : Text) (parts : Parts) : Type 0 where
   pub key_text : IsKeyText base parts key
 
 -- the name has this track key
-abbrev pub HasKey : Text → Text → Type 0
-HasKey name key = (parts : Parts) × IsTracked name key parts
+abbrev pub HasTrackKey : Text → Text → Type 0
+HasTrackKey name key = (parts : Parts) × IsTracked name key parts
 
 -- the two names have one track key
 abbrev pub SameKey : Text → Text → Type 0
-SameKey a b = (key : Text) × HasKey a key × HasKey b key
+SameKey a b = (key : Text) × HasTrackKey a key × HasTrackKey b key
 
 -- the two names are compatible
 abbrev pub IsCompatible : Text → Text → Type 0
@@ -58,8 +58,8 @@ version_cmp = then_cmp (on (λ (p : Parts). p.0) nat_cmp) (then_cmp (on (λ (p :
 
 -- the key is the name's, and with none the name has none
 abbrev pub IsKeyOf : Text → Option Text → Type 0
-IsKeyOf name (Some key) = HasKey name key
-IsKeyOf name None = (key : Text) → HasKey name key → ⊥
+IsKeyOf name (Some key) = HasTrackKey name key
+IsKeyOf name None = (key : Text) → HasTrackKey name key → ⊥
 
 -- the two names stand on one track, and the first one's version is ordered so to the second's; with
 -- none they stand on no common track
@@ -98,4 +98,4 @@ VersionsTellNames = (a b key : Text) (v w : Parts) → IsTracked a key v → IsT
 
 -- the text of a track key has no track key itself
 abbrev pub KeysHaveNoKey : Type 0
-KeysHaveNoKey = (name key other : Text) → HasKey name key → HasKey key other → ⊥
+KeysHaveNoKey = (name key other : Text) → HasTrackKey name key → HasTrackKey key other → ⊥

@@ -4,7 +4,7 @@ ghost use Rattle.std.specs.Prelude.{◌≡◌, Bool, true, IfOk};
 ghost use Rattle.std.specs.Str.{bytes_eq};
 ghost use Rattle.std.specs.String.{string_bytes};
 ghost use Rattle.wac_model.specs.Text.{Text};
-ghost use Rattle.wac_names.specs.Interner.{Extends, GrowsOnlyAt, IsLawful, IsValueAt};
+ghost use Rattle.wac_names.specs.Interner.{ExtendsInterning, GrowsOnlyAt, IsLawful, IsValueAt};
 ghost use Rattle.wac_names.specs.InternerLaws.{text_keys_lawful};
 
 use std::alloc::{AllocError, Global};
@@ -23,7 +23,7 @@ pub trait NameMapIntern {
     /// memory, the text may have a key.
     fn intern(&mut self, alloc: Global, name: &str) -> Result<Self::Key, AllocError>
         ensures key { IfOk result (λ k. is_key self.new name.now k ≡ true) }
-        ensures extends { Extends (is_key self.old) (is_key self.new) }
+        ensures extends { ExtendsInterning (is_key self.old) (is_key self.new) }
         ensures grows { GrowsOnlyAt (is_key self.old) (is_key self.new) (λ text. text ≡ name.now) };
 
     /// The key of the text, where it has one. `Err` is a failed allocation.

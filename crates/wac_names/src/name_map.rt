@@ -7,12 +7,12 @@ ghost use Rattle.std.specs.Map.Iter.{ShowsInOrder, ShowsValuesInOrder, deref_pai
 ghost use Rattle.std.specs.Option.{option_copied, option_copied_mut};
 ghost use Rattle.semver.specs.Identifiers.{parts_of};
 ghost use Rattle.wac_model.specs.Text.{Text};
-ghost use Rattle.wac_names.specs.Interner.{Extends, GrowsOnlyAt, Interning, IsKnown, IsLawful};
+ghost use Rattle.wac_names.specs.Interner.{ExtendsInterning, GrowsOnlyAt, Interning, IsKnown, IsLawful};
 ghost use Rattle.wac_names.specs.Lends.{lends_value};
 ghost use Rattle.wac_names.specs.NameMap.{AreEntriesOf, InsertAnswers, IsNameOrKey, OnTwice, SameDefinitions, Represents, definitions, value_with_key};
 ghost use Rattle.wac_names.specs.Pairs.{IsFound, value_at, with_pair};
 ghost use Rattle.wac_names.specs.Placing.{NotesName, NotesVersion, PlaceAnswers, Places, SameMaps};
-ghost use Rattle.wac_names.specs.Track.{HasKey, version_cmp};
+ghost use Rattle.wac_names.specs.Track.{HasTrackKey, version_cmp};
 
 use crate::error::NameError;
 use crate::intern::NameMapIntern;
@@ -105,9 +105,9 @@ fn note_name<K: Clone + Eq + Hash + Drop, I: NameMapIntern<Key = K>>(
     key: &K,
 ) -> Result<(), AllocError>
     requires clones { (j k : K) → K.is_clone j k → K.eq j k ≡ true }
-    ensures track { OnOk result ((track : Text) → HasKey name.now track → IsKnown (I.is_key cx.new) track) }
-    ensures extends { Extends (I.is_key cx.old) (I.is_key cx.new) }
-    ensures grows { GrowsOnlyAt (I.is_key cx.old) (I.is_key cx.new) (HasKey name.now) }
+    ensures track { OnOk result ((track : Text) → HasTrackKey name.now track → IsKnown (I.is_key cx.new) track) }
+    ensures extends { ExtendsInterning (I.is_key cx.old) (I.is_key cx.new) }
+    ensures grows { GrowsOnlyAt (I.is_key cx.old) (I.is_key cx.new) (HasTrackKey name.now) }
     ensures ok { OnOk result (NotesName K.eq (I.is_key cx.new) name.now key.now notes.old.entries notes.new.entries) }
     ensures err { OnErr result (notes.new.entries ≡ notes.old.entries) }
 {
@@ -130,8 +130,8 @@ impl<K: Clone + Eq + Hash + Drop, V: Drop> NameMap<K, V> {
     ) -> Result<K, NameError>
         requires clones { (j k : K) → K.is_clone j k → K.eq j k ≡ true }
         ensures key { IfOk result (λ k. I.is_key cx.new name.now k ≡ true) }
-        ensures track { OnOk result ((track : Text) → HasKey name.now track → IsKnown (I.is_key cx.new) track) }
-        ensures extends { Extends (I.is_key cx.old) (I.is_key cx.new) }
+        ensures track { OnOk result ((track : Text) → HasTrackKey name.now track → IsKnown (I.is_key cx.new) track) }
+        ensures extends { ExtendsInterning (I.is_key cx.old) (I.is_key cx.new) }
         ensures grows { GrowsOnlyAt (I.is_key cx.old) (I.is_key cx.new) (IsNameOrKey name.now) }
         ensures twice { OnTwice result (GrowsOnlyAt (I.is_key cx.old) (I.is_key cx.new) (λ text. text ≡ name.now)) }
         ensures ok { OnOk result (Places K.eq (I.is_key cx.new) name.now item self.old self.new) }
@@ -169,8 +169,8 @@ impl<K: Clone + Eq + Hash + Drop, V: Drop> NameMap<K, V> {
         // The interner has the name, and the name's track where it has
         // one, and nothing else is new.
         ensures key { IfOk result (λ k. I.is_key cx.new name.now k ≡ true) }
-        ensures track { OnOk result ((track : Text) → HasKey name.now track → IsKnown (I.is_key cx.new) track) }
-        ensures extends { Extends (I.is_key cx.old) (I.is_key cx.new) }
+        ensures track { OnOk result ((track : Text) → HasTrackKey name.now track → IsKnown (I.is_key cx.new) track) }
+        ensures extends { ExtendsInterning (I.is_key cx.old) (I.is_key cx.new) }
         ensures grows { GrowsOnlyAt (I.is_key cx.old) (I.is_key cx.new) (IsNameOrKey name.now) }
         ensures twice { OnTwice result (GrowsOnlyAt (I.is_key cx.old) (I.is_key cx.new) (λ text. text ≡ name.now)) }
 

@@ -17,8 +17,8 @@ abbrev pub is_acronym_byte : ℕ → Bool
 is_acronym_byte b = is_ascii_uppercase b || is_ascii_digit b
 
 -- a part of a label (`fragment`): a word or an acronym, of one byte or more
-abbrev pub is_fragment : Text → Bool
-is_fragment part = nat_lt 0 (length part) && (list_all is_lowercase_or_digit part || list_all is_acronym_byte part)
+abbrev pub is_label_fragment : Text → Bool
+is_label_fragment part = nat_lt 0 (length part) && (list_all is_lowercase_or_digit part || list_all is_acronym_byte part)
 
 abbrev pub begins_with_letter : Text → Bool
 begins_with_letter [] = false
@@ -28,7 +28,7 @@ begins_with_letter (b ∷ rest) = is_ascii_alphabetic b
 pub record IsLabel (text : Text) : Type 0 where
   pub fragments : List Text
   pub joined : text ≡ join_with_byte 45 fragments
-  pub all_fragments : list_all is_fragment fragments ≡ true
+  pub all_fragments : list_all is_label_fragment fragments ≡ true
   pub letter : begins_with_letter text ≡ true
 
 -- `namespace:package/interface`

@@ -4,7 +4,7 @@ ghost use Rattle.std.specs.Prelude.{◌≡◌, ◌↔◌, IfOk, IsTrue};
 ghost use Rattle.std.specs.List.{list_all};
 ghost use Rattle.semver.specs.Parse.{Parts};
 ghost use Rattle.wac_names.specs.Reading.{IsVersionText};
-ghost use Rattle.wac_package.specs.InterfaceName.{IsInterfaceName, IsInterfacePath, IsLabel, begins_with_letter, is_acronym_byte, is_fragment, is_lowercase_or_digit};
+ghost use Rattle.wac_package.specs.InterfaceName.{IsInterfaceName, IsInterfacePath, IsLabel, begins_with_letter, is_acronym_byte, is_label_fragment, is_lowercase_or_digit};
 
 use std::alloc::{AllocError, Global};
 use wac_names::read_version;
@@ -49,7 +49,7 @@ fn is_interface_path(text: &str) -> bool
 fn is_label(text: &str) -> bool
     ensures { IsTrue result ↔ IsLabel text.now }
 {
-    starts_with_letter(text) && text.split('-').all(is_fragment)
+    starts_with_letter(text) && text.split('-').all(is_label_fragment)
 }
 
 fn starts_with_letter(text: &str) -> bool
@@ -62,8 +62,8 @@ fn starts_with_letter(text: &str) -> bool
 }
 
 // Whether a part of a label is a word or an acronym.
-fn is_fragment(part: &str) -> bool
-    ensures { result ≡ is_fragment part.now }
+fn is_label_fragment(part: &str) -> bool
+    ensures { result ≡ is_label_fragment part.now }
 {
     let bytes = part.as_bytes();
     !bytes.is_empty() && (is_word(bytes) || is_acronym(bytes))

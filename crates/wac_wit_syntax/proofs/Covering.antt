@@ -1,6 +1,6 @@
 -- What is read one behind another.
-use Rattle.std.proofs.Common.{◌≡◌, ℕ, ◌+◌, ◌-◌, refl, sym, ap, ap₂, ◌∙◌, subst, arith}
-use Rattle.wac_wit_syntax.specs.Cursors.{IsQuiet, Reads, source}
+use Rattle.std.proofs.Common.{◌≡◌, ℕ, ◌+◌, ◌-◌, ap, ap₂, ◌∙◌, subst, arith}
+use Rattle.wac_wit_syntax.specs.Cursors.{HasNoRefusal, Reads, source}
 use Rattle.wac_wit_syntax.specs.Productions.{◌▸◌, IsKind, IsName, IsSpan, Nothing, Production, Source, Spanning, token_at}
 use Rattle.wac_wit_syntax.specs.declared.positions.Span.{Span}
 use Rattle.wac_wit_syntax.specs.declared.token.TokenKind.{TokenKind}
@@ -24,13 +24,13 @@ reads_as {c} {d} {P} {Q} h f = record {
 
 pub reads_nothing : (c d : Cursor) → d ≡ c → Reads c d Nothing
 reads_nothing c d e = record {
-  quiet = λ q. subst IsQuiet e q;
+  quiet = λ q. subst HasNoRefusal e q;
   same = λ q. ap source e;
   read = λ q. ap (λ (x : Cursor). x.next) e;
 }
 
 -- where something is refused, nothing is said
-pub reads_refused : (c d : Cursor) (P : Production) → (IsQuiet d → ⊥) → Reads c d P
+pub reads_refused : (c d : Cursor) (P : Production) → (HasNoRefusal d → ⊥) → Reads c d P
 reads_refused c d P h = record {
   quiet = λ q. absurd (h q);
   same = λ q. absurd (h q);

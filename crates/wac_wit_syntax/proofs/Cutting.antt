@@ -3,7 +3,7 @@ use Rattle.std.proofs.Common.{◌≡◌, ℕ, ◌+◌, ◌-◌, ◌<◌, ◌≤�
 use Rattle.std.specs.List.{AllByRecursion}
 use Rattle.std.proofs.lemmas.List.{drop-drop, take-append-drop, length-take-le}
 use Rattle.wac_wit_syntax.specs.Bytes.{is_space}
-use Rattle.wac_wit_syntax.specs.Parts.{HasNoPart, IsCut, IsOfSort, Part, Sort, docs_after, spelled, token, token_of, tokens_of, white, with_docs}
+use Rattle.wac_wit_syntax.specs.Parts.{HasNoPart, IsCut, IsOfSort, Part, PartSort, docs_after, spelled, token, token_of, tokens_of, white, with_docs}
 use Rattle.wac_wit_syntax.specs.Reading.{IsPieceAt}
 use Rattle.wac_wit_syntax.specs.Steps.{IsStep, LeadsBack, LeadsOn, tokens_with}
 use Rattle.wac_wit_syntax.specs.declared.error.Refusal.{Refusal}
@@ -14,10 +14,10 @@ use Rattle.wac_wit_syntax.proofs.FirstPart.{first_part}
 use Rattle.wac_wit_syntax.proofs.OnePart.{one_part, part_found}
 
 -- a part is a byte at least
-pub some_part : (s : Sort) (w behind : List ℕ) → IsOfSort s w behind → w ++ behind ≡ [] → ⊥
+pub some_part : (s : PartSort) (w behind : List ℕ) → IsOfSort s w behind → w ++ behind ≡ [] → ⊥
 some_part s w behind p e = cc (part_found s w behind p, ap first_part e)
 
-module _ (text : List ℕ) (c d : Cutter) (s : Sort) (w : List ℕ) (whole : w ++ drop d.at text ≡ drop c.at text) (size : c.at + length w ≡ d.at) (part : IsOfSort s w (drop d.at text))
+module _ (text : List ℕ) (c d : Cutter) (s : PartSort) (w : List ℕ) (whole : w ++ drop d.at text ≡ drop c.at text) (size : c.at + length w ≡ d.at) (part : IsOfSort s w (drop d.at text))
     (found : d.found.items ≡ c.found.items ++ token_of c.at c.docs s w) (docs : d.docs ≡ docs_after c.at c.docs s w) where
   abbrev first : Part
   first = record { sort = s; text = w }
@@ -85,7 +85,7 @@ module _ (text : List ℕ) (c d : Cutter) (items : List Refusal) (end : ℕ) (at
     step_of : LeadsBack text c d → LeadsOn text c d → IsStep text c d items items
     step_of back on = record { begins = omega arith; within = omega arith; kept = λ h. h; back = λ _. back; on = λ qs h. (refl, on) }
 
-    part_step : (s : Sort) → IsOfSort s (take (end - c.at) (drop c.at text)) (drop end text) → d.found.items ≡ c.found.items ++ token_of c.at c.docs s (take (end - c.at) (drop c.at text))
+    part_step : (s : PartSort) → IsOfSort s (take (end - c.at) (drop c.at text)) (drop end text) → d.found.items ≡ c.found.items ++ token_of c.at c.docs s (take (end - c.at) (drop c.at text))
         → d.docs ≡ docs_after c.at c.docs s (take (end - c.at) (drop c.at text)) → IsStep text c d items items
     part_step s part found docs =
         let here : IsOfSort s (take (end - c.at) (drop c.at text)) (drop d.at text) = subst (λ k. IsOfSort s (take (end - c.at) (drop c.at text)) (drop k text)) (sym at) part in
@@ -131,7 +131,7 @@ none_of_piece text at end kind p s w behind h e = p.says s w behind h (e ∙ sym
 
 -- ---- whole texts
 
-abbrev part_as : Sort → List ℕ → Part
+abbrev part_as : PartSort → List ℕ → Part
 part_as s w = record { sort = s; text = w }
 
 pub one_cut : (text : List ℕ) (ps qs : List Part) → IsCut ps text → IsCut qs text → ps ≡ qs

@@ -4,7 +4,7 @@ use Rattle.std.specs.Char.{is_ascii_alphabetic, is_ascii_digit}
 use Rattle.wac_model.specs.Text.{Text}
 use Rattle.wac_wit_syntax.specs.Bytes.{is_space, is_word_byte}
 use Rattle.wac_wit_syntax.specs.Names.{is_label}
-use Rattle.wac_wit_syntax.specs.Parts.{Sort, token, white}
+use Rattle.wac_wit_syntax.specs.Parts.{PartSort, token, white}
 use Rattle.wac_wit_syntax.specs.Reading.{closing_length, kind_of, run_length}
 use Rattle.wac_wit_syntax.specs.declared.scanning.Run.TheVariants as run
 use Rattle.wac_wit_syntax.specs.declared.token.TokenKind.{TokenKind}
@@ -12,7 +12,7 @@ use Rattle.wac_wit_syntax.specs.declared.token.TokenKind.TheVariants.{Arrow, Esc
 
 -- a sort of part, and how many bytes it takes
 abbrev pub Found : Type 0
-Found = Option (Sort × ℕ)
+Found = Option (PartSort × ℕ)
 
 -- a name with so many bytes before it
 abbrev pub name_part : TokenKind → ℕ → Text → Found

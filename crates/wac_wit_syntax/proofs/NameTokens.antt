@@ -1,9 +1,9 @@
 -- Names that are taken.
-use Rattle.std.proofs.Common.{◌≡◌, ◌≢◌, ◌⊎◌, ℕ, ◌+◌, ◌-◌, ◌<◌, false, List, drop, take, slice_range, string_bytes, inl, inr, refl, sym, ap, ◌∙◌, subst, arith}
+use Rattle.std.proofs.Common.{◌≡◌, ◌≢◌, ℕ, ◌+◌, ◌-◌, ◌<◌, false, List, drop, take, slice_range, string_bytes, inl, inr, sym, ap, ◌∙◌, subst, arith}
 use Rattle.std.proofs.lemmas.List.{drop-drop, drop-take}
 use Rattle.wac_model.specs.Text.{Text}
-use Rattle.wac_wit_syntax.specs.Cursors.{IsQuiet, Reads, SpellsName, source}
-use Rattle.wac_wit_syntax.specs.Productions.{IsName, IsNameAt, IsWord, SaysWord, Source, is_keyword, token_at, token_text}
+use Rattle.wac_wit_syntax.specs.Cursors.{HasNoRefusal, Reads, SpellsName, source}
+use Rattle.wac_wit_syntax.specs.Productions.{IsName, IsNameAt, IsWord, SaysWord, Source, is_keyword, token_at}
 use Rattle.wac_wit_syntax.specs.declared.cursor.Cursor.{Cursor}
 use Rattle.wac_wit_syntax.specs.declared.token.Token.{Token}
 use Rattle.wac_wit_syntax.specs.declared.token.TokenKind.TheVariants.{End, Escaped, Word}
@@ -17,7 +17,7 @@ slice_behind xs a b h =
 -- a token is taken, and nothing else changes
 pub reads_one : (c d : Cursor) (P : Source → ℕ → ℕ → Type 0) → d ≡ record c { next = d.next } → P (source c) c.next d.next → Reads c d P
 reads_one c d P e h = record {
-  quiet = λ q. subst IsQuiet e q;
+  quiet = λ q. subst HasNoRefusal e q;
   same = λ q. ap source e;
   read = λ q. h;
 }

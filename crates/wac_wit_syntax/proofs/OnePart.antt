@@ -7,7 +7,7 @@ use Rattle.std.proofs.lemmas.List.{drop_at, get_or-append-add, take_at}
 use Rattle.wac_wit_syntax.specs.Bytes.{is_dash, is_dot, is_lower_or_digit, is_nonempty, is_space, is_upper_or_digit, is_version_byte, is_word_byte}
 use Rattle.wac_wit_syntax.specs.Comments.{EndsLine}
 use Rattle.wac_wit_syntax.specs.Names.{is_fragment, is_label}
-use Rattle.wac_wit_syntax.specs.Parts.{HasNoPart, IsOfSort, IsWhitespace, Sort, token, white}
+use Rattle.wac_wit_syntax.specs.Parts.{HasNoPart, IsOfSort, IsWhitespace, PartSort, token, white}
 use Rattle.wac_wit_syntax.specs.Reading.{goes_on, run_length}
 use Rattle.wac_wit_syntax.specs.Tokens.{IsToken, IsWhole, begins_comment, integer_goes_on, is_identifier, is_integer, name_goes_on, version_goes_on}
 use Rattle.wac_wit_syntax.specs.declared.scanning.Run.TheVariants as run
@@ -243,19 +243,19 @@ token_found End w behind h s = absurd h
 
 -- ---- all parts
 
-pub part_found : (s : Sort) (w behind : List ℕ) → IsOfSort s w behind → first_part (w ++ behind) ≡ Some (s, length w)
+pub part_found : (s : PartSort) (w behind : List ℕ) → IsOfSort s w behind → first_part (w ++ behind) ≡ Some (s, length w)
 part_found white w behind h = white_found w behind h
 part_found (token k) w behind h = token_found k w behind h.0 h.1
 
 pub none_begins : (text : List ℕ) → first_part text ≡ None → HasNoPart text
 none_begins text h s w behind p e = cc (part_found s w behind p, ap first_part e, h)
 
-pub one_part : (s t : Sort) (v w a b : List ℕ) → IsOfSort s v a → IsOfSort t w b → v ++ a ≡ w ++ b → (s ≡ t) × (v ≡ w) × (a ≡ b)
+pub one_part : (s t : PartSort) (v w a b : List ℕ) → IsOfSort s v a → IsOfSort t w b → v ++ a ≡ w ++ b → (s ≡ t) × (v ≡ w) × (a ≡ b)
 one_part s t v w a b p q e =
     let f : Some (s, length v) ≡ Some (t, length w) = sym (part_found s v a p) ∙ ap first_part e ∙ part_found t w b q in
     let pair : (s, length v) ≡ (t, length w) = cc f in
-    let g : s ≡ t = ap (λ (x : Sort × ℕ). x.0) pair in
-    let l : length v ≡ length w = ap (λ (x : Sort × ℕ). x.1) pair in (
+    let g : s ≡ t = ap (λ (x : PartSort × ℕ). x.0) pair in
+    let l : length v ≡ length w = ap (λ (x : PartSort × ℕ). x.1) pair in (
       g,
       sym (take_at v a (length v) refl) ∙ ap (take (length v)) e ∙ ap (λ n. take n (w ++ b)) l ∙ take_at w b (length w) refl,
       sym (drop_at v a (length v) refl) ∙ ap (drop (length v)) e ∙ ap (λ n. drop n (w ++ b)) l ∙ drop_at w b (length w) refl,

@@ -7,7 +7,7 @@ use Rattle.std.proofs.lemmas.List.{drop-drop, drop_at, drop_more, get_or-drop, l
 use Rattle.wac_wit_syntax.specs.Bytes.{is_space, is_version_byte, is_word_byte}
 use Rattle.wac_wit_syntax.specs.Comments.{EndsLine, inside_text, is_docs}
 use Rattle.wac_wit_syntax.specs.Names.{is_label}
-use Rattle.wac_wit_syntax.specs.Parts.{HasNoPart, IsOfSort, Sort, token, white}
+use Rattle.wac_wit_syntax.specs.Parts.{HasNoPart, IsOfSort, PartSort, token, white}
 use Rattle.wac_wit_syntax.specs.Reading.{IsPieceAt, Says, closing_length, end_of, goes_on, kind_of, run_length}
 use Rattle.wac_wit_syntax.specs.Tokens.{is_identifier, is_integer, name_goes_on, version_goes_on}
 use Rattle.wac_wit_syntax.specs.declared.lexer.Piece.{Piece}
@@ -319,7 +319,7 @@ dash_none t e n = none_begins t (ap (λ b. part_by b (get_or t 1 0) t) e ∙ ap 
 abbrev pub IsNoStart : ℕ → Type 0
 IsNoStart b = (is_ascii_alphabetic b ≡ false) × (is_space b ≡ false) × (is_ascii_digit b ≡ false) × (b ≢ 47) × (b ≢ 45) × (b ≢ 37) × (b ≢ 95)
 
-abbrev some_token : TokenKind → Sort × ℕ
+abbrev some_token : TokenKind → PartSort × ℕ
 some_token k = (token k, 1)
 
 stray_none : (t : List ℕ) → IsNoStart (get_or t 0 0) → kind_of (get_or t 0 0) ≡ None → HasNoPart t

@@ -1,9 +1,9 @@
 -- From one step of the reader of types to the next.
-use Rattle.std.proofs.Common.{◌≡◌, ◌≢◌, ℕ, ◌+◌, Bool, true, false, List, [], ◌∷◌, ◌++◌, Option, Some, None, refl, sym, ap, ◌∙◌, subst}
-use Rattle.wac_wit_syntax.specs.Productions.{◌▸◌, IsKind, Nothing, Production, Source}
+use Rattle.std.proofs.Common.{◌≡◌, ℕ, Bool, true, false, List, [], ◌∷◌, ◌++◌, Option, Some, None, refl, sym, subst}
+use Rattle.wac_wit_syntax.specs.Productions.{◌▸◌, IsKind, Source}
 use Rattle.wac_wit_syntax.specs.Types.{AreTypes, IsLength, IsType, IsTypeOf, last, last_comma, more}
 use Rattle.wac_wit_syntax.specs.TypeParts.{Begun, Listed, Parted, Whole, WithCommas, may_end, may_go_on, next_is_type}
-use Rattle.wac_wit_syntax.specs.declared.token.TokenKind.TheVariants.{CloseAngle, Comma, OpenAngle, Underscore}
+use Rattle.wac_wit_syntax.specs.declared.token.TokenKind.TheVariants.{CloseAngle, Comma, Underscore}
 use Rattle.wac_wit_syntax.specs.declared.tree.TypeExpr.{TypeExpr}
 use Rattle.wac_wit_syntax.specs.declared.types.TypeWord.{TypeWord}
 use Rattle.wac_wit_syntax.specs.declared.types.TypeWord.TheVariants as word

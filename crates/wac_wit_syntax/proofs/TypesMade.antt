@@ -8,7 +8,7 @@ use Rattle.wac_model.specs.declared.primitive.PrimitiveType.TheVariants as primi
 use Rattle.wac_wit_syntax.specs.Cursors.{Reads, source}
 use Rattle.wac_wit_syntax.specs.Productions.{IsSpan, IsWord, SaysWord, Source, token_at}
 use Rattle.wac_wit_syntax.specs.Types.{IsKey, IsType, IsTypeOf, primitive, list, fixed_list, option, result, result_ok, result_err, result_both, tuple, map, future, future_of, stream, stream_of}
-use Rattle.wac_wit_syntax.specs.TypeParts.{HasKey, IsMade, TakesLast}
+use Rattle.wac_wit_syntax.specs.TypeParts.{HasMapKey, IsTypeMade, TakesLast}
 use Rattle.wac_wit_syntax.specs.declared.cursor.Cursor.{Cursor}
 use Rattle.wac_wit_syntax.specs.declared.positions.Span.{Span}
 use Rattle.wac_wit_syntax.specs.declared.token.Token.{Token}
@@ -66,31 +66,31 @@ last_of_two t u v (x ∷ xs) e =
 
 -- ---- each word
 
-pub made_tuple : (v : Vec TypeExpr Global) (lacks : Bool) (n : Option ℕ) (span : Span) → IsMade word.Tuple v.items lacks n span (ty.Tuple v span)
+pub made_tuple : (v : Vec TypeExpr Global) (lacks : Bool) (n : Option ℕ) (span : Span) → IsTypeMade word.Tuple v.items lacks n span (ty.Tuple v span)
 made_tuple v false None span = λ s i k j w h e. tuple v (k, w, h.1) h.2.1 h.2.2 e
 made_tuple v false (Some m) span = λ s i k j w h e. absurd h
 made_tuple v true n span = λ s i k j w h e. absurd h
 
-pub made_list : (ts xs : List TypeExpr) (lacks : Bool) (b : Box TypeExpr Global) (span : Span) → ts ≡ xs ++ b.value ∷ [] → IsMade word.List ts lacks None span (ty.List b)
+pub made_list : (ts xs : List TypeExpr) (lacks : Bool) (b : Box TypeExpr Global) (span : Span) → ts ≡ xs ++ b.value ∷ [] → IsTypeMade word.List ts lacks None span (ty.List b)
 made_list [] xs lacks b span f = absurd (no_last b.value xs f)
 made_list (t ∷ []) xs false b span f = λ s i k j w h e. list (k, w, h.1) (subst (λ u. IsType s u h.0 h.2.0) (last_of_one t b.value xs f).0 h.2.1) h.2.2
 made_list (t ∷ []) xs true b span f = λ s i k j w h e. absurd h
 made_list (t ∷ u ∷ us) xs lacks b span f = λ s i k j w h e. absurd h
 
-pub made_fixed : (ts xs : List TypeExpr) (lacks : Bool) (n : ℕ) (b : Box TypeExpr Global) (span : Span) → ts ≡ xs ++ b.value ∷ [] → IsMade word.List ts lacks (Some n) span (ty.FixedList b n span)
+pub made_fixed : (ts xs : List TypeExpr) (lacks : Bool) (n : ℕ) (b : Box TypeExpr Global) (span : Span) → ts ≡ xs ++ b.value ∷ [] → IsTypeMade word.List ts lacks (Some n) span (ty.FixedList b n span)
 made_fixed [] xs lacks n b span f = absurd (no_last b.value xs f)
 made_fixed (t ∷ []) xs false n b span f = λ s i k j w h e. fixed_list (k, w, h.1) (subst (λ u. IsType s u h.0 h.2.0) (last_of_one t b.value xs f).0 h.2.1) h.2.2.1 h.2.2.2.1 h.2.2.2.2 e
 made_fixed (t ∷ []) xs true n b span f = λ s i k j w h e. absurd h
 made_fixed (t ∷ u ∷ us) xs lacks n b span f = λ s i k j w h e. absurd h
 
-pub made_option : (ts xs : List TypeExpr) (lacks : Bool) (n : Option ℕ) (b : Box TypeExpr Global) (span : Span) → ts ≡ xs ++ b.value ∷ [] → IsMade word.Option ts lacks n span (ty.Option b)
+pub made_option : (ts xs : List TypeExpr) (lacks : Bool) (n : Option ℕ) (b : Box TypeExpr Global) (span : Span) → ts ≡ xs ++ b.value ∷ [] → IsTypeMade word.Option ts lacks n span (ty.Option b)
 made_option [] xs lacks n b span f = absurd (no_last b.value xs f)
 made_option (t ∷ []) xs false None b span f = λ s i k j w h e. option (k, w, h.1) (subst (λ u. IsType s u h.0 h.2.0) (last_of_one t b.value xs f).0 h.2.1) h.2.2
 made_option (t ∷ []) xs false (Some m) b span f = λ s i k j w h e. absurd h
 made_option (t ∷ []) xs true n b span f = λ s i k j w h e. absurd h
 made_option (t ∷ u ∷ us) xs lacks n b span f = λ s i k j w h e. absurd h
 
-pub made_future : (ts xs : List TypeExpr) (lacks : Bool) (n : Option ℕ) (last : Option (Box TypeExpr Global)) (span : Span) → TakesLast ts xs last → IsMade word.Future ts lacks n span (ty.Future last)
+pub made_future : (ts xs : List TypeExpr) (lacks : Bool) (n : Option ℕ) (last : Option (Box TypeExpr Global)) (span : Span) → TakesLast ts xs last → IsTypeMade word.Future ts lacks n span (ty.Future last)
 made_future [] xs false None None span f = λ s i k j w h e. future (subst (λ m. IsWord (codes "future") s i m) (sym h) w)
 made_future [] xs false None (Some b) span f = absurd (no_last b.value xs f)
 made_future [] xs false (Some m) last span f = λ s i k j w h e. absurd h
@@ -101,7 +101,7 @@ made_future (t ∷ []) xs false (Some m) last span f = λ s i k j w h e. absurd 
 made_future (t ∷ []) xs true n last span f = λ s i k j w h e. absurd h
 made_future (t ∷ u ∷ us) xs lacks n last span f = λ s i k j w h e. absurd h
 
-pub made_stream : (ts xs : List TypeExpr) (lacks : Bool) (n : Option ℕ) (last : Option (Box TypeExpr Global)) (span : Span) → TakesLast ts xs last → IsMade word.Stream ts lacks n span (ty.Stream last)
+pub made_stream : (ts xs : List TypeExpr) (lacks : Bool) (n : Option ℕ) (last : Option (Box TypeExpr Global)) (span : Span) → TakesLast ts xs last → IsTypeMade word.Stream ts lacks n span (ty.Stream last)
 made_stream [] xs false None None span f = λ s i k j w h e. stream (subst (λ m. IsWord (codes "stream") s i m) (sym h) w)
 made_stream [] xs false None (Some b) span f = absurd (no_last b.value xs f)
 made_stream [] xs false (Some m) last span f = λ s i k j w h e. absurd h
@@ -112,7 +112,7 @@ made_stream (t ∷ []) xs false (Some m) last span f = λ s i k j w h e. absurd 
 made_stream (t ∷ []) xs true n last span f = λ s i k j w h e. absurd h
 made_stream (t ∷ u ∷ us) xs lacks n last span f = λ s i k j w h e. absurd h
 
-pub made_map : (ts xs ys : List TypeExpr) (lacks : Bool) (n : Option ℕ) (key val : Box TypeExpr Global) (span : Span) → HasKey ts → ts ≡ xs ++ val.value ∷ [] → xs ≡ ys ++ key.value ∷ [] → IsMade word.Map ts lacks n span (ty.Map key val span)
+pub made_map : (ts xs ys : List TypeExpr) (lacks : Bool) (n : Option ℕ) (key val : Box TypeExpr Global) (span : Span) → HasMapKey ts → ts ≡ xs ++ val.value ∷ [] → xs ≡ ys ++ key.value ∷ [] → IsTypeMade word.Map ts lacks n span (ty.Map key val span)
 made_map [] xs ys lacks n key val span q f g = absurd q
 made_map (t ∷ []) xs ys false None key val span q f g = λ s i k j w h e. absurd h
 made_map (t ∷ []) xs ys false (Some m) key val span q f g = λ s i k j w h e. absurd h
@@ -127,7 +127,7 @@ made_map (t ∷ u ∷ v ∷ vs) xs ys false None key val span q f g = λ s i k j
 made_map (t ∷ u ∷ v ∷ vs) xs ys false (Some m) key val span q f g = λ s i k j w h e. absurd h
 made_map (t ∷ u ∷ v ∷ vs) xs ys true n key val span q f g = λ s i k j w h e. absurd h
 
-pub made_ok : (ts xs : List TypeExpr) (lacks : Bool) (n : Option ℕ) (last : Option (Box TypeExpr Global)) (span : Span) → length ts ≡ 1 → lacks ≡ false → TakesLast ts xs last → IsMade word.Result ts lacks n span (ty.Result last None)
+pub made_ok : (ts xs : List TypeExpr) (lacks : Bool) (n : Option ℕ) (last : Option (Box TypeExpr Global)) (span : Span) → length ts ≡ 1 → lacks ≡ false → TakesLast ts xs last → IsTypeMade word.Result ts lacks n span (ty.Result last None)
 made_ok [] xs lacks n last span one g f = absurd (omega arith)
 made_ok (t ∷ []) xs true n last span one g f = absurd (let c : true ≡ false = g in cc)
 made_ok (t ∷ []) xs false None None span one g f = absurd (let c : t ∷ [] ≡ [] = f.0 in cc)
@@ -136,7 +136,7 @@ made_ok (t ∷ []) xs false (Some m) last span one g f = λ s i k j w h e. absur
 made_ok (t ∷ u ∷ us) xs lacks n last span one g f = absurd (omega arith)
 
 pub made_both : (ts xs ys : List TypeExpr) (lacks : Bool) (n : Option ℕ) (first second : Option (Box TypeExpr Global)) (span : Span) → (length ts ≡ 1 → lacks ≡ true) → TakesLast ts xs second → TakesLast xs ys first
-    → IsMade word.Result ts lacks n span (ty.Result first second)
+    → IsTypeMade word.Result ts lacks n span (ty.Result first second)
 made_both [] xs ys lacks n first (Some b) span one f g = absurd (no_last b.value xs f)
 made_both [] xs ys lacks n (Some b) None span one f g = absurd (no_last b.value ys (sym f.1 ∙ g))
 made_both [] xs ys false None None None span one f g = λ s i k j w h e. result (subst (λ m. IsWord (codes "result") s i m) (sym h) w)

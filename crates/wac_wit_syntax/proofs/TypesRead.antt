@@ -3,7 +3,7 @@ use Rattle.std.proofs.Common.{◌≡◌, ◌-◌, ℕ, Bool, false, List, ◌∷
 use Rattle.wac_wit_syntax.specs.Cursors.{Reads, source}
 use Rattle.wac_wit_syntax.specs.Productions.{IsWord, token_at}
 use Rattle.wac_wit_syntax.specs.Types.{IsTypeOf}
-use Rattle.wac_wit_syntax.specs.TypeParts.{Begun, IsMade, Parted, Stage, next_is_type, word_text}
+use Rattle.wac_wit_syntax.specs.TypeParts.{Begun, IsTypeMade, Parted, Stage, next_is_type, word_text}
 use Rattle.wac_wit_syntax.specs.declared.cursor.Cursor.{Cursor}
 use Rattle.wac_wit_syntax.specs.declared.error.Fault.{Fault}
 use Rattle.wac_wit_syntax.specs.declared.positions.Span.{Span}
@@ -15,7 +15,7 @@ use Rattle.wac_wit_syntax.proofs.TypeSteps.{with_type}
 
 pub type_made : (c b d e : Cursor) (is_open : Bool) (w : TypeWord) (ts : List TypeExpr) (lacks : Bool) (n : Option ℕ) (start last span : Span) (r : Result TypeExpr Fault)
     → Reads c b (IsWord (word_text w)) → Reads b d (Stage is_open w ts lacks n) → is_open ≡ false → start ≡ (token_at (source c) c.next).span → last ≡ (token_at (source d) (d.next - 1)).span
-    → span ≡ record { start = start.start; end = last.end } → IfOk r (λ t. IsMade w ts lacks n span t) → (IsOk r → e ≡ d) → IfOk r (λ t. Reads c e (IsTypeOf t))
+    → span ≡ record { start = start.start; end = last.end } → IfOk r (λ t. IsTypeMade w ts lacks n span t) → (IsOk r → e ≡ d) → IfOk r (λ t. Reads c e (IsTypeOf t))
 type_made c b d e is_open w ts lacks n start last span (Ok t) h g closed f l at made same =
     let whole = subst (λ o. Reads b d (Stage o w ts lacks n)) closed g in
     subst (λ (x : Cursor). Reads c x (IsTypeOf t)) (sym (same refl)) (reads_as (reads_spanning (reads_then h whole) start last span f l at) (λ s i j x. made s i x.0.0 j x.0.1 x.0.2 x.1))

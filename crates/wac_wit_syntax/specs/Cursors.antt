@@ -12,15 +12,15 @@ abbrev pub source : Cursor → Source
 source c = record { text = string_bytes c.text; tokens = c.tokens.items }
 
 -- nothing is refused so far
-abbrev pub IsQuiet : Cursor → Type 0
-IsQuiet c = vec_len c.refusals.found ≡ 0
+abbrev pub HasNoRefusal : Cursor → Type 0
+HasNoRefusal c = vec_len c.refusals.found ≡ 0
 
 -- If nothing is refused up to the later state, nothing was before, the same is read, and the tokens
 -- between the two are so.
 pub record Reads (c d : Cursor) (P : Production) : Type 0 where
-  pub quiet : IsQuiet d → IsQuiet c
-  pub same : IsQuiet d → source d ≡ source c
-  pub read : IsQuiet d → P (source c) c.next d.next
+  pub quiet : HasNoRefusal d → HasNoRefusal c
+  pub same : HasNoRefusal d → source d ≡ source c
+  pub read : HasNoRefusal d → P (source c) c.next d.next
 
 -- a token of the kind is taken; the end of the text isn't asked for
 abbrev pub ReadsKind : TokenKind → Cursor → Cursor → Type 0

@@ -3,14 +3,14 @@ use Rattle.std.specs.Prelude.{◌≡◌, ◌≤◌, true, List, ◌++◌, length
 use Rattle.std.specs.List.{list_all}
 use Rattle.wac_model.specs.Text.{Text}
 use Rattle.wac_wit_syntax.specs.Names.{is_label, keywords}
-use Rattle.wac_wit_syntax.specs.Parts.{IsOfSort, IsRead, Sort, token}
+use Rattle.wac_wit_syntax.specs.Parts.{IsOfSort, IsRead, PartSort, token}
 use Rattle.wac_wit_syntax.specs.Tokens.{IsToken}
 use Rattle.wac_wit_syntax.specs.declared.token.Token.{Token}
 use Rattle.wac_wit_syntax.specs.declared.token.TokenKind.{TokenKind}
 
 -- one part at most begins a text: it has one sort and one end
 abbrev pub HasOnePart : Type 0
-HasOnePart = (s t : Sort) (v w a b : Text) → IsOfSort s v a → IsOfSort t w b → v ++ a ≡ w ++ b → (s ≡ t) × (v ≡ w) × (a ≡ b)
+HasOnePart = (s t : PartSort) (v w a b : Text) → IsOfSort s v a → IsOfSort t w b → v ++ a ≡ w ++ b → (s ≡ t) × (v ≡ w) × (a ≡ b)
 
 -- no longer front of a text is a token than the one that begins it
 abbrev pub HasLongestTokens : Type 0

@@ -14,12 +14,12 @@ use Rattle.wac_wit_syntax.specs.declared.token.TokenKind.{TokenKind}
 use Rattle.wac_wit_syntax.specs.declared.token.TokenKind.TheVariants.{End}
 
 -- white space, or another token of a kind
-pub data Sort : Type 0 where
-  white : Sort
-  token : TokenKind → Sort
+pub data PartSort : Type 0 where
+  white : PartSort
+  token : TokenKind → PartSort
 
 pub record Part : Type 0 where
-  pub sort : Sort
+  pub sort : PartSort
   pub text : Text
 
 -- whitespace ::= ' ' | '\n' | '\r' | '\t' | comment
@@ -27,13 +27,13 @@ abbrev pub IsWhitespace : Text → Text → Type 0
 IsWhitespace w behind = ((b : ℕ) × (w ≡ b ∷ []) × (is_space b ≡ true)) ⊎ (IsLineComment w behind ⊎ IsBlockComment w)
 
 -- the text is a part of the sort, where this text stands behind it
-abbrev pub IsOfSort : Sort → Text → Text → Type 0
+abbrev pub IsOfSort : PartSort → Text → Text → Type 0
 IsOfSort white w behind = IsWhitespace w behind
 IsOfSort (token kind) w behind = IsToken kind w × IsWhole kind behind
 
 -- with no part does the text begin
 abbrev pub HasNoPart : Text → Type 0
-HasNoPart text = (sort : Sort) (w behind : Text) → IsOfSort sort w behind → w ++ behind ≡ text → ⊥
+HasNoPart text = (sort : PartSort) (w behind : Text) → IsOfSort sort w behind → w ++ behind ≡ text → ⊥
 
 -- the text of parts, one after another
 abbrev pub spelled : List Part → Text
@@ -61,12 +61,12 @@ with_docs None last = Some last
 with_docs (Some first) last = Some (record { start = first.start; end = last.end })
 
 -- documentation up to a part, with the part; a token has taken what stands before it
-abbrev pub docs_after : ℕ → Option Span → Sort → Text → Option Span
+abbrev pub docs_after : ℕ → Option Span → PartSort → Text → Option Span
 docs_after at docs white w = if is_docs w then with_docs docs (span_at at (length w)) else docs
 docs_after at docs (token kind) w = None
 
 -- the token that a part is, with its place and the documentation before it; none where it is white space
-abbrev pub token_of : ℕ → Option Span → Sort → Text → List Token
+abbrev pub token_of : ℕ → Option Span → PartSort → Text → List Token
 token_of at docs white w = []
 token_of at docs (token kind) w = record { kind = kind; span = span_at at (length w); docs = docs } ∷ []
 

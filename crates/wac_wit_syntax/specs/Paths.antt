@@ -1,7 +1,7 @@
 -- Versions, the names of packages, and paths (WIT.md, "Package declaration" and "Item: `use`").
 use Rattle.std.specs.Prelude.{◌≡◌, ◌⊎◌, ◌+◌, IsOk, Option, Some, None, string_bytes}
 use Rattle.semver.specs.Parse.{version_parts}
-use Rattle.wac_wit_syntax.specs.Productions.{◌▸◌, IsKind, IsName, IsSpan, Nothing, Production, Spanning, token_at, token_text}
+use Rattle.wac_wit_syntax.specs.Productions.{◌▸◌, IsKind, IsName, Nothing, Production, Spanning, token_at, token_text}
 use Rattle.wac_wit_syntax.specs.declared.token.TokenKind.TheVariants.{At, Colon, Integer, Slash, Version}
 use Rattle.wac_wit_syntax.specs.declared.tree.Gate.{Gate}
 use Rattle.wac_wit_syntax.specs.declared.tree.PackageName.{PackageName}

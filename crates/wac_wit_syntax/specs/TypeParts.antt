@@ -1,6 +1,6 @@
 -- What the reader of types has between two steps, behind the word with which a type begins: the parts
 -- that stand between the angles. The grammar is told apart from this (`Types`).
-use Rattle.std.specs.Prelude.{◌≡◌, ◌≢◌, ℕ, Bool, true, false, codes, List, [], ◌∷◌, ◌++◌, Option, Some, None, Box}
+use Rattle.std.specs.Prelude.{◌≡◌, ℕ, Bool, true, false, codes, List, [], ◌∷◌, ◌++◌, Option, Some, None, Box}
 use Rattle.std.specs.declared.alloc.Global.{Global}
 use Rattle.wac_model.specs.Text.{Text}
 use Rattle.wac_wit_syntax.specs.Productions.{◌▸◌, IsKind, IsSpan, IsWord, Nothing, Production, Source}
@@ -106,8 +106,8 @@ Stage true w ts lacks n = Begun w ts lacks n
 Stage false w ts lacks n = Whole w ts lacks n
 
 -- the type that is made of a word and all that stands behind it, on this place
-abbrev pub IsMade : TypeWord → List TypeExpr → Bool → Option ℕ → Span → TypeExpr → Type 0
-IsMade w ts lacks n span t = (s : Source) (i k j : ℕ) → IsWord (word_text w) s i k → Whole w ts lacks n s k j → IsSpan span s i j → IsType s t i j
+abbrev pub IsTypeMade : TypeWord → List TypeExpr → Bool → Option ℕ → Span → TypeExpr → Type 0
+IsTypeMade w ts lacks n span t = (s : Source) (i k j : ℕ) → IsWord (word_text w) s i k → Whole w ts lacks n s k j → IsSpan span s i j → IsType s t i j
 
 -- a list without its last, and that in a box, if there is one
 abbrev pub TakesLast : List TypeExpr → List TypeExpr → Option (Box TypeExpr Global) → Type 0
@@ -115,6 +115,6 @@ TakesLast before after None = (before ≡ []) × (after ≡ [])
 TakesLast before after (Some b) = before ≡ after ++ b.value ∷ []
 
 -- the first of the types can be the key of a map
-abbrev pub HasKey : List TypeExpr → Type 0
-HasKey [] = ⊥
-HasKey (t ∷ ts) = IsKey t
+abbrev pub HasMapKey : List TypeExpr → Type 0
+HasMapKey [] = ⊥
+HasMapKey (t ∷ ts) = IsKey t

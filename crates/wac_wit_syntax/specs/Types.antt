@@ -1,5 +1,5 @@
 -- Types (WIT.md, "Types").
-use Rattle.std.specs.Prelude.{◌≡◌, ◌≢◌, ℕ, ◌+◌, Bool, true, false, codes, List, [], ◌∷◌, Option, Some, None, Box, Vec}
+use Rattle.std.specs.Prelude.{◌≡◌, ℕ, ◌+◌, Bool, true, false, codes, List, [], ◌∷◌, Some, None, Box, Vec}
 use Rattle.std.specs.Str.Parse.{digits_value, without_leading_plus}
 use Rattle.wac_model.specs.Text.{Text}
 use Rattle.wac_model.specs.Desc.{primitive_desc}

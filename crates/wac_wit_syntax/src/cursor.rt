@@ -1,7 +1,7 @@
 //! Steps over tokens.
 
 ghost use Rattle.std.specs.Prelude.{◌≡◌, ◌≢◌, ◌+◌, ◌-◌, ◌<◌, ◌≤◌, true, false, [], ◌∷◌, IfOk, IfSome, IsOk, OnOk, length, slice_range, string_bytes, vec_len};
-ghost use Rattle.wac_wit_syntax.specs.Cursors.{IsQuiet, Reads, ReadsKind, SpellsName, source};
+ghost use Rattle.wac_wit_syntax.specs.Cursors.{HasNoRefusal, Reads, ReadsKind, SpellsName, source};
 ghost use Rattle.wac_wit_syntax.specs.Productions.{◌▸◌, IsKind, IsName, IsWord, SaysWord, is_keyword, token_at};
 ghost use Rattle.wac_wit_syntax.specs.declared.error.Fault.TheVariants.{Refused};
 

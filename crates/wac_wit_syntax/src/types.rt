@@ -4,7 +4,7 @@ ghost use Rattle.std.specs.Prelude.{◌≡◌, true, false, [], ◌∷◌, ◌++
 ghost use Rattle.wac_model.specs.Desc.{primitive_desc};
 ghost use Rattle.wac_wit_syntax.specs.Cursors.{Reads, ReadsBehind, source};
 ghost use Rattle.wac_wit_syntax.specs.Productions.{◌▸◌, IsKind, IsName, Nothing, SaysWord};
-ghost use Rattle.wac_wit_syntax.specs.TypeParts.{Begun, IsMade, Parted, HasKey, Stage, TakesLast, is_empty, is_first, may_end, may_go_on, next_is_type, word_text};
+ghost use Rattle.wac_wit_syntax.specs.TypeParts.{Begun, IsTypeMade, Parted, HasMapKey, Stage, TakesLast, is_empty, is_first, may_end, may_go_on, next_is_type, word_text};
 ghost use Rattle.wac_wit_syntax.specs.Types.{IsLength, IsTypeOf, SaysLength, is_key};
 ghost use Rattle.wac_wit_syntax.specs.declared.cursor.Cursor.{Cursor};
 ghost use Rattle.wac_wit_syntax.specs.declared.positions.Span.{Span};
@@ -337,7 +337,7 @@ fn build(
     parts: &mut Parts,
     span: Span,
 ) -> Result<TypeExpr, Fault>
-    ensures made { IfOk result (λ t. IsMade word parts.old.types.items parts.old.lacks_first parts.old.length span t) }
+    ensures made { IfOk result (λ t. IsTypeMade word parts.old.types.items parts.old.lacks_first parts.old.length span t) }
     ensures rest { IsOk result → cursor.new ≡ cursor.old }
 {
     let alloc = cursor.alloc;
@@ -356,7 +356,7 @@ fn build(
 }
 
 fn build_list(cursor: &mut Cursor, parts: &mut Parts, span: Span) -> Result<TypeExpr, Fault>
-    ensures made { IfOk result (λ t. IsMade TypeWord.List parts.old.types.items parts.old.lacks_first parts.old.length span t) }
+    ensures made { IfOk result (λ t. IsTypeMade TypeWord.List parts.old.types.items parts.old.lacks_first parts.old.length span t) }
     ensures rest { IsOk result → cursor.new ≡ cursor.old }
 {
     let element = needed(cursor, parts, span)?;
@@ -368,7 +368,7 @@ fn build_list(cursor: &mut Cursor, parts: &mut Parts, span: Span) -> Result<Type
 
 // A result, of which an only type is that of an error where `_` stands before it.
 fn build_result(alloc: Global, parts: &mut Parts) -> Result<TypeExpr, Fault>
-    ensures { IfOk result (λ t. (span : Span) → IsMade TypeWord.Result parts.old.types.items parts.old.lacks_first parts.old.length span t) }
+    ensures { IfOk result (λ t. (span : Span) → IsTypeMade TypeWord.Result parts.old.types.items parts.old.lacks_first parts.old.length span t) }
 {
     if parts.types.len() == 1 && !parts.lacks_first {
         return Ok(TypeExpr::Result(parts.take_last(alloc)?, None));
@@ -379,7 +379,7 @@ fn build_result(alloc: Global, parts: &mut Parts) -> Result<TypeExpr, Fault>
 }
 
 fn build_map(cursor: &mut Cursor, parts: &mut Parts, span: Span) -> Result<TypeExpr, Fault>
-    ensures made { IfOk result (λ t. IsMade TypeWord.Map parts.old.types.items parts.old.lacks_first parts.old.length span t) }
+    ensures made { IfOk result (λ t. IsTypeMade TypeWord.Map parts.old.types.items parts.old.lacks_first parts.old.length span t) }
     ensures rest { IsOk result → cursor.new ≡ cursor.old }
 {
     if !has_key(parts) {
@@ -407,7 +407,7 @@ fn needed(cursor: &mut Cursor, parts: &mut Parts, span: Span) -> Result<Box<Type
 
 // Whether the first type can be the key of a map.
 fn has_key(parts: &Parts) -> bool
-    ensures { result ≡ true → HasKey parts.now.types.items }
+    ensures { result ≡ true → HasMapKey parts.now.types.items }
 {
     match parts.types.first() {
         Some(TypeExpr::Primitive(primitive, _)) => is_key(*primitive),

@@ -5,7 +5,7 @@ use Rattle.wac_component.specs.Key.{Stands, interface_key, named_keys, use_keys}
 use Rattle.wac_component.proofs.Extended.{AllStand-Extends}
 use Rattle.wac_component.proofs.Keys.{Each-left, Each-right}
 use Rattle.wac_merge.specs.Built.{uses_of_both}
-use Rattle.wac_merge.specs.Items.{Externs, extern_keys, extern_list}
+use Rattle.wac_merge.specs.Items.{ExternKinds, extern_keys, extern_list}
 use Rattle.wac_merge.specs.Reads.{exports_at}
 use Rattle.wac_merge.proofs.ReadLemmas.{interface_at, interface_exports_are}
 use Rattle.wac_aggregator_promises.specs.Entries.{ReachesByUses}
@@ -76,7 +76,7 @@ returns-clause-taken c =
     let same : g.old ≡ old = same_entry_still a.types d own old g.old c.in_ok-met.ensures.met.on.grows stands c.index-entry.ensures.entry g.was in
     let exports : g.new.exports ≡ with_put old.exports ms = g.exports ∙ ap (λ (o : InterfaceContent). with_put o.exports ms) same in
     let uses : g.new.uses ≡ uses_of_both old.uses us = g.uses ∙ ap (λ (o : InterfaceContent). uses_of_both o.uses us) same in
-    let met : AreMetWith a.types d old.exports es g.new.exports = subst (λ (l : Externs). AreMetWith a.types d old.exports es l) (sym exports) (subst (λ (l : Externs). AreMetWith a.types d l es (with_put l ms)) there c.in_ok-met.ensures.met) in
+    let met : AreMetWith a.types d old.exports es g.new.exports = subst (λ (l : ExternKinds). AreMetWith a.types d old.exports es l) (sym exports) (subst (λ (l : ExternKinds). AreMetWith a.types d l es (with_put l ms)) there c.in_ok-met.ensures.met) in
     Takes-grown c.args.types.now a c.requires.state c.args.id own (string_bytes c.args.name) us es c.requires.taken c.requires.identified c.requires.shared old g.new c.index-entry.ensures.entry c.index-entry.ensures.standing (g.same_identifier ∙ ap (λ (o : InterfaceContent). o.id) same)
     (λ P h k. rw uses (each_uses P old.uses us h k)) d met uses c.in_ok-met.ensures.found (found_among g.new.exports g.distinct.1) c.put_grown.new.types c.put_interface.new.self g.acyclic g.grows (c.in_ok-put_interface.ensures c.requires.taken.absent)
 
@@ -94,7 +94,7 @@ returns-in_err-met-clause-taken c =
     let there : exports_at a.types (interface_key c.args.own) ≡ old.exports = interface_exports_are a.types c.args.own old (interface_at a.types c.args.own old c.index-entry.ensures.entry) in
     passed_on c.from_residual-in_err-met.result _ _ c.in_err-met.field-0.0 c.from_residual-in_err-met.ensures
     (grown_items_refused c.args.types.now a c.requires.state c.args.id c.args.own (string_bytes c.args.name) (named use_content c.args.uses.entries) (extern_list c.args.exports.now) c.requires.taken c.requires.identified c.requires.shared old c.index-entry.ensures.entry _ c.met_exports.ensures.found
-    (subst (λ (l : Externs). AreRefusedItems a.types l (extern_list c.args.exports.now) c.in_err-met.field-0.0) there c.in_err-met.ensures.met))
+    (subst (λ (l : ExternKinds). AreRefusedItems a.types l (extern_list c.args.exports.now) c.in_err-met.field-0.0) there c.in_err-met.ensures.met))
 
 pub returns-in_err-put_grown-clause-taken : goal.returns-in_err-put_grown-clause-taken
 returns-in_err-put_grown-clause-taken c =
@@ -107,8 +107,8 @@ returns-in_err-put_grown-clause-taken c =
     let old = interface_content c.index-entry.result.now in
     let there : exports_at a.types (interface_key own) ≡ old.exports = interface_exports_are a.types own old (interface_at a.types own old c.index-entry.ensures.entry) in
     let new : InterfaceContent = record { id = old.id; uses = us; exports = with_put old.exports ms } in
-    let met : AreMetWith a.types d old.exports es new.exports = subst (λ (l : Externs). AreMetWith a.types d l es (with_put l ms)) there c.in_ok-met.ensures.met in
-    let put : AreAllPut old.exports ms = subst (λ (l : Externs). AreAllPut l ms) there c.in_ok-met.ensures.put in
+    let met : AreMetWith a.types d old.exports es new.exports = subst (λ (l : ExternKinds). AreMetWith a.types d l es (with_put l ms)) there c.in_ok-met.ensures.met in
+    let put : AreAllPut old.exports ms = subst (λ (l : ExternKinds). AreAllPut l ms) there c.in_ok-met.ensures.put in
     passed_on c.from_residual-in_err-put_grown.result _ _ c.in_err-put_grown.field-0.0 c.from_residual-in_err-put_grown.ensures
     (λ ne. grown_cycle_refused c.args.types.now a c.requires.state c.args.id own (string_bytes c.args.name) us es c.requires.taken c.requires.identified c.requires.shared old c.index-entry.ensures.entry new c.index-entry.ensures.standing refl (λ P h k. k) d met c.met_exports.ensures.found
     (reach_put d us old.exports ms (interface_key own) put (c.in_err-put_grown.ensures.cycle ne).0) _ (c.in_err-put_grown.ensures.cycle ne).1 ne)
@@ -133,7 +133,7 @@ returns-clause-members c = λ taken wit has all.
     let same : g.old ≡ old = same_entry_still a.types d own old g.old c.in_ok-met.ensures.met.on.grows stands c.index-entry.ensures.entry g.was in
     let exports : g.new.exports ≡ with_put old.exports ms = g.exports ∙ ap (λ (o : InterfaceContent). with_put o.exports ms) same in
     let uses : g.new.uses ≡ uses_of_both old.uses us = g.uses ∙ ap (λ (o : InterfaceContent). uses_of_both o.uses us) same in
-    let met : AreMetWith a.types d old.exports es g.new.exports = subst (λ (l : Externs). AreMetWith a.types d old.exports es l) (sym exports) (subst (λ (l : Externs). AreMetWith a.types d l es (with_put l ms)) there c.in_ok-met.ensures.met) in
+    let met : AreMetWith a.types d old.exports es g.new.exports = subst (λ (l : ExternKinds). AreMetWith a.types d old.exports es l) (sym exports) (subst (λ (l : ExternKinds). AreMetWith a.types d l es (with_put l ms)) there c.in_ok-met.ensures.met) in
     let same_id = g.same_identifier ∙ ap (λ (o : InterfaceContent). o.id) same in
     TakesMembers-grown c.args.types.now a c.requires.state c.args.id own (string_bytes c.args.name) us es c.requires.taken c.requires.identified c.requires.shared taken wit has old c.index-entry.ensures.entry g.new c.index-entry.ensures.standing same_id (λ P h k. rw uses (each_uses P old.uses us h k)) d met
     uses c.in_ok-check_uses.ensures g.distinct.0 (found_among g.new.exports g.distinct.1)
@@ -153,7 +153,7 @@ returns-in_err-met-clause-members c = λ taken wit has all.
     let there : exports_at a.types (interface_key c.args.own) ≡ old.exports = interface_exports_are a.types c.args.own old (interface_at a.types c.args.own old c.index-entry.ensures.entry) in
     passed_on c.from_residual-in_err-met.result _ _ c.in_err-met.field-0.0 c.from_residual-in_err-met.ensures
     (member_items_refused c.args.types.now a c.requires.state c.args.id c.args.own (string_bytes c.args.name) (named use_content c.args.uses.entries) (extern_list c.args.exports.now) c.requires.taken c.requires.identified c.requires.shared taken wit has old c.index-entry.ensures.entry c.met_exports.ensures.found _
-    (subst (λ (l : Externs). AreRefusedItems a.types l (extern_list c.args.exports.now) c.in_err-met.field-0.0) there c.in_err-met.ensures.met))
+    (subst (λ (l : ExternKinds). AreRefusedItems a.types l (extern_list c.args.exports.now) c.in_err-met.field-0.0) there c.in_err-met.ensures.met))
 
 pub returns-in_err-put_grown-clause-members : goal.returns-in_err-put_grown-clause-members
 returns-in_err-put_grown-clause-members c = λ taken wit has all.
@@ -166,8 +166,8 @@ returns-in_err-put_grown-clause-members c = λ taken wit has all.
     let old = interface_content c.index-entry.result.now in
     let there : exports_at a.types (interface_key own) ≡ old.exports = interface_exports_are a.types own old (interface_at a.types own old c.index-entry.ensures.entry) in
     let new : InterfaceContent = record { id = old.id; uses = us; exports = with_put old.exports ms } in
-    let met : AreMetWith a.types d old.exports es new.exports = subst (λ (l : Externs). AreMetWith a.types d l es (with_put l ms)) there c.in_ok-met.ensures.met in
-    let put : AreAllPut old.exports ms = subst (λ (l : Externs). AreAllPut l ms) there c.in_ok-met.ensures.put in
+    let met : AreMetWith a.types d old.exports es new.exports = subst (λ (l : ExternKinds). AreMetWith a.types d l es (with_put l ms)) there c.in_ok-met.ensures.met in
+    let put : AreAllPut old.exports ms = subst (λ (l : ExternKinds). AreAllPut l ms) there c.in_ok-met.ensures.put in
     passed_on c.from_residual-in_err-put_grown.result _ _ c.in_err-put_grown.field-0.0 c.from_residual-in_err-put_grown.ensures
     (member_cycle_refused c.args.types.now a c.requires.state c.args.id own (string_bytes c.args.name) us es c.requires.taken c.requires.identified c.requires.shared taken wit has old c.index-entry.ensures.entry new c.index-entry.ensures.standing refl (λ P h k. k) d met
     _ (λ ne. reach_put d us old.exports ms (interface_key own) put (c.in_err-put_grown.ensures.cycle ne).0))

@@ -8,7 +8,7 @@ use Rattle.wac_component.specs.Content.{named}
 use Rattle.wac_component.specs.Key.{Stands, interface_key, item_keys}
 use Rattle.wac_component.proofs.Extended.{AllStand-Extends}
 use Rattle.wac_checker.proofs.ExternLemmas.{named_stands}
-use Rattle.wac_merge.specs.Items.{Externs, extern_list}
+use Rattle.wac_merge.specs.Items.{ExternKinds, extern_list}
 use Rattle.wac_merge.specs.Reads.{exports_at}
 use Rattle.wac_merge.proofs.LoopLemmas.{name_has, name_not_done, done_more}
 use Rattle.wac_merge.proofs.ReadLemmas.{exports_at_stand, exports_stay}
@@ -49,15 +49,15 @@ loop-name-preserved c =
     let done = named (λ k. k) (map deref_pair c.loop-name.yielded) in
     let ms = extern_list c.loop-name.met in
     let new = c.loop-name.invariant.names n absent in
-    let put : with_put es (extern_list c.put_extern.new.externs) ≡ insert_entry bytes_eq (with_put es ms) n c.in_ok-item.item = ap (λ (l : Externs). with_put es l) c.in_ok-put_extern.ensures ∙ with_put-put es ms n c.in_ok-item.item new in
-    let one = c.in_ok-item.ensures (with_put es ms) c.loop-name.invariant.met.stand (with_put-absent es ms n new ∙ ap (λ (l : Externs). lookup bytes_eq l n) (sym (exports_stay c0 c.loop-name.types c.loop-name.invariant.met.on.grows own c.requires.own))) in
+    let put : with_put es (extern_list c.put_extern.new.externs) ≡ insert_entry bytes_eq (with_put es ms) n c.in_ok-item.item = ap (λ (l : ExternKinds). with_put es l) c.in_ok-put_extern.ensures ∙ with_put-put es ms n c.in_ok-item.item new in
+    let one = c.in_ok-item.ensures (with_put es ms) c.loop-name.invariant.met.stand (with_put-absent es ms n new ∙ ap (λ (l : ExternKinds). lookup bytes_eq l n) (sym (exports_stay c0 c.loop-name.types c.loop-name.invariant.met.on.grows own c.requires.own))) in
     record {
       met = rw more
-          (subst (λ (l : Externs). AreMetWith c0 c.met_export.new.types es (done ++ (n, c.in-Some.kind.now) ∷ []) l) (sym put)
+          (subst (λ (l : ExternKinds). AreMetWith c0 c.met_export.new.types es (done ++ (n, c.in-Some.kind.now) ∷ []) l) (sym put)
           (met_then c0 c.loop-name.types c.met_export.new.types es done (with_put es ms) (insert_entry bytes_eq (with_put es ms) n c.in_ok-item.item) n c.in-Some.kind.now absent (exports_at_stand c0 own c.sound.ensures c.requires.own)
           (named_stands c0 (extern_list c.args.exports.now) n c.in-Some.kind.now there c.requires.new) c.loop-name.invariant.met one));
-      names = rw more (λ q none. ap (λ (l : Externs). lookup bytes_eq l q) c.in_ok-put_extern.ensures ∙ names_put done ms n c.in-Some.kind.now c.in_ok-item.item c.loop-name.invariant.names q none);
-      put = subst (λ (l : Externs). AreAllPut es l) (sym c.in_ok-put_extern.ensures) (all_put es ms n c.in_ok-item.item new c.loop-name.invariant.put);
+      names = rw more (λ q none. ap (λ (l : ExternKinds). lookup bytes_eq l q) c.in_ok-put_extern.ensures ∙ names_put done ms n c.in-Some.kind.now c.in_ok-item.item c.loop-name.invariant.names q none);
+      put = subst (λ (l : ExternKinds). AreAllPut es l) (sym c.in_ok-put_extern.ensures) (all_put es ms n c.in_ok-item.item new c.loop-name.invariant.put);
     }
 
 pub returns-clause-met : goal.returns-clause-met
@@ -92,7 +92,7 @@ returns-in_err-item-clause-met c =
     let inside = done_inside deref_pair c.args.exports.now.entries c.loop-name.yielded _ _ _ _ (c.in-Some.name, c.in-Some.kind) c.into_iter-name-iterator.ensures.into_iter_gives.0 c.loop-name.yielded_by c.in-Some.is c.next.ensures.steps in
     let absent = name_not_done deref_pair c.args.exports.now.entries c.loop-name.yielded _ _ _ _ (c.in-Some.name, c.in-Some.kind) c.into_iter-name-iterator.ensures.into_iter_gives.0 c.loop-name.yielded_by c.in-Some.is c.next.ensures.steps c.into_iter-name-iterator.ensures.into_iter_gives.4 in
     let stands = named_stands c0 (extern_list c.args.exports.now) n c.in-Some.kind.now there c.requires.new in
-    let refused = c.in_err-item.ensures ms met.stand (with_put-absent es (extern_list c.loop-name.met) n (c.loop-name.invariant.names n absent) ∙ ap (λ (l : Externs). lookup bytes_eq l n) (sym (exports_stay c0 d0 met.on.grows own c.requires.own))) in
+    let refused = c.in_err-item.ensures ms met.stand (with_put-absent es (extern_list c.loop-name.met) n (c.loop-name.invariant.names n absent) ∙ ap (λ (l : ExternKinds). lookup bytes_eq l n) (sym (exports_stay c0 d0 met.on.grows own c.requires.own))) in
     passed_on c.from_residual.result _ _ c.in_err-item.field-0.0 c.from_residual.ensures
     (λ ne. record {
       reason = λ at s kept all hx hy touches.

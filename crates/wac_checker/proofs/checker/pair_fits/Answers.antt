@@ -1,13 +1,13 @@
 use Rattle.std.proofs.Common.{[], false, refl, ap, length}
 use Rattle.std.specs.Prelude.{List}
 use Rattle.wac_checker.specs.Known.{pairs_of}
-use Rattle.wac_checker.specs.declared.parts.Part.{Part}
+use Rattle.wac_checker.specs.declared.parts.PairPart.{PairPart}
 use Rattle.wac_checker.proofs.CountLemmas.{pairs_bounded}
 use Rattle.wac_checker.proofs.WalkLemmas.{asked_answer, named_none, named_pair, named_stands, named_told}
 use Rattle.wac_checker.proofs.checker.pair_fits.Goals as goal
 
 pub returns-in_default-clause-answer : goal.returns-in_default-clause-answer
-returns-in_default-clause-answer c = λ may. named_none c.args.sides.now.left.now c.args.sides.now.right.now false 0 c.args.asked.now.0 c.args.asked.now.1 [] c.args.walk.now.parts.items c.requires.named (ap (λ (ms : List Part). length ms) c.in_default.ensures.none)
+returns-in_default-clause-answer c = λ may. named_none c.args.sides.now.left.now c.args.sides.now.right.now false 0 c.args.asked.now.0 c.args.asked.now.1 [] c.args.walk.now.parts.items c.requires.named (ap (λ (ms : List PairPart). length ms) c.in_default.ensures.none)
 
 pub compare-found-requires-clause-stands : goal.compare-found-requires-clause-stands
 compare-found-requires-clause-stands c =

@@ -4,7 +4,7 @@ use Rattle.wac_component.specs.declared.items.ItemKind.TheVariants.{Func, Instan
 use Rattle.wac_checker.proofs.ItemPartLemmas.{of_funcs, of_interfaces, of_worlds, of_modules}
 use Rattle.wac_checker.proofs.PairedLemmas.{ids_paired}
 use Rattle.wac_checker.proofs.paired.paired_items.Goals as goal
-use Rattle.wac_checker.specs.declared.parts.Sort.TheVariants as sort
+use Rattle.wac_checker.specs.declared.parts.PairSort.TheVariants as sort
 
 pub returns-in-Func-b : goal.returns-in-Func-b
 returns-in-Func-b c = rw (c.in-Func.is, c.in-Func-b.is) (ids_paired c.in-Func.x c.in-Func-b.y Func func_key sort.Func c.eq.result c.pair.result (c.pair.ensures ∙ cc) (λ i j. i) (λ l r h k. of_funcs l r c.in-Func.x c.in-Func-b.y h k) (λ l i h. h.0) c.eq.ensures)

@@ -6,7 +6,7 @@ use Rattle.wac_component.specs.declared.items.Type.TheVariants.{Func, Interface,
 use Rattle.wac_checker.proofs.ItemPartLemmas.{types_of_funcs, types_of_interfaces, types_of_worlds, types_of_modules}
 use Rattle.wac_checker.proofs.PairedLemmas.{ids_paired}
 use Rattle.wac_checker.proofs.paired.paired_types.Goals as goal
-use Rattle.wac_checker.specs.declared.parts.Sort.TheVariants as sort
+use Rattle.wac_checker.specs.declared.parts.PairSort.TheVariants as sort
 
 pub returns-in-Func-b : goal.returns-in-Func-b
 returns-in-Func-b c = rw (c.in-Func.is, c.in-Func-b.is) (ids_paired c.in-Func.x c.in-Func-b.y (λ (i : Id). OfType (Func i)) func_key sort.Func c.eq.result c.pair.result (c.pair.ensures ∙ cc) (λ i j. i) (λ l r h k. types_of_funcs l r c.in-Func.x c.in-Func-b.y h k) (λ l i h. h.0) c.eq.ensures)

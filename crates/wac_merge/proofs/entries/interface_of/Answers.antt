@@ -1,5 +1,5 @@
 use Rattle.wac_merge.specs.Memo.{made_of}
-use Rattle.wac_merge.specs.declared.memo.Pair.TheVariants.{Interfaces}
+use Rattle.wac_merge.specs.declared.memo.BoundPair.TheVariants.{Interfaces}
 use Rattle.wac_merge.proofs.AskedLemmas.{still_new}
 use Rattle.wac_merge.proofs.entries.interface_of.Goals as goal
 

@@ -3,7 +3,7 @@ use Rattle.wac_component.specs.Key.{item_keys}
 use Rattle.wac_component.specs.Tree.{item_tree}
 use Rattle.wac_merge.specs.Bounded.{AreIncomparable}
 use Rattle.wac_merge.specs.Built.{IsBuilt}
-use Rattle.wac_merge.specs.Memo.{Made, kind_of}
+use Rattle.wac_merge.specs.Memo.{Made, sort_kind}
 use Rattle.wac_merge.specs.Runs.{FromBuilt}
 use Rattle.wac_merge.proofs.BoundLemmas.{bound_of_ordered, bound_exchanged, none_bound}
 use Rattle.wac_merge.proofs.ItemLemmas.{told_bound, told_built, built_of_two, built_of_two_exchanged}
@@ -28,12 +28,12 @@ returns-in_default-clause-bound c =
 
 pub returns-in-Some-told_of-clause-bound : goal.returns-in-Some-told_of-clause-bound
 returns-in-Some-told_of-clause-bound c =
-    told_bound c.args.a c.args.b (kind_of c.in-Some.is_type) c.in-Some.pair c.in-Some.ensures.alike.0 c.in-Some.ensures.alike.1 c.args.bound c.args.types.now c.fits-2.new.memo c.in-Some-told_of.entry c.item_of.result
+    told_bound c.args.a c.args.b (sort_kind c.in-Some.is_type) c.in-Some.pair c.in-Some.ensures.alike.0 c.in-Some.ensures.alike.1 c.args.bound c.args.types.now c.fits-2.new.memo c.in-Some-told_of.entry c.item_of.result
     c.in_ok-fits-2.ensures.memo (rw c.in-Some-told_of.is at c.told_of.ensures) c.item_of.ensures
 
 pub returns-in-Some-told_of-clause-built : goal.returns-in-Some-told_of-clause-built
 returns-in-Some-told_of-clause-built c =
     let apart : AreIncomparable (item_tree c.args.types.now c.args.a) (item_tree c.args.types.now c.args.b) = (λ h. absurd (cc (c.in_ok-fits.ensures.answer.1 h, c.if-branch.false)), λ h. absurd (cc (c.in_ok-fits-2.ensures.answer.1 h, c.if-branch-2.false))) in
     subst (λ (l : Made). FromBuilt (item_keys c.args.a ++ item_keys c.args.b) c.args.types.now l (λ b o. IfSome c.item_of.result (IsBuilt b c.args.types.now o c.args.a c.args.b))) (c.in_ok-fits-2.ensures.made ∙ c.in_ok-fits.ensures.made)
-    (told_built c.args.a c.args.b (kind_of c.in-Some.is_type) c.in-Some.pair c.in-Some.ensures.alike.0 c.in-Some.ensures.alike.1 c.args.bound c.args.types.now c.fits-2.new.memo c.in-Some-told_of.entry c.item_of.result
+    (told_built c.args.a c.args.b (sort_kind c.in-Some.is_type) c.in-Some.pair c.in-Some.ensures.alike.0 c.in-Some.ensures.alike.1 c.args.bound c.args.types.now c.fits-2.new.memo c.in-Some-told_of.entry c.item_of.result
     (rw c.in-Some-told_of.is at c.told_of.ensures) c.item_of.ensures apart)

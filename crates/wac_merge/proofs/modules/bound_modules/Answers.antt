@@ -4,7 +4,7 @@ use Rattle.wac_merge.proofs.DoneLemmas.{module_done}
 use Rattle.wac_merge.proofs.MadeLemmas.{built_of, module_run}
 use Rattle.wac_merge.proofs.MemoLemmas.{IsDone, IsTrueMemo-refused, Grows-same, Grows-noted}
 use Rattle.wac_merge.proofs.NotedLemmas.{module_refused}
-use Rattle.wac_merge.specs.declared.memo.Pair.TheVariants.{Modules}
+use Rattle.wac_merge.specs.declared.memo.BoundPair.TheVariants.{Modules}
 use Rattle.wac_merge.proofs.modules.bound_modules.Goals as goal
 
 pub module_of-requires : goal.module_of-requires

@@ -1,5 +1,5 @@
 use Rattle.wac_merge.specs.Memo.{made_of}
-use Rattle.wac_merge.specs.declared.memo.Pair.TheVariants.{Modules}
+use Rattle.wac_merge.specs.declared.memo.BoundPair.TheVariants.{Modules}
 use Rattle.wac_merge.proofs.AskedLemmas.{still_new}
 use Rattle.wac_merge.proofs.modules.module_of.Goals as goal
 

@@ -8,7 +8,7 @@ use Rattle.wac_component.proofs.CloneLemmas.{named-clones}
 use Rattle.wac_core_merge.specs.Names.{with_new}
 use Rattle.wac_core_merge.proofs.NameLemmas.{with_new-shown}
 use Rattle.wac_core_merge.proofs.EntryLemmas.{All-found}
-use Rattle.wac_merge.specs.Items.{AreFound, extern_list}
+use Rattle.wac_merge.specs.Items.{AreUnhidden, extern_list}
 use Rattle.wac_merge.proofs.names.add_others.Goals as goal
 
 pub returns-clause-added : goal.returns-clause-added
@@ -23,4 +23,4 @@ pub returns-clause-found : goal.returns-clause-found
 returns-clause-found c =
     let same = named-clones (λ k. k) (λ k l e. e) c.args.second.now c.in_ok-clone.field-0 c.in_ok-clone.ensures.cases in
     let distinct = IsDistinct-shown string_bytes (λ s t. bytes_eq (string_bytes s) (string_bytes t)) bytes_eq (λ k l. refl) (λ k. k) c.in_ok-clone.field-0.entries c.add_new.ensures.unique in
-    on_ok_weaker c.add_new.result (λ is. subst AreFound same (All-found bytes_eq bytes_eq-Decides (extern_list c.in_ok-clone.field-0) distinct)) c.add_new.ensures.entries
+    on_ok_weaker c.add_new.result (λ is. subst AreUnhidden same (All-found bytes_eq bytes_eq-Decides (extern_list c.in_ok-clone.field-0) distinct)) c.add_new.ensures.entries

@@ -1,7 +1,4 @@
 -- A path that names its package, piece by piece.
-use Rattle.std.proofs.Common.{refl}
-use Rattle.wac_wit_syntax.specs.Cursors.{Reads}
-use Rattle.wac_wit_syntax.specs.Productions.{◌▸◌, IsKind, IsName, Spanning}
 use Rattle.wac_wit_syntax.specs.declared.token.TokenKind.TheVariants.{Colon}
 use Rattle.wac_wit_syntax.proofs.Covering.{reads_as, reads_spanning_from, reads_then, span_of_names}
 use Rattle.wac_wit_syntax.proofs.paths.path_after.Goals as goal

@@ -1,7 +1,7 @@
 -- From the word to the end.
-use Rattle.std.proofs.Common.{◌≡◌, None, false, refl, ap, sym, ◌∙◌, subst, arith}
+use Rattle.std.proofs.Common.{None, false, ap, sym, ◌∙◌, subst, arith}
 use Rattle.wac_wit_syntax.specs.Cursors.{Reads}
-use Rattle.wac_wit_syntax.specs.TypeParts.{Begun, Parted, Stage, word_text}
+use Rattle.wac_wit_syntax.specs.TypeParts.{Parted, Stage, word_text}
 use Rattle.wac_wit_syntax.specs.declared.types.Parts.{Parts}
 use Rattle.wac_wit_syntax.proofs.NameTokens.{reads_word}
 use Rattle.wac_wit_syntax.proofs.TypesRead.{part_read, part_taken, type_made}

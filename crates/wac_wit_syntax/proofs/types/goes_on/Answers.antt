@@ -1,5 +1,5 @@
 -- A separator behind the parts.
-use Rattle.std.proofs.Common.{sym, ◌∙◌, subst}
+use Rattle.std.proofs.Common.{sym, subst}
 use Rattle.wac_wit_syntax.specs.Cursors.{Reads}
 use Rattle.wac_wit_syntax.specs.TypeParts.{Begun, Parted}
 use Rattle.wac_wit_syntax.specs.declared.cursor.Cursor.{Cursor}

@@ -1,5 +1,5 @@
 -- A word, or a handle.
-use Rattle.std.proofs.Common.{◌≡◌, ◌≢◌, [], ◌∷◌, codes, rules, sym, subst}
+use Rattle.std.proofs.Common.{codes, rules}
 use Rattle.wac_wit_syntax.specs.Cursors.{source}
 use Rattle.wac_wit_syntax.specs.Productions.{SaysWord}
 use Rattle.wac_wit_syntax.specs.Types.{borrow, name, own}

@@ -2,7 +2,7 @@ use Rattle.std.proofs.Common.{◌≡◌, ◌<◌, inl, inr, Some, length, slice_
 use Rattle.std.specs.Prelude.{Contains}
 use Rattle.std.proofs.lemmas.Option.{slice_get_within}
 use Rattle.wac_checker.specs.Known.{pairs_of}
-use Rattle.wac_checker.specs.declared.walk.Step.{Step}
+use Rattle.wac_checker.specs.declared.walk.WalkStep.{WalkStep}
 use Rattle.wac_checker.proofs.CountLemmas.{last_or_before}
 use Rattle.wac_checker.proofs.KnownLemmas.{element_at}
 use Rattle.wac_checker.proofs.WalkLemmas.{add_cases, add_keeps, add_there, all_noted}
@@ -23,7 +23,7 @@ loop-i-preserved c = record {
     | inl e ↦ (
         let both : Some c.at-step.result ≡ Some s = sym c.at-step.ensures ∙ ap (slice_get c.args.open.now) (sym e) ∙ at in
         let one : c.at-step.result ≡ s = cc in
-        subst (λ (x : Step). Contains (pairs_of c.add.new.self) x.part.pair) one (add_there (pairs_of c.loop-i.self.unfit) (pairs_of c.add.new.self) c.at-step.result.part.pair c.add.result c.add.ensures.there c.add.ensures.added c.add.ensures.same c.in_default.field-0 c.in_default.is))
+        subst (λ (x : WalkStep). Contains (pairs_of c.add.new.self) x.part.pair) one (add_there (pairs_of c.loop-i.self.unfit) (pairs_of c.add.new.self) c.at-step.result.part.pair c.add.result c.add.ensures.there c.add.ensures.added c.add.ensures.same c.in_default.field-0 c.in_default.is))
     | inr before ↦ add_keeps (pairs_of c.loop-i.self.unfit) (pairs_of c.add.new.self) c.at-step.result.part.pair c.add.result c.add.ensures.there c.add.ensures.added c.add.ensures.same c.in_default.field-0 c.in_default.is s.part.pair (c.loop-i.invariant.added j s before at)
   ];
 }

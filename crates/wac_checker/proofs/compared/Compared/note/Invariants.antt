@@ -3,7 +3,7 @@ use Rattle.std.specs.Prelude.{Contains}
 use Rattle.wac_checker.specs.Known.{pairs_of}
 use Rattle.wac_checker.specs.Walk.{IsOpen}
 use Rattle.wac_checker.specs.declared.parts.EntryPair.{EntryPair}
-use Rattle.wac_checker.specs.declared.walk.Step.{Step}
+use Rattle.wac_checker.specs.declared.walk.WalkStep.{WalkStep}
 use Rattle.wac_checker.proofs.compared.Compared.note.Given as goal
 
 abbrev pub invariant-loop-i : goal.invariant-loop-i
@@ -11,5 +11,5 @@ invariant-loop-i l = record {
   known : pairs_of l.self.known ≡ pairs_of l.initial.self.known;
   kept : (p : EntryPair) → Contains (pairs_of l.initial.self.unfit) p → Contains (pairs_of l.self.unfit) p;
   only : (p : EntryPair) → Contains (pairs_of l.self.unfit) p → Contains (pairs_of l.initial.self.unfit) p ⊎ IsOpen l.open p;
-  added : (j : ℕ) (s : Step) → j < l.i → slice_get l.open j ≡ Some s → Contains (pairs_of l.self.unfit) s.part.pair;
+  added : (j : ℕ) (s : WalkStep) → j < l.i → slice_get l.open j ≡ Some s → Contains (pairs_of l.self.unfit) s.part.pair;
 }
