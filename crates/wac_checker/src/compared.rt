@@ -28,7 +28,7 @@ pub struct Compared {
     pub(crate) unfit: Known,
 }
 
-// By hand, as of `Known`.
+// By hand: what is derived is proved field by field in each function that drops one.
 impl Drop for Compared {
     fn drop(self) {
         let Compared { known: _, unfit: _ } = self;
@@ -69,6 +69,7 @@ impl Compared {
             left: at,
             right: bt,
             swapped: false,
+            alloc,
         };
         let mut walk = Walk::new(alloc);
         match name_items(&sides, &mut walk.parts, 0, &a, &b) {
@@ -80,16 +81,11 @@ impl Compared {
             return Ok(true);
         };
         walk.asked = part.pair;
-        self.answer(alloc, &mut walk, &sides)
+        self.answer(&mut walk, &sides)
     }
 
     // Whether the pair fits that is asked about. After a no all pairs that are open don't fit.
-    fn answer(
-        &mut self,
-        alloc: Global,
-        walk: &mut Walk,
-        sides: &Sides<'_>,
-    ) -> Result<bool, AllocError>
+    fn answer(&mut self, walk: &mut Walk, sides: &Sides<'_>) -> Result<bool, AllocError>
         requires straight { sides.now.swapped ≡ false }
         requires stands { IsStanding sides.now.left.now sides.now.right.now walk.old.asked }
         requires parts { walk.old.parts.before ≡ [] }
@@ -103,14 +99,14 @@ impl Compared {
             cache: None,
             kinds: Kinds::None,
         };
-        match self.compare(alloc, walk, sides, &nothing) {
+        match self.compare(walk, sides, &nothing) {
             Ok(true) => Ok(true),
             Ok(false) => {
-                self.note(alloc, &walk.open)?;
+                self.note(sides.alloc, &walk.open)?;
                 Ok(false)
             }
             Err(e) => {
-                self.forget(alloc);
+                self.forget(sides.alloc);
                 Err(e)
             }
         }
@@ -142,7 +138,6 @@ impl Compared {
     /// wasn't compared before. At a no the open steps lead to a pair that doesn't fit.
     pub(crate) fn compare(
         &mut self,
-        alloc: Global,
         walk: &mut Walk,
         sides: &Sides<'_>,
         believed: &Believed<'_>,
@@ -167,9 +162,9 @@ impl Compared {
             pair: walk.asked,
             index: 0,
         };
-        let mut step = walk.begin(alloc, sides, part)?;
+        let mut step = walk.begin(sides, part)?;
         for _turn in 0..u64::MAX {
-            if let Some(yes) = self.turn(alloc, walk, sides, &mut step, believed)? {
+            if let Some(yes) = self.turn(walk, sides, &mut step, believed)? {
                 return Ok(yes);
             }
         }
@@ -179,7 +174,6 @@ impl Compared {
     // Goes on with the pair at hand: with its next part, or with the pair above it, or to the end.
     fn turn(
         &mut self,
-        alloc: Global,
         walk: &mut Walk,
         sides: &Sides<'_>,
         step: &mut WalkStep,
@@ -192,7 +186,7 @@ impl Compared {
         ensures pairs { ArePairsOf sides.now.left.now sides.now.right.now (pairs_of self.new.known) }
     {
         if step.next < walk.parts.len() {
-            return self.go_below(alloc, walk, sides, step, believed);
+            return self.go_below(walk, sides, step, believed);
         }
         if step.differs {
             walk.open.push(*step)?;
@@ -211,7 +205,6 @@ impl Compared {
     // Goes on with the next part of the pair at hand.
     fn go_below(
         &mut self,
-        alloc: Global,
         walk: &mut Walk,
         sides: &Sides<'_>,
         step: &mut WalkStep,
@@ -235,7 +228,7 @@ impl Compared {
             return Ok(None);
         }
         if self.known.add(&part.pair)? {
-            let below = walk.begin(alloc, sides, part)?;
+            let below = walk.begin(sides, part)?;
             // those that fit and have no parts are done
             if has_more(&below, &walk.parts) {
                 walk.open.push(*step)?;

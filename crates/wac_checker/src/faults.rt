@@ -19,53 +19,15 @@ use std::alloc::{AllocError, Global};
 use std::mem;
 use wac_core_checker::module_fits;
 use wac_mismatch::refusals::{expected_found, here_with, turned_check, under};
-use wac_mismatch::{Fault, Frame, NameOf, SubtypeCheck, SubtypeError};
+use wac_mismatch::{Fault, Frame, SubtypeCheck, SubtypeError};
 
-// The fault of two names of resources.
-fn resource_fault(check: SubtypeCheck, a: &String, b: &String) -> Result<Fault, AllocError>
-    ensures { IfOk result (λ f. AreNamesOf f (expected_of check (string_bytes a.now) (string_bytes b.now)) (found_of check (string_bytes a.now) (string_bytes b.now))) }
+// Two names, the expected one first.
+fn texts(check: SubtypeCheck, a: &String, b: &String) -> Result<(String, String), AllocError>
+    ensures expected { IfOk result (λ r. string_bytes r.0 ≡ expected_of check (string_bytes a.now) (string_bytes b.now)) }
+    ensures found { IfOk result (λ r. string_bytes r.1 ≡ found_of check (string_bytes a.now) (string_bytes b.now)) }
 {
     let (expected, found) = expected_found(check, a, b);
-    Ok(Fault::Resource {
-        expected: expected.clone()?,
-        found: found.clone()?,
-    })
-}
-
-// The fault of two parameters' names at an index.
-fn param_fault(
-    check: SubtypeCheck,
-    index: usize,
-    a: &String,
-    b: &String,
-) -> Result<Fault, AllocError>
-    ensures { IfOk result (λ f. IsParamName f index (expected_of check (string_bytes a.now) (string_bytes b.now)) (found_of check (string_bytes a.now) (string_bytes b.now))) }
-{
-    let (expected, found) = expected_found(check, a, b);
-    Ok(Fault::ParamName {
-        index,
-        expected: expected.clone()?,
-        found: found.clone()?,
-    })
-}
-
-// The fault of two names at an index.
-fn name_fault(
-    check: SubtypeCheck,
-    of: NameOf,
-    index: usize,
-    a: &String,
-    b: &String,
-) -> Result<Fault, AllocError>
-    ensures { IfOk result (λ f. IsNameFault f of index (expected_of check (string_bytes a.now) (string_bytes b.now)) (found_of check (string_bytes a.now) (string_bytes b.now))) }
-{
-    let (expected, found) = expected_found(check, a, b);
-    Ok(Fault::Name {
-        of,
-        index,
-        expected: expected.clone()?,
-        found: found.clone()?,
-    })
+    Ok((expected.clone()?, found.clone()?))
 }
 
 // A difference as a fault, in a direction. That of two core modules is none.
@@ -77,7 +39,10 @@ fn fault_of(check: SubtypeCheck, difference: Difference<'_>) -> Result<Fault, Al
             let (expected, found) = expected_found(check, a, b);
             Ok(Fault::Kind { expected, found })
         }
-        Difference::Resources(a, b) => resource_fault(check, a, b),
+        Difference::Resources(a, b) => {
+            let (expected, found) = texts(check, a, b)?;
+            Ok(Fault::Resource { expected, found })
+        }
         Difference::Async(a, b) => Ok(Fault::Async {
             expected: expected_found(check, a, b).0,
         }),
@@ -85,7 +50,14 @@ fn fault_of(check: SubtypeCheck, difference: Difference<'_>) -> Result<Fault, Al
             let (expected, found) = expected_found(check, a, b);
             Ok(Fault::ParamCount { expected, found })
         }
-        Difference::ParamName(index, a, b) => param_fault(check, index, a, b),
+        Difference::ParamName(index, a, b) => {
+            let (expected, found) = texts(check, a, b)?;
+            Ok(Fault::ParamName {
+                index,
+                expected,
+                found,
+            })
+        }
         Difference::FuncResult(a, b) => Ok(Fault::FuncResult {
             expected: expected_found(check, a, b).0,
         }),
@@ -105,7 +77,15 @@ fn fault_of(check: SubtypeCheck, difference: Difference<'_>) -> Result<Fault, Al
                 found,
             })
         }
-        Difference::Name(of, index, a, b) => name_fault(check, of, index, a, b),
+        Difference::Name(of, index, a, b) => {
+            let (expected, found) = texts(check, a, b)?;
+            Ok(Fault::Name {
+                of,
+                index,
+                expected,
+                found,
+            })
+        }
         Difference::CaseType(name, a, b) => Ok(Fault::CaseType {
             name: name.clone()?,
             expected: expected_found(check, a, b).0,
@@ -126,11 +106,7 @@ fn fault_of(check: SubtypeCheck, difference: Difference<'_>) -> Result<Fault, Al
 }
 
 /// The error of a difference right here.
-pub(crate) fn refusal(
-    check: SubtypeCheck,
-    alloc: Global,
-    difference: Difference<'_>,
-) -> SubtypeError
+pub(crate) fn refusal(check: SubtypeCheck, alloc: Global, difference: Difference) -> SubtypeError
     ensures { IsHere (IsFaultOf check difference.entry) result }
 {
     here_with(alloc, fault_of(check, difference))
@@ -157,45 +133,34 @@ fn placed_check(check: SubtypeCheck, swapped: bool) -> SubtypeCheck
 }
 
 // The error of two core modules.
-fn modules_refused(
-    check: SubtypeCheck,
-    alloc: Global,
-    sides: &Sides<'_>,
-    a: usize,
-    b: usize,
-) -> SubtypeError
+fn modules_refused(check: SubtypeCheck, sides: &Sides<'_>, a: usize, b: usize) -> SubtypeError
     requires left { Stands sides.now.left.now (module_key (id_in sides.now.left.now a)) }
     requires right { Stands sides.now.right.now (module_key (id_in sides.now.right.now b)) }
     ensures { ExplainsEntries check sides.now.left.now sides.now.right.now (Modules (id_in sides.now.left.now a) (id_in sides.now.right.now b)) result }
 {
     let a = module_at(sides.left, a);
     let b = module_at(sides.right, b);
-    match module_fits(check, alloc, &sides.left[a], &sides.right[b]) {
+    match module_fits(check, sides.alloc, &sides.left[a], &sides.right[b]) {
         Ok(()) => SubtypeError::Memory,
         Err(e) => e,
     }
 }
 
 // The error of a pair whose two differ, or parts of them.
-fn pair_refused(
-    check: SubtypeCheck,
-    alloc: Global,
-    both: &Sides<'_>,
-    pair: &EntryPair,
-) -> SubtypeError
+fn pair_refused(check: SubtypeCheck, both: &Sides<'_>, pair: &EntryPair) -> SubtypeError
     requires stands { IsStanding both.now.left.now both.now.right.now pair.now }
     requires straight { both.now.swapped ≡ false }
     ensures { ExplainsPair check both.now.left.now both.now.right.now (two_of both.now.left.now both.now.right.now pair.now) result }
 {
     let check = placed_check(check, pair.swapped);
     if let PairSort::Module = pair.sort {
-        return modules_refused(check, alloc, &both.of(pair.swapped), pair.left, pair.right);
+        return modules_refused(check, &both.of(pair.swapped), pair.left, pair.right);
     }
-    let mut parts = PairParts::new(alloc);
-    match list_parts(both, alloc, pair, &mut parts) {
-        Turn::Apart(difference) => refusal(check, alloc, difference),
+    let mut parts = PairParts::new(both.alloc);
+    match list_parts(both, pair, &mut parts) {
+        Turn::Apart(difference) => refusal(check, both.alloc, difference),
         Turn::PartApart(index, turned, difference) => {
-            let error = refusal(placed_check(check, turned), alloc, difference);
+            let error = refusal(placed_check(check, turned), both.alloc, difference);
             framed(error, pair_frame(both, pair, index))
         }
         Turn::End | Turn::Memory => SubtypeError::Memory,
@@ -204,7 +169,6 @@ fn pair_refused(
 
 // Puts the frames to a part, to which steps lead, before those below it.
 fn frames_to(
-    alloc: Global,
     sides: &Sides<'_>,
     walk: &mut Walk,
     part: PairPart,
@@ -215,7 +179,7 @@ fn frames_to(
     ensures { IfOk result (λ fs. LeadsFurther sides.now part.pair below.items walk.old.asked fs.items) }
 {
     let mut part = part;
-    let mut frames = Vec::new(alloc);
+    let mut frames = Vec::new(sides.alloc);
     while let Some(step) = walk.open.pop() {
         frames.push(pair_frame(sides, &step.part.pair, part.index)?)?;
         part = step.part;
@@ -228,12 +192,7 @@ fn frames_to(
 /// The error of the pair to which a walk has led, which differs.
 #[cold]
 #[inline(never)]
-pub(crate) fn refused_at(
-    check: SubtypeCheck,
-    alloc: Global,
-    sides: &Sides<'_>,
-    walk: &mut Walk,
-) -> SubtypeError
+pub(crate) fn refused_at(check: SubtypeCheck, sides: &Sides<'_>, walk: &mut Walk) -> SubtypeError
     requires straight { sides.now.swapped ≡ false }
     requires path { IsPathTo sides.now.left.now sides.now.right.now walk.old.asked (reverse walk.old.open) }
     ensures { ExplainsPair check sides.now.left.now sides.now.right.now (two_of sides.now.left.now sides.now.right.now walk.old.asked) result }
@@ -241,9 +200,9 @@ pub(crate) fn refused_at(
     let Some(last) = walk.open.pop() else {
         return SubtypeError::Memory;
     };
-    match pair_refused(check, alloc, sides, &last.part.pair) {
+    match pair_refused(check, sides, &last.part.pair) {
         SubtypeError::Mismatch { frames, fault } => {
-            match frames_to(alloc, sides, walk, last.part, frames) {
+            match frames_to(sides, walk, last.part, frames) {
                 Ok(frames) => SubtypeError::Mismatch { frames, fault },
                 Err(_) => {
                     mem::drop(fault);

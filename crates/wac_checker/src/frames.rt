@@ -11,22 +11,15 @@ ghost use Rattle.wac_checker.specs.Parts.{side_parts, listed, IsFrameAt, IsExpor
 ghost use Rattle.wac_checker.specs.Pairs.{HasPart, IsFrameOf, IsPairFrame, IsStanding, PairHasPart, Worlds, two_of};
 ghost use Rattle.wac_component.specs.declared.items.ValueType.TheVariants.{Defined};
 
-use super::leaves::{case_at, extern_at, field_at};
+use super::leaves::{Cases, Fields, case_at, extern_at, field_at};
 use super::parts::{EntryPair, PairSort};
 use super::sides::{Sides, defined_at, func_at, interface_at, world_at};
-use indexmap::IndexMap;
 use std::alloc::AllocError;
-use wac_component::{
-    DefinedType, DefinedTypeId, FuncTypeId, InterfaceId, Types, ValueType, WorldId,
-};
+use wac_component::{DefinedType, DefinedTypeId, FuncTypeId, InterfaceId, Types, WorldId};
 use wac_mismatch::Frame;
 
 // The frame to the part of a defined type at a place.
-pub(crate) fn defined_frame(
-    id: DefinedTypeId,
-    types: &Types,
-    index: usize,
-) -> Result<Frame, AllocError>
+fn defined_frame(id: DefinedTypeId, types: &Types, index: usize) -> Result<Frame, AllocError>
     requires standing { Stands types.now (defined_key id) }
     requires resolved { IsResolved types.now (Defined id) }
     requires within { index < length (side_parts (value_side (value_tree types.now (Defined id)))) }
@@ -51,10 +44,7 @@ pub(crate) fn defined_frame(
     }
 }
 
-fn case_frame(
-    cases: &IndexMap<String, Option<ValueType>>,
-    index: usize,
-) -> Result<Frame, AllocError>
+fn case_frame(cases: &Cases, index: usize) -> Result<Frame, AllocError>
     requires { index < length cases.now.entries }
     ensures { IfOk result (λ f. (n : _) × (slice_get (names cases.now.entries) index ≡ Some n) × IsCase n f) }
 {
@@ -62,7 +52,7 @@ fn case_frame(
     Ok(Frame::Case(name.clone()?))
 }
 
-fn field_frame(fields: &IndexMap<String, ValueType>, index: usize) -> Result<Frame, AllocError>
+fn field_frame(fields: &Fields, index: usize) -> Result<Frame, AllocError>
     requires { index < length fields.now.entries }
     ensures { IfOk result (λ f. (n : _) × (slice_get (names fields.now.entries) index ≡ Some n) × IsField n f) }
 {
@@ -71,7 +61,7 @@ fn field_frame(fields: &IndexMap<String, ValueType>, index: usize) -> Result<Fra
 }
 
 // The frame to the part of a function at a place.
-pub(crate) fn func_frame(id: FuncTypeId, types: &Types, index: usize) -> Result<Frame, AllocError>
+fn func_frame(id: FuncTypeId, types: &Types, index: usize) -> Result<Frame, AllocError>
     requires { Stands types.now (func_key id) }
     ensures { (k : Kind) → IfOk result (IsFrameAt (item_side (leaf k (func (func_tree types.now id)))) index) }
 {
@@ -82,7 +72,7 @@ pub(crate) fn func_frame(id: FuncTypeId, types: &Types, index: usize) -> Result<
     Ok(Frame::FuncResult)
 }
 
-fn param_frame(params: &IndexMap<String, ValueType>, index: usize) -> Result<Frame, AllocError>
+fn param_frame(params: &Fields, index: usize) -> Result<Frame, AllocError>
     requires { index < length params.now.entries }
     ensures { IfOk result (λ f. (n : _) × (slice_get (names params.now.entries) index ≡ Some n) × IsParameter n f) }
 {
@@ -91,11 +81,7 @@ fn param_frame(params: &IndexMap<String, ValueType>, index: usize) -> Result<Fra
 }
 
 // The frame to the export of an interface at a place.
-pub(crate) fn interface_frame(
-    id: InterfaceId,
-    types: &Types,
-    index: usize,
-) -> Result<Frame, AllocError>
+fn interface_frame(id: InterfaceId, types: &Types, index: usize) -> Result<Frame, AllocError>
     requires standing { Stands types.now (interface_key id) }
     requires within { index < length (listed (externs types.now (interface_key id)).exports) }
     ensures { IfOk result (IsExportFrame (externs types.now (interface_key id)).exports index) }
@@ -106,7 +92,7 @@ pub(crate) fn interface_frame(
 
 // The frame to the imports of two worlds at a place of the left one, or to their exports at one of
 // the right one.
-pub(crate) fn world_frame(
+fn world_frame(
     a: WorldId,
     at: &Types,
     b: WorldId,
@@ -128,11 +114,7 @@ pub(crate) fn world_frame(
 }
 
 /// The frame to the parts of a pair at a place.
-pub(crate) fn pair_frame(
-    both: &Sides<'_>,
-    pair: &EntryPair,
-    index: usize,
-) -> Result<Frame, AllocError>
+pub(crate) fn pair_frame(both: &Sides, pair: &EntryPair, index: usize) -> Result<Frame, AllocError>
     requires stands { IsStanding both.now.left.now both.now.right.now pair.now }
     requires straight { both.now.swapped ≡ false }
     requires within { PairHasPart both.now.left.now both.now.right.now (two_of both.now.left.now both.now.right.now pair.now) index }

@@ -1,107 +1,55 @@
 //! The pairs that a comparison has opened, each once.
 
-ghost use Rattle.std.specs.Prelude.{◌≡◌, ◌<◌, ◌++◌, ◌∷◌, [], Contains, IsTrue, ◌↔◌, true, false, Ok, Some, length, slice_get};
-ghost use Rattle.wac_checker.specs.Known.{few_of, pairs_of};
+ghost use Rattle.std.specs.Prelude.{◌≡◌, ◌<◌, ◌≤◌, ◌++◌, ◌∷◌, [], Contains, IsTrue, ◌↔◌, true, false, Ok, Some, length, slice_get, take};
 
 use super::parts::{EntryPair, NO_PAIR};
 use indexmap::IndexSet;
 use std::alloc::{AllocError, Global};
-use std::marker::Model;
 
-// So many pairs are looked through one after another, and more are
-// hashed: most comparisons open few.
+// So many pairs are looked through one after another, and more are hashed: most comparisons open
+// few.
 const FEW: usize = 4;
 
-/// At most a few pairs, in the order in which they were opened. They lie in the value itself.
-#[derive(Drop)]
-pub(crate) struct Few {
-    pairs: [EntryPair; FEW],
-    len: usize,
-}
-
-impl Model for Few {
-    ghost use Rattle.std.specs.Prelude.{List, take, length, ◌≡◌, ◌≤◌};
-    ghost use Rattle.wac_checker.specs.declared.parts.EntryPair.{EntryPair};
-
-    ghost Value = { List EntryPair };
-
-    ghost view = { λ f. take f.len f.pairs };
-
-    ghost invariant = { λ f. (f.len ≤ 4) × (length f.pairs ≡ 4) };
-}
-
-impl Few {
-    /// No pairs. The places hold one, since there is no pair that means none.
-    #[inline(always)]
-    fn none() -> Self
-        ensures { result ≡ [] }
-    {
-        Few {
-            pairs: [NO_PAIR; FEW],
-            len: 0,
-        }
-    }
-
-    /// The pairs.
-    #[inline(always)]
-    fn as_slice(&self) -> &[EntryPair]
-        ensures { result.now ≡ self.now }
-    {
-        &self.pairs[..self.len]
-    }
-
-    /// Puts a pair last, if there is room.
-    #[inline(always)]
-    fn push(&mut self, pair: EntryPair) -> bool
-        ensures pushed { IsTrue result → self.new ≡ self.old ++ pair ∷ [] }
-        ensures same { result ≡ false → self.new ≡ self.old }
-    {
-        if self.len == FEW {
-            return false;
-        }
-        self.pairs[self.len] = pair;
-        self.len += 1;
-        true
-    }
-}
-
 /// Pairs of entries, in the order in which they were opened.
+#[derive(Drop)]
 pub(crate) struct Known {
     // the first of them, so that a comparison that opens no more allocates nothing
-    few: Few,
+    few: [EntryPair; FEW],
+    // how many of these are pairs
+    len: usize,
     many: IndexSet<EntryPair>,
-}
-
-// By hand: what is derived is proved field by field in each function that drops one.
-impl Drop for Known {
-    fn drop(self) {
-        let Known { few: _, many: _ } = self;
-    }
+    ghost within: { len ≤ 4 },
+    ghost room: { length few ≡ 4 },
 }
 
 impl Known {
-    /// No pairs.
+    ghost use Rattle.wac_checker.specs.Known.{pairs_of};
+
+    /// No pairs. The places hold one, since there is no pair that means none.
     #[inline(always)]
     pub(crate) fn new(alloc: Global) -> Self
         ensures { pairs_of result ≡ [] }
     {
         Known {
-            few: Few::none(),
+            few: [NO_PAIR; FEW],
+            len: 0,
             many: IndexSet::new(alloc),
         }
     }
 
+    // The first pairs.
+    #[inline(always)]
     fn few(&self) -> &[EntryPair]
-        ensures { result.now ≡ few_of self.now.few }
+        ensures { result.now ≡ take self.now.len self.now.few }
     {
-        self.few.as_slice()
+        &self.few[..self.len]
     }
 
     /// How many pairs there are.
     pub(crate) fn len(&self) -> usize
         ensures { result ≡ length (pairs_of self.now) }
     {
-        self.few().len() + self.many.len()
+        self.len + self.many.len()
     }
 
     /// Whether a pair is there.
@@ -122,7 +70,9 @@ impl Known {
         if is_among(self.few(), pair) {
             return Ok(false);
         }
-        if self.many.is_empty() && self.few.push(*pair) {
+        if self.many.is_empty() && self.len < FEW {
+            self.few[self.len] = *pair;
+            self.len += 1;
             return Ok(true);
         }
         Ok(self.many.insert(*pair)?)

@@ -22,12 +22,7 @@ pub(crate) enum Paired {
 fn pair(sort: PairSort, left: usize, right: usize) -> EntryPair
     ensures { result ≡ record { left = left; right = right; sort = sort; swapped = false } }
 {
-    EntryPair {
-        left,
-        right,
-        sort,
-        swapped: false,
-    }
+    EntryPair::of(sort, left, right, false)
 }
 
 // Reads two items.
@@ -37,7 +32,7 @@ pub(crate) fn paired_items(a: &ItemKind, b: &ItemKind) -> Paired
 {
     match *a {
         ItemKind::Type(x) => match *b {
-            ItemKind::Type(y) => paired_types(x, y),
+            ItemKind::Type(y) => paired_types(&x, &y),
             _ => Paired::Others,
         },
         ItemKind::Func(x) => match *b {
@@ -48,21 +43,24 @@ pub(crate) fn paired_items(a: &ItemKind, b: &ItemKind) -> Paired
             _ => Paired::Others,
         },
         ItemKind::Instance(x) => match *b {
-            ItemKind::Instance(y) => {
-                Paired::Entries(x == y, pair(PairSort::Interface, x.index(), y.index()))
-            }
+            ItemKind::Instance(y) => Paired::Entries(
+                x == y,
+                pair(PairSort::Interface, x.index(), y.index()),
+            ),
             _ => Paired::Others,
         },
         ItemKind::Component(x) => match *b {
-            ItemKind::Component(y) => {
-                Paired::Entries(x == y, pair(PairSort::World, x.index(), y.index()))
-            }
+            ItemKind::Component(y) => Paired::Entries(
+                x == y,
+                pair(PairSort::World, x.index(), y.index()),
+            ),
             _ => Paired::Others,
         },
         ItemKind::Module(x) => match *b {
-            ItemKind::Module(y) => {
-                Paired::Entries(x == y, pair(PairSort::Module, x.index(), y.index()))
-            }
+            ItemKind::Module(y) => Paired::Entries(
+                x == y,
+                pair(PairSort::Module, x.index(), y.index()),
+            ),
             _ => Paired::Others,
         },
         ItemKind::Value(x) => match *b {
@@ -74,38 +72,27 @@ pub(crate) fn paired_items(a: &ItemKind, b: &ItemKind) -> Paired
 
 // Reads two types.
 #[inline(always)]
-fn paired_types(a: Type, b: Type) -> Paired
-    ensures { IsPairing (OfType a) (OfType b) result }
+fn paired_types(a: &Type, b: &Type) -> Paired
+    ensures { IsPairing (OfType a.now) (OfType b.now) result }
 {
-    match a {
-        Type::Resource(x) => match b {
-            Type::Resource(y) => Paired::Resources(x, y),
-            _ => Paired::Others,
-        },
-        Type::Func(x) => match b {
-            Type::Func(y) => Paired::Entries(x == y, pair(PairSort::Func, x.index(), y.index())),
-            _ => Paired::Others,
-        },
-        Type::Value(x) => match b {
-            Type::Value(y) => Paired::Values(x, y),
-            _ => Paired::Others,
-        },
-        Type::Interface(x) => match b {
-            Type::Interface(y) => {
-                Paired::Entries(x == y, pair(PairSort::Interface, x.index(), y.index()))
-            }
-            _ => Paired::Others,
-        },
-        Type::World(x) => match b {
-            Type::World(y) => Paired::Entries(x == y, pair(PairSort::World, x.index(), y.index())),
-            _ => Paired::Others,
-        },
-        Type::Module(x) => match b {
-            Type::Module(y) => Paired::Entries(
-                x == y,
-                pair(PairSort::Module, x.index(), y.index()),
-            ),
-            _ => Paired::Others,
-        },
+    match (a, b) {
+        (Type::Resource(x), Type::Resource(y)) => Paired::Resources(*x, *y),
+        (Type::Func(x), Type::Func(y)) => Paired::Entries(
+            *x == *y,
+            pair(PairSort::Func, x.index(), y.index()),
+        ),
+        (Type::Value(x), Type::Value(y)) => Paired::Values(*x, *y),
+        (Type::Interface(x), Type::Interface(y)) => {
+            Paired::Entries(*x == *y, pair(PairSort::Interface, x.index(), y.index()))
+        }
+        (Type::World(x), Type::World(y)) => Paired::Entries(
+            *x == *y,
+            pair(PairSort::World, x.index(), y.index()),
+        ),
+        (Type::Module(x), Type::Module(y)) => Paired::Entries(
+            *x == *y,
+            pair(PairSort::Module, x.index(), y.index()),
+        ),
+        _ => Paired::Others,
     }
 }

@@ -29,6 +29,21 @@ pub(crate) struct EntryPair {
     pub(crate) swapped: bool,
 }
 
+impl EntryPair {
+    /// Two entries of a sort.
+    #[inline(always)]
+    pub(crate) fn of(sort: PairSort, left: usize, right: usize, swapped: bool) -> Self
+        ensures { result ≡ record { left = left; right = right; sort = sort; swapped = swapped } }
+    {
+        EntryPair {
+            left,
+            right,
+            sort,
+            swapped,
+        }
+    }
+}
+
 /// A pair that stands where none is.
 pub(crate) const NO_PAIR: EntryPair = EntryPair {
     left: 0,
@@ -53,6 +68,7 @@ pub(crate) enum Named {
 }
 
 /// The parts of the pairs that are open, and behind them those that are being named of one more.
+#[derive(Drop)]
 pub(crate) struct PairParts {
     list: Short<PairPart>,
     // where those that are being named begin
@@ -68,13 +84,6 @@ impl Model for PairParts {
     ghost view = { λ p. record { before = take p.first p.list; items = drop p.first p.list } };
 
     ghost invariant = { λ p. p.first ≤ length p.list };
-}
-
-// By hand, as of `Known`.
-impl Drop for PairParts {
-    fn drop(self) {
-        let PairParts { list: _, first: _ } = self;
-    }
 }
 
 impl PairParts {

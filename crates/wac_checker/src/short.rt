@@ -6,10 +6,11 @@ ghost use Rattle.std.specs.Option.{option_to_list};
 use std::alloc::{AllocError, Global};
 use std::marker::Model;
 
-// So many items lie in the value.
-const FEW: usize = 4;
+/// So many items lie in the value.
+pub(crate) const FEW: usize = 4;
 
 /// A list whose first items lie in the value itself, so that a short one allocates nothing.
+#[derive(Drop)]
 pub(crate) struct Short<T: Copy> {
     few: [T; FEW],
     // how many of these are items
@@ -25,17 +26,6 @@ impl<T: Copy> Model for Short<T> {
     ghost view = { λ s. take s.len s.few ++ s.more.items };
 
     ghost invariant = { λ s. (s.len ≤ 4) × (length s.few ≡ 4) × (s.len < 4 → s.more.items ≡ []) };
-}
-
-// By hand, as of `Known`.
-impl<T: Copy> Drop for Short<T> {
-    fn drop(self) {
-        let Short {
-            few: _,
-            len: _,
-            more: _,
-        } = self;
-    }
 }
 
 impl<T: Copy> Short<T> {

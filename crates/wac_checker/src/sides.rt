@@ -4,15 +4,18 @@ ghost use Rattle.std.specs.Prelude.{◌≡◌, not};
 ghost use Rattle.wac_component.specs.Key.{Stands, defined_key, func_key, interface_key, world_key, module_key};
 ghost use Rattle.wac_checker.specs.Pairs.{flag_of, id_in, left_of, right_of};
 
+use std::alloc::Global;
 use wac_component::{DefinedTypeId, FuncTypeId, InterfaceId, ModuleTypeId, Types, WorldId};
 
-/// The collection of the left entries, and that of the right ones: two of different numbers, or one.
+/// The collection of the left entries, and that of the right ones: two of different numbers, or one;
+/// and where memory for a comparison comes from.
 #[derive(Clone, Copy)]
 pub(crate) struct Sides<'a> {
     pub(crate) left: &'a Types,
     pub(crate) right: &'a Types,
     // whether the left one is that of the right item that was asked about, as below an import
     pub(crate) swapped: bool,
+    pub(crate) alloc: Global,
     ghost one: { left.now.number ≡ right.now.number → left.now ≡ right.now },
 }
 
@@ -27,6 +30,7 @@ impl<'a> Sides<'a> {
             left: self.right,
             right: self.left,
             swapped: !self.swapped,
+            alloc: self.alloc,
         }
     }
 
@@ -43,11 +47,12 @@ impl<'a> Sides<'a> {
             left: self.left,
             right: self.right,
             swapped: self.swapped,
+            alloc: self.alloc,
         }
     }
 }
 
-/// The id of the defined type at an index.
+// The ids of the entries at an index, of each sort.
 pub(crate) fn defined_at(types: &Types, index: usize) -> DefinedTypeId
     requires { Stands types.now (defined_key (id_in types.now index)) }
     ensures { result ≡ id_in types.now index }
@@ -55,7 +60,6 @@ pub(crate) fn defined_at(types: &Types, index: usize) -> DefinedTypeId
     types.defined_type_at(index).unwrap()
 }
 
-/// The id of the function at an index.
 pub(crate) fn func_at(types: &Types, index: usize) -> FuncTypeId
     requires { Stands types.now (func_key (id_in types.now index)) }
     ensures { result ≡ id_in types.now index }
@@ -63,7 +67,6 @@ pub(crate) fn func_at(types: &Types, index: usize) -> FuncTypeId
     types.func_type_at(index).unwrap()
 }
 
-/// The id of the interface at an index.
 pub(crate) fn interface_at(types: &Types, index: usize) -> InterfaceId
     requires { Stands types.now (interface_key (id_in types.now index)) }
     ensures { result ≡ id_in types.now index }
@@ -71,7 +74,6 @@ pub(crate) fn interface_at(types: &Types, index: usize) -> InterfaceId
     types.interface_at(index).unwrap()
 }
 
-/// The id of the world at an index.
 pub(crate) fn world_at(types: &Types, index: usize) -> WorldId
     requires { Stands types.now (world_key (id_in types.now index)) }
     ensures { result ≡ id_in types.now index }
@@ -79,7 +81,6 @@ pub(crate) fn world_at(types: &Types, index: usize) -> WorldId
     types.world_at(index).unwrap()
 }
 
-/// The id of the core module at an index.
 pub(crate) fn module_at(types: &Types, index: usize) -> ModuleTypeId
     requires { Stands types.now (module_key (id_in types.now index)) }
     ensures { result ≡ id_in types.now index }

@@ -36,22 +36,12 @@ pub(crate) enum Found {
 }
 
 /// The parts of all pairs that are open, and the steps that lead to the pair at hand.
+#[derive(Drop)]
 pub(crate) struct Walk {
     // the pair that is asked about
     pub(crate) asked: EntryPair,
     pub(crate) parts: PairParts,
     pub(crate) open: Short<WalkStep>,
-}
-
-// By hand, as of `Known`.
-impl Drop for Walk {
-    fn drop(self) {
-        let Walk {
-            asked: _,
-            parts: _,
-            open: _,
-        } = self;
-    }
 }
 
 impl Walk {
@@ -81,7 +71,6 @@ impl Walk {
     /// Lists the parts of a pair.
     pub(crate) fn begin(
         &mut self,
-        alloc: Global,
         sides: &Sides<'_>,
         part: PairPart,
     ) -> Result<WalkStep, AllocError>
@@ -94,7 +83,7 @@ impl Walk {
         ensures asked { self.new.asked ≡ self.old.asked }
     {
         let first = self.parts.len();
-        let differs = list_pair(alloc, sides, &part.pair, &mut self.parts)?;
+        let differs = list_pair(sides, &part.pair, &mut self.parts)?;
         self.parts.close();
         Ok(WalkStep {
             part,
@@ -107,19 +96,14 @@ impl Walk {
 
 // Lists the parts of a pair, and answers whether its two differ after them.
 #[inline(never)]
-fn list_pair(
-    alloc: Global,
-    sides: &Sides<'_>,
-    pair: &EntryPair,
-    parts: &mut PairParts,
-) -> Result<bool, AllocError>
+fn list_pair(sides: &Sides<'_>, pair: &EntryPair, parts: &mut PairParts) -> Result<bool, AllocError>
     requires stands { IsStanding sides.now.left.now sides.now.right.now pair.now }
     requires straight { sides.now.swapped ≡ false }
     requires none { parts.old.items ≡ [] }
     ensures listed { IfOk result (AreListed sides.now.left.now sides.now.right.now pair.now parts.new.items) }
     ensures kept { parts.new.before ≡ parts.old.before }
 {
-    match list_parts(sides, alloc, pair, parts) {
+    match list_parts(sides, pair, parts) {
         Turn::End => Ok(false),
         Turn::Apart(_) => Ok(true),
         Turn::PartApart(_, _, _) => Ok(true),

@@ -7,7 +7,7 @@ pub returns-in-Entries-clause-listed : goal.returns-in-Entries-clause-listed
 returns-in-Entries-clause-listed c =
     let of = (c.in-Entries.ensures.paired c.args.sides.now.left.now c.args.sides.now.right.now c.requires.left c.requires.right c.args.sides.now.one) in
     let told : EntryPair = record { left = c.in-Entries.pair.left; right = c.in-Entries.pair.right; sort = c.in-Entries.pair.sort; swapped = c.args.sides.now.swapped } in
-    items_put c.args.sides.now.left.now c.args.sides.now.right.now c.args.sides.now.swapped c.args.index c.args.a.now c.args.b.now c.args.parts.now.items c.name.new.parts.items told c.in-Entries.same c.name.result refl of.0 of.1 c.name.ensures.named
+    items_put c.args.sides.now.left.now c.args.sides.now.right.now c.args.sides.now.swapped c.args.index c.args.a.now c.args.b.now c.args.parts.now.items c.name.new.parts.items told c.in-Entries.same c.name.result refl of.0 of.1 (rw c.of-pair.ensures at c.name.ensures.named)
 
 pub name_values-requires-clause-left : goal.name_values-requires-clause-left
 name_values-requires-clause-left c = rw (c.in-Values.ensures.paired c.args.sides.now.left.now c.args.sides.now.right.now c.requires.left c.requires.right c.args.sides.now.one).left_keys at c.requires.left

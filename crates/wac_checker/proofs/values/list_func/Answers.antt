@@ -15,7 +15,7 @@ use Rattle.wac_checker.proofs.ListingLemmas.{func_turn, none_listed}
 use Rattle.wac_checker.proofs.values.list_func.Goals as goal
 
 pub returns-in-End-clause-listed : goal.returns-in-End-clause-listed
-returns-in-End-clause-listed c = subst₂ (λ (a b : Id). IsTurn c.args.sides.now.left.now c.args.sides.now.right.now c.args.sides.now.swapped (Funcs a b) c.list_func_result.new.parts.items c.list_func_result.result) c.func_at-a.ensures c.func_at-b.ensures (func_turn c.args.sides.now.left.now c.args.sides.now.right.now c.args.sides.now.swapped c.func_at-a.result c.func_at-b.result (func_content c.index-left.result.now) (func_content c.index-right.result.now) c.list_func_result.new.parts.items c.index-left.ensures.tree c.index-right.ensures.tree c.index-left.ensures.lower c.index-right.ensures.lower c.list_func_result.result (func_results c.args.sides.now.left.now c.args.sides.now.right.now c.args.sides.now.swapped c.index-left.result.now c.index-right.result.now c.list_params.new.parts.items c.list_func_result.new.parts.items c.list_func_result.result (grind arith) (omega arith) (omega arith) c.in-End.ensures.listed c.list_func_result.ensures.listed))
+returns-in-End-clause-listed c = subst₂ (λ (a b : Id). IsTurn c.args.sides.now.left.now c.args.sides.now.right.now c.args.sides.now.swapped (Funcs a b) c.list_result.new.parts.items c.list_result.result) c.func_at-a.ensures c.func_at-b.ensures (func_turn c.args.sides.now.left.now c.args.sides.now.right.now c.args.sides.now.swapped c.func_at-a.result c.func_at-b.result (func_content c.index-left.result.now) (func_content c.index-right.result.now) c.list_result.new.parts.items c.index-left.ensures.tree c.index-right.ensures.tree c.index-left.ensures.lower c.index-right.ensures.lower c.list_result.result (func_results c.args.sides.now.left.now c.args.sides.now.right.now c.args.sides.now.swapped c.index-left.result.now c.index-right.result.now c.list_params.new.parts.items c.list_result.new.parts.items c.list_result.result (grind arith) (omega arith) (omega arith) c.in-End.ensures.listed c.list_result.ensures.listed))
 
 pub returns-in_default-clause-listed : goal.returns-in_default-clause-listed
 returns-in_default-clause-listed c = subst₂ (λ (a b : Id). IsTurn c.args.sides.now.left.now c.args.sides.now.right.now c.args.sides.now.swapped (Funcs a b) c.list_params.new.parts.items c.list_params.result) c.func_at-a.ensures c.func_at-b.ensures (func_turn c.args.sides.now.left.now c.args.sides.now.right.now c.args.sides.now.swapped c.func_at-a.result c.func_at-b.result (func_content c.index-left.result.now) (func_content c.index-right.result.now) c.list_params.new.parts.items c.index-left.ensures.tree c.index-right.ensures.tree c.index-left.ensures.lower c.index-right.ensures.lower c.list_params.result (λ j. turn_other c.args.sides.now.left.now c.args.sides.now.right.now c.args.sides.now.swapped (func_side j c.args.sides.now.left.now (func_content c.index-left.result.now)) (func_side j c.args.sides.now.right.now (func_content c.index-right.result.now)) (keys_height c.args.sides.now.left.now (func_keys (func_content c.index-left.result.now)) + 1) (keys_height c.args.sides.now.right.now (func_keys (func_content c.index-right.result.now)) + 1) (length (func_content c.index-left.result.now).params) c.list_params.new.parts.items c.list_params.result (λ e. c.in_default.not-End e) (c.list_params.ensures.listed j)))

@@ -1,11 +1,10 @@
-use Rattle.std.proofs.Common.{◌≡◌, inl, inr, true}
+use Rattle.std.proofs.Common.{◌≡◌, inl, inr, take, true}
 use Rattle.std.proofs.lemmas.List.Elements.{Contains-append_cases, Contains-append_right}
-use Rattle.wac_checker.specs.Known.{few_of}
 use Rattle.wac_checker.proofs.known.Known.has.Goals as goal
 
 pub returns-else-is_among : goal.returns-else-is_among
 returns-else-is_among c =
-    let few = few_of c.args.self.now.few in
+    let few = take c.args.self.now.len c.args.self.now.few in
     let many = c.args.self.now.many.keys in (
       λ h. Contains-append_right few many c.args.pair.now (c.is_known.ensures.0 h),
       λ m. elim (Contains-append_cases few many c.args.pair.now m) [
