@@ -9,10 +9,11 @@ use Rattle.wac_component.specs.Memo.{Remembered, memo_of}
 use Rattle.wac_component.specs.Reach.{IsAmong, Reaches}
 use Rattle.wac_component.specs.Tree.{root_name}
 use Rattle.wac_component.specs.declared.memo.Memo.{Memo}
+use Rattle.wac_merge.specs.Items.{ExternKinds}
 use Rattle.wac_names.specs.Class.{class_of}
 use Rattle.wac_aggregator_narrowing.specs.Remembers.{RemembersTruly}
 use Rattle.wac_aggregator_narrowing.specs.State.{State, IsStateKept, RunsTaking}
-use Rattle.wac_aggregator_narrowing.specs.Taking.{IsCopiedKey, AreCopiedKeys}
+use Rattle.wac_aggregator_narrowing.specs.Taking.{AreMapped, IsCopiedItem, IsCopiedKey, AreCopiedKeys}
 use Rattle.wac_aggregator_reasons.specs.Split.{StaySplit}
 
 -- a state in order with this collection and these copies, which remembers truly of f
@@ -49,6 +50,10 @@ pub record Copies (f c : Collection) (m : Memo) (d : Collection) (n : Memo) (ks 
   pub added : (s : State) → IsState f c m s → (k : Key) → Stands d k → Stands c k ⊎ IsBelowCopy d n ks k
   pub runs : (s : State) → IsState f c m s → RunsTaking (RemembersTruly class_of) f s (moved s d n) × Holds (moved s d n)
   pub splits : (s : State) → IsState f c m s → StaySplit s (moved s d n)
+
+-- under the same names stand the copies of the items
+abbrev pub AreItemsCopied : Collection → ExternKinds → ExternKinds → State → Type 0
+AreItemsCopied f es ms s = AreMapped (IsCopiedItem f s) es ms
 
 -- the own alias names copies of what the foreign one names
 pub record IsCopiedAlias (f : Collection) (s : State) (a b : AliasContent) : Type 0 where

@@ -6,8 +6,9 @@ ghost use Rattle.wac_component.specs.EntryOrder.{HasOwn};
 ghost use Rattle.wac_component.specs.Key.{Each, Stands, AllStand, next, item_keys, named_keys, defined_key, resource_key, func_key, interface_key, world_key, module_key};
 ghost use Rattle.wac_component.specs.Memo.{memo_of};
 ghost use Rattle.wac_component.specs.Naming.{key_of};
-ghost use Rattle.wac_aggregator_narrowing.specs.Taking.{AreMapped, IsCopiedItem};
-ghost use Rattle.wac_aggregator_copies.specs.Copies.{MayCopy, Copies, HasCopies, AreToCopy};
+ghost use Rattle.wac_merge.specs.Items.{extern_keys, extern_list};
+ghost use Rattle.wac_aggregator_narrowing.specs.Taking.{IsCopiedItem};
+ghost use Rattle.wac_aggregator_copies.specs.Copies.{MayCopy, Copies, AreItemsCopied, HasCopies, AreToCopy};
 
 use indexmap::{IndexMap, IndexSet};
 use std::alloc::AllocError;
@@ -43,7 +44,7 @@ pub fn copy_externs(
 ) -> Result<IndexMap<String, ItemKind>, AllocError>
     requires source { AllStand types.now (named_keys item_keys (named (λ k. k) externs.now.entries)) }
     requires state { MayCopy types.now own.old copies.old }
-    ensures { IfOk result (λ m. Copies types.now own.old copies.old own.new copies.new (named_keys item_keys (named (λ k. k) externs.now.entries)) (λ t. AreMapped (IsCopiedItem types.now t) (named (λ k. k) externs.now.entries) (named (λ k. k) m.entries))) }
+    ensures { IfOk result (λ m. Copies types.now own.old copies.old own.new copies.new (extern_keys (extern_list externs.now)) (AreItemsCopied types.now (extern_list externs.now) (extern_list m))) }
 {
     let ids = items_ids(copies.alloc(), externs)?;
     copy_ids(own, copies, types, &ids)?;

@@ -1,11 +1,13 @@
 -- Uses of one name of which one can't stand for the other.
-use Rattle.std.specs.Prelude.{◌≡◌, ◌≢◌, List, Contains, Some}
+use Rattle.std.specs.Prelude.{◌≡◌, ◌≢◌, List, [], ◌∷◌, Contains, Some}
 use Rattle.wac_model.specs.Text.{Text}
 use Rattle.wac_component.specs.Collection.{Collection, UseContent}
+use Rattle.wac_component.specs.Content.{use_content}
 use Rattle.wac_component.specs.Entries.{uses_at}
 use Rattle.wac_component.specs.Implicit.{identifier}
 use Rattle.wac_component.specs.Key.{Key}
 use Rattle.wac_component.specs.Reach.{IsAmong}
+use Rattle.wac_component.specs.declared.items.UsedType.{UsedType}
 use Rattle.wac_aggregator_promises.specs.Reason.{used_interface, used_name}
 use Rattle.wac_names.specs.Class.{class_of}
 use Rattle.wac_aggregator_errors.specs.declared.error.AggregateError.{AggregateError}
@@ -21,6 +23,10 @@ pub data SaysUsesDiffer (c : Collection) (us vs : List (Text × UseContent)) (e 
 -- such lists are refused, unless an allocation fails
 abbrev pub AreRefusedLists : Collection → List (Text × UseContent) → List (Text × UseContent) → AggregateError → Type 0
 AreRefusedLists c us vs e = e ≢ Memory → SaysUsesDiffer c us vs e
+
+-- the same of one use of a name in each
+abbrev pub IsRefusedUse : Collection → Text → UsedType → UsedType → AggregateError → Type 0
+IsRefusedUse c name u v e = AreRefusedLists c ((name, use_content u) ∷ []) ((name, use_content v) ∷ []) e
 
 -- the uses of an entry at one of the first ids, and of one at one of the others, differ so
 pub record UsesDiffer (c : Collection) (ks js : List Key) (e : AggregateError) : Type 0 where

@@ -1,14 +1,13 @@
 //! Uses of one name.
 
 ghost use Rattle.std.specs.Prelude.{◌≡◌, [], ◌∷◌, Some, IfOk, MatchResult, string_bytes};
-ghost use Rattle.wac_component.specs.Content.{named, use_content};
-ghost use Rattle.wac_component.specs.Entries.{uses_at};
+ghost use Rattle.wac_component.specs.Content.{use_content};
 ghost use Rattle.wac_component.specs.Key.{Stands, AllStand, item_keys, type_keys, interface_key, world_key, named_keys, use_keys};
 ghost use Rattle.wac_component.specs.declared.items.ItemKind.TheVariants.{«Type» as OfType};
 ghost use Rattle.wac_aggregator_promises.specs.Reason.{used_interface as of_interfaces, used_name as of_name};
-ghost use Rattle.wac_aggregator_errors.specs.Differ.{IsUsesRefusal, AreRefusedLists};
+ghost use Rattle.wac_aggregator_errors.specs.Differ.{IsUsesRefusal, AreRefusedLists, IsRefusedUse};
 ghost use Rattle.wac_aggregator_errors.specs.Said.{said};
-ghost use Rattle.wac_aggregator_errors.specs.Uses.{AreOnOneTrack, AreOfOne, UsesAgree, ItemsAgree};
+ghost use Rattle.wac_aggregator_errors.specs.Uses.{AreOnOneTrack, AreOfOne, UsesAgree, EntriesAgree, ItemsAgree, use_list};
 
 use crate::AggregateError;
 use indexmap::IndexMap;
@@ -64,7 +63,7 @@ fn check_interfaces(
 ) -> Result<(), AggregateError>
     requires existing { Stands types.now (interface_key existing) }
     requires new { Stands types.now (interface_key new) }
-    ensures { MatchResult result (λ u. UsesAgree types.now (uses_at types.now (interface_key existing)) (uses_at types.now (interface_key new))) (IsUsesRefusal types.now (interface_key existing ∷ []) (interface_key new ∷ [])) }
+    ensures { MatchResult result (λ u. EntriesAgree types.now (interface_key existing) (interface_key new)) (IsUsesRefusal types.now (interface_key existing ∷ []) (interface_key new ∷ [])) }
 {
     check_uses(alloc, types, &types[existing].uses, &types[new].uses)
 }
@@ -78,7 +77,7 @@ fn check_worlds(
 ) -> Result<(), AggregateError>
     requires existing { Stands types.now (world_key existing) }
     requires new { Stands types.now (world_key new) }
-    ensures { MatchResult result (λ u. UsesAgree types.now (uses_at types.now (world_key existing)) (uses_at types.now (world_key new))) (IsUsesRefusal types.now (world_key existing ∷ []) (world_key new ∷ [])) }
+    ensures { MatchResult result (λ u. EntriesAgree types.now (world_key existing) (world_key new)) (IsUsesRefusal types.now (world_key existing ∷ []) (world_key new ∷ [])) }
 {
     check_uses(alloc, types, &types[existing].uses, &types[new].uses)
 }
@@ -92,9 +91,9 @@ pub fn check_uses(
     existing: &IndexMap<String, UsedType>,
     new: &IndexMap<String, UsedType>,
 ) -> Result<(), AggregateError>
-    requires existing { AllStand types.now (named_keys use_keys (named use_content existing.now.entries)) }
-    requires new { AllStand types.now (named_keys use_keys (named use_content new.now.entries)) }
-    ensures { MatchResult result (λ u. UsesAgree types.now (named use_content existing.now.entries) (named use_content new.now.entries)) (AreRefusedLists types.now (named use_content existing.now.entries) (named use_content new.now.entries)) }
+    requires existing { AllStand types.now (named_keys use_keys (use_list existing.now)) }
+    requires new { AllStand types.now (named_keys use_keys (use_list new.now)) }
+    ensures { MatchResult result (λ u. UsesAgree types.now (use_list existing.now) (use_list new.now)) (AreRefusedLists types.now (use_list existing.now) (use_list new.now)) }
 {
     for (name, used) in new {
         if let Some(other) = existing.get(name) {
@@ -115,7 +114,7 @@ fn check_use(
 ) -> Result<(), AggregateError>
     requires existing { Stands types.now (interface_key existing.now.interface) }
     requires new { Stands types.now (interface_key new.now.interface) }
-    ensures { MatchResult result (λ u. AreOfOne types.now (use_content existing.now) (use_content new.now)) (AreRefusedLists types.now ((string_bytes name.now, use_content existing.now) ∷ []) ((string_bytes name.now, use_content new.now) ∷ [])) }
+    ensures { MatchResult result (λ u. AreOfOne types.now (use_content existing.now) (use_content new.now)) (IsRefusedUse types.now (string_bytes name.now) existing.now new.now) }
 {
     check_tracks(alloc, types, name, existing, new)?;
     if existing.name != new.name {
@@ -134,7 +133,7 @@ fn check_tracks(
 ) -> Result<(), AggregateError>
     requires existing { Stands types.now (interface_key existing.now.interface) }
     requires new { Stands types.now (interface_key new.now.interface) }
-    ensures { MatchResult result (λ u. AreOnOneTrack types.now (use_content existing.now) (use_content new.now)) (AreRefusedLists types.now ((string_bytes name.now, use_content existing.now) ∷ []) ((string_bytes name.now, use_content new.now) ∷ [])) }
+    ensures { MatchResult result (λ u. AreOnOneTrack types.now (use_content existing.now) (use_content new.now)) (IsRefusedUse types.now (string_bytes name.now) existing.now new.now) }
 {
     let Some(expected) = &types[existing.interface].id else {
         return Ok(());

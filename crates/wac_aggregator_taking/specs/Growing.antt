@@ -1,5 +1,5 @@
 -- What becomes of the exports of a shared entry.
-use Rattle.std.specs.Prelude.{◌≡◌, All, List, [], ◌∷◌, Contains, Option, Some, None, Result, slice_get}
+use Rattle.std.specs.Prelude.{◌≡◌, ◌++◌, All, List, [], ◌∷◌, Contains, Option, Some, None, Result, slice_get}
 use Rattle.std.specs.declared.alloc.AllocError.{AllocError}
 use Rattle.std.specs.Option.{option_map}
 use Rattle.std.specs.Str.{bytes_eq}
@@ -15,7 +15,7 @@ use Rattle.wac_component.specs.Distinct.{HasDistinctNames}
 use Rattle.wac_component.specs.Entries.{identifier_at}
 use Rattle.wac_component.specs.Growth.{Extends}
 use Rattle.wac_component.specs.Id.{Id}
-use Rattle.wac_component.specs.Key.{Key, Each, Stands, AllStand, item_keys, interface_entry, interface_key, interface_keys}
+use Rattle.wac_component.specs.Key.{Key, Each, Stands, AllStand, item_keys, interface_entry, interface_key, interface_keys, named_keys, use_keys}
 use Rattle.wac_component.specs.Replacing.{NamesReach}
 use Rattle.wac_component.specs.Tree.{item_tree}
 use Rattle.wac_component.specs.declared.items.ItemKind.{ItemKind}
@@ -115,3 +115,11 @@ pub record IsGrownBy (c : Collection) (e : Id) (us : List (Text × UseContent)) 
   pub distinct : HasDistinctNames (interface_entry new)
   pub acyclic : ¬ (NamesReach c (interface_keys new) (interface_key e))
   pub grows : d ≡ grown c e new
+
+-- met with what the interface exports, these are put there
+abbrev pub AreMetInto : Collection → Collection → Id → ExternKinds → ExternKinds → Type 0
+AreMetInto c d own ts ms = AreMetWith c d (exports_at c (interface_key own)) ts (with_put (exports_at c (interface_key own)) ms)
+
+-- the ids in uses and in items
+abbrev pub put_keys : List (Text × UseContent) → ExternKinds → List Key
+put_keys us es = named_keys use_keys us ++ extern_keys es

@@ -1,16 +1,17 @@
 -- Why what is to be taken in is refused.
-use Rattle.std.specs.Prelude.{◌≡◌, ◌≢◌, ◌⊎◌, ℕ, All, List, [], ◌∷◌, Contains, Some, slice_get}
+use Rattle.std.specs.Prelude.{◌≡◌, ◌≢◌, ◌⊎◌, ◌×◌, ℕ, All, List, [], ◌∷◌, Contains, MatchResult, Result, Some, Unit, slice_get}
 use Rattle.std.specs.Str.{bytes_eq}
 use Rattle.wac_model.specs.Text.{Text, lookup}
 use Rattle.wac_component.specs.Collection.{Collection, UseContent}
 use Rattle.wac_component.specs.Entries.{uses_at}
 use Rattle.wac_component.specs.Id.{Id}
 use Rattle.wac_component.specs.Key.{Key, AllStand, interface_key, item_keys}
+use Rattle.wac_component.specs.Replacing.{NamesReach}
 use Rattle.wac_component.specs.Tree.{item_tree}
 use Rattle.wac_component.specs.declared.items.ItemKind.{ItemKind}
 use Rattle.wac_aggregator_promises.specs.Attempt.{Attempt, Touches}
 use Rattle.wac_aggregator_promises.specs.PlainList.{ArePlain}
-use Rattle.wac_aggregator_promises.specs.Reason.{CallRefusal, mismatch, no_identifier, owner_without_identifier, IsReason}
+use Rattle.wac_aggregator_promises.specs.Reason.{CallRefusal, cycle, mismatch, no_identifier, owner_without_identifier, IsReason}
 use Rattle.wac_aggregator_promises.specs.TreeSets.{HaveNoLowerBound}
 use Rattle.wac_aggregator_promises.specs.WitList.{IsLeafItem}
 use Rattle.wac_merge.specs.Items.{ExternKinds, extern_keys}
@@ -21,8 +22,8 @@ use Rattle.wac_aggregator_errors.specs.declared.error.AggregateError.{AggregateE
 use Rattle.wac_aggregator_errors.specs.declared.error.AggregateError.TheVariants.{Memory}
 use Rattle.wac_aggregator_errors.specs.Said.{said}
 use Rattle.wac_aggregator_errors.specs.Differ.{UsesDiffer}
-use Rattle.wac_aggregator_taking.specs.Growing.{with_own, AreAllOpen}
-use Rattle.wac_aggregator_taking.specs.Takes.{AreKnown, AreNear, state_of}
+use Rattle.wac_aggregator_taking.specs.Growing.{with_own, AreAllOpen, put_keys}
+use Rattle.wac_aggregator_taking.specs.Takes.{AreKnown, AreNear, TakesBelow, TakesKeys, state_of}
 use Rattle.wac_aggregator_taking.specs.declared.state.Merging.{Merging}
 
 -- there is reason for the refusal
@@ -54,6 +55,14 @@ IsRefusedBy near f a ks e = e ≢ Memory → IsRefusal near f a ks e
 -- the same, where nothing is near
 abbrev pub MayRefuse : Collection → Merging → List Key → AggregateError → Type 0
 MayRefuse f a ks e = IsRefusedBy [] f a ks e
+
+-- what is answered where what ids name is taken in: that it is, or why it is refused
+abbrev pub AnswersKeys : {T : Type 0} → List Key → Collection → Merging → Merging → List Key → Result T AggregateError → Type 0
+AnswersKeys near f a b ks answer = MatchResult answer (λ _. TakesKeys near f a b ks (λ t. Unit {0})) (IsRefusedBy near f a ks)
+
+-- the same of what an entry names
+abbrev pub AnswersBelow : {T : Type 0} → List Key → Collection → Merging → Merging → Key → Result T AggregateError → Type 0
+AnswersBelow near f a b k answer = MatchResult answer (λ _. TakesBelow near f a b k) (IsRefusedBy near f a (k ∷ []))
 
 -- whatever entry uses these is refused
 abbrev pub AreRefusedUses : Collection → Merging → List (Text × UseContent) → AggregateError → Type 0
@@ -95,3 +104,11 @@ AreRefusedItems c es ts e = e ≢ Memory → IsItemsRefusal c es ts e
 -- the item is refused among whatever items are under its name what the interface exports there
 abbrev pub IsRefusedThere : Collection → Id → Text → ItemKind → AggregateError → Type 0
 IsRefusedThere c e n a r = (es : ExternKinds) → AllStand c (extern_keys es) → lookup bytes_eq es n ≡ lookup bytes_eq (exports_at c (interface_key e)) n → AreRefusedItems c es ((n, a) ∷ []) r
+
+-- the same of what an own interface exports
+abbrev pub AreRefusedOwn : Collection → Id → ExternKinds → AggregateError → Type 0
+AreRefusedOwn c own ts e = AreRefusedItems c (exports_at c (interface_key own)) ts e
+
+-- from what the interface would use and export a walk leads back to it, and the refusal says so
+abbrev pub IsCycleOf : Collection → List (Text × UseContent) → ExternKinds → Id → Text → AggregateError → Type 0
+IsCycleOf c us es own name e = e ≢ Memory → NamesReach c (put_keys us es) (interface_key own) × (said e ≡ Some (cycle name))

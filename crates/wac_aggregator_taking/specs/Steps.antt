@@ -3,7 +3,7 @@ use Rattle.std.specs.Prelude.{◌≡◌, ◌⊎◌, ◌++◌, ℕ, List, [], ◌
 use Rattle.std.specs.declared.vec.Vec.{Vec}
 use Rattle.std.specs.declared.alloc.Global.{Global}
 use Rattle.wac_component.specs.Collection.{Collection, AliasContent, UseContent}
-use Rattle.wac_component.specs.Entries.{uses_at, exports_at}
+use Rattle.wac_component.specs.Entries.{uses_at, exports_at, owner_at}
 use Rattle.wac_component.specs.EntryOrder.{HasOwn}
 use Rattle.wac_component.specs.Height.{keys_height}
 use Rattle.wac_component.specs.Id.{Id}
@@ -100,6 +100,10 @@ abbrev pub IsOwnerTold : Collection → Option Id → Option Id → State → Ty
 IsOwnerTold f owner None s = (own : Option Id) × IsTakenOwner f owner own s
 IsOwnerTold f owner (Some o) s = owner ≡ Some o
 
+-- the same of the owner of a resource
+abbrev pub IsResourceTold : Collection → Id → Option Id → State → Type 0
+IsResourceTold f r o s = IsOwnerTold f (owner_at f r) o s
+
 -- the ids of resources whose owners are owed, if any are
 abbrev pub owed_keys : Option (Vec Id Global) → List Key
 owed_keys None = []
@@ -141,6 +145,10 @@ pub record IsStepDue (f : Collection) (near ks : List Key) (a b : Merging) (s : 
 pub record AreRefusedFrom (f : Collection) (near ks : List Key) (a : Merging) (e : AggregateError) : Type 0 where
   pub refused : IsRefusedBy near f a ks e
   pub members : (i : Id) → ks ≡ interface_key i ∷ [] → (taken : TakenIds) → AreWit f (ReachesByUses f i) → HasTakenIn a taken → HasAllOf f a taken → IsMemberRefusal f (ReachesByUses f i) taken e
+
+-- what is answered between two steps: that they are under way, or why it is refused
+abbrev pub AnswersOnWay : {T : Type 0} → Collection → List Key → List Key → Merging → Merging → Result T AggregateError → Type 0
+AnswersOnWay f near ks a b answer = MatchResult answer (λ _. AreUnderWay f near ks a b) (AreRefusedFrom f near ks a)
 
 -- a turn from b to c, with these steps before and after it
 abbrev pub GoesOnTaking : {T : Type 0} → Collection → List Key → List Key → Merging → List TakeStep → Merging → List TakeStep → Result T AggregateError → Type 0

@@ -1,5 +1,5 @@
 -- What taking in does to the state of merging.
-use Rattle.std.specs.Prelude.{◌≡◌, ◌<◌, ◌⊎◌, ℕ, List, [], ◌∷◌, Contains, Option, Some, None, IsSome, map, slice_get}
+use Rattle.std.specs.Prelude.{◌≡◌, ◌<◌, ◌⊎◌, ℕ, Bool, IsTrue, List, [], ◌∷◌, Contains, Option, Some, None, IsSome, map, slice_get}
 use Rattle.std.specs.List.{flat_map}
 use Rattle.std.specs.Map.{lookup}
 use Rattle.std.specs.Option.{option_and_then}
@@ -7,10 +7,10 @@ use Rattle.wac_model.specs.Text.{Text}
 use Rattle.wac_component.specs.Collection.{Collection, AliasContent, UseContent, InterfaceContent, WorldContent}
 use Rattle.wac_component.specs.Entries.{identifier_at, owner_at}
 use Rattle.wac_component.specs.Growth.{Extends}
-use Rattle.wac_component.specs.Height.{height}
+use Rattle.wac_component.specs.Height.{height, keys_height}
 use Rattle.wac_component.specs.Id.{Id}
 use Rattle.wac_component.specs.Implicit.{HasIdentifier}
-use Rattle.wac_component.specs.Key.{Key, Each, Stands, AllStand, alias_keys, optional_keys, resource_key, interface_key, world_key}
+use Rattle.wac_component.specs.Key.{Key, Each, Stands, AllStand, alias_keys, item_keys, optional_keys, resource_key, interface_key, world_key}
 use Rattle.wac_component.specs.Open.{open_next, OpenReaches}
 use Rattle.wac_component.specs.Reach.{IsAmong}
 use Rattle.wac_component.specs.Tree.{root_name}
@@ -159,6 +159,26 @@ pub record TakesBy (near : List Key) (f : Collection) (a b : Merging) (top : ℕ
 abbrev pub Takes : Collection → Merging → Merging → ℕ → List Key → (State → Type 0) → Type 0
 Takes f a b top ks Holds = TakesBy [] f a b top ks Holds
 
+-- the entry of an id is taken in, from below its height
+abbrev pub TakesEntry : List Key → Collection → Merging → Merging → Key → (State → Type 0) → Type 0
+TakesEntry near f a b k Holds = TakesBy near f a b (height f k) (k ∷ []) Holds
+
+-- and becomes an own entry
+abbrev pub TakesEntryAs : Collection → Merging → Merging → Key → Key → Type 0
+TakesEntryAs f a b k own = TakesEntry [] f a b k (λ t. IsTakenKey class_of f t k own)
+
+-- what is named by ids is taken in, from below their height
+abbrev pub TakesKeys : List Key → Collection → Merging → Merging → List Key → (State → Type 0) → Type 0
+TakesKeys near f a b ks Holds = TakesBy near f a b (keys_height f ks) ks Holds
+
+-- those of an item are, and it becomes an own one
+abbrev pub TakesItemAs : List Key → Collection → Merging → Merging → ItemKind → ItemKind → Type 0
+TakesItemAs near f a b kind own = TakesKeys near f a b (item_keys kind) (λ t. IsTakenItem class_of f t kind own)
+
+-- or what it names is
+abbrev pub TakesBelow : List Key → Collection → Merging → Merging → Key → Type 0
+TakesBelow near f a b k = TakesEntry near f a b k (λ t. Unit {0})
+
 -- an own interface is imported for each id that leads to an owner with an identifier on its track
 abbrev pub ImportsOwnOwner : Merging → Merging → Id → Type 0
 ImportsOwnOwner a b own = (f : Collection) (ks : List Key) (from : Key) (n m : Text) → MayTake f a → IsAmong from ks → LeadsToOwner f from n
@@ -191,6 +211,10 @@ owners_keys f rs = flat_map (λ r. optional_keys (λ o. interface_key o ∷ []) 
 -- the owner of each of these resources was taken in, and is imported
 abbrev pub AreOwnersTaken : Collection → List Id → State → Type 0
 AreOwnersTaken f rs s = (r : Id) → Contains rs r → (o : Option Id) × IsTakenOwner f (owner_at f r) o s
+
+-- the owners of resources are taken in, if all of them may be told
+abbrev pub TakesOwners : Collection → Merging → Merging → List Id → Bool → Type 0
+TakesOwners f a b rs all = Takes f a b 0 (map resource_key rs) (λ t. IsTrue all → AreOwnersTaken f rs t)
 
 -- the own use is of what was taken in for the interface, which has an
 -- identifier, under the same name

@@ -4,14 +4,12 @@ ghost use Rattle.std.specs.Prelude.{◌≡◌, [], ◌∷◌, None, Some, MatchR
 ghost use Rattle.std.specs.Option.{option_map};
 ghost use Rattle.wac_component.specs.Content.{named, use_content};
 ghost use Rattle.wac_component.specs.Entries.{identifier_at};
-ghost use Rattle.wac_component.specs.Height.{height};
 ghost use Rattle.wac_component.specs.Key.{Stands, interface_key, world_key};
 ghost use Rattle.wac_names.specs.Class.{class_of};
-ghost use Rattle.wac_aggregator_narrowing.specs.Taking.{IsTakenKey};
 ghost use Rattle.wac_aggregator_promises.specs.Entries.{ReachesByUses};
 ghost use Rattle.wac_aggregator_taking.specs.Members.{AnswersMembers};
 ghost use Rattle.wac_aggregator_taking.specs.Refused.{MayRefuse};
-ghost use Rattle.wac_aggregator_taking.specs.Takes.{MayTake, MayPut, MayPutWorld, Takes, shared_in};
+ghost use Rattle.wac_aggregator_taking.specs.Takes.{TakesEntryAs, MayTake, MayPut, MayPutWorld, shared_in};
 
 use super::growing::merge_shared;
 use super::state::Merging;
@@ -35,7 +33,7 @@ pub(crate) fn put_interface(
     requires named { option_map string_bytes interface.id ≡ identifier_at types.now (interface_key id) }
     requires class { class ≡ option_map class_of (identifier_at types.now (interface_key id)) }
     requires taken { MayPut types.now state.old id (named use_content interface.uses.entries) (named (λ k. k) interface.exports.entries) }
-    ensures taken { MatchResult result (λ r. Takes types.now state.old state.new (height types.now (interface_key id)) (interface_key id ∷ []) (λ t. IsTakenKey class_of types.now t (interface_key id) (interface_key r))) (MayRefuse types.now state.old (interface_key id ∷ [])) }
+    ensures taken { MatchResult result (λ r. TakesEntryAs types.now state.old state.new (interface_key id) (interface_key r)) (MayRefuse types.now state.old (interface_key id ∷ [])) }
     ensures members { AnswersMembers result types.now state.old state.new (ReachesByUses types.now id) }
 {
     let Some(class) = class else {
@@ -70,7 +68,7 @@ pub(crate) fn put_plain(
     requires state { MayTake types.now state.old }
     requires plain { identifier_at types.now (interface_key id) ≡ None }
     requires taken { MayPut types.now state.old id (named use_content uses.entries) (named (λ k. k) exports.entries) }
-    ensures { MatchResult result (λ r. Takes types.now state.old state.new (height types.now (interface_key id)) (interface_key id ∷ []) (λ t. IsTakenKey class_of types.now t (interface_key id) (interface_key r))) (MayRefuse types.now state.old (interface_key id ∷ [])) }
+    ensures { MatchResult result (λ r. TakesEntryAs types.now state.old state.new (interface_key id) (interface_key r)) (MayRefuse types.now state.old (interface_key id ∷ [])) }
 {
     let own = state.types.add_interface(Interface {
         id: None,
@@ -95,7 +93,7 @@ pub(crate) fn put_shared(
     requires of { Some class ≡ option_map class_of (identifier_at types.now (interface_key id)) }
     requires new { shared_in state.old.shared.entries class ≡ None }
     requires taken { MayPut types.now state.old id (named use_content interface.uses.entries) (named (λ k. k) interface.exports.entries) }
-    ensures taken { MatchResult result (λ r. Takes types.now state.old state.new (height types.now (interface_key id)) (interface_key id ∷ []) (λ t. IsTakenKey class_of types.now t (interface_key id) (interface_key r))) (MayRefuse types.now state.old (interface_key id ∷ [])) }
+    ensures taken { MatchResult result (λ r. TakesEntryAs types.now state.old state.new (interface_key id) (interface_key r)) (MayRefuse types.now state.old (interface_key id ∷ [])) }
     ensures members { AnswersMembers result types.now state.old state.new (ReachesByUses types.now id) }
 {
     // A name stands once in a map, so that what stands under it is what a look-up finds.
@@ -117,7 +115,7 @@ pub(crate) fn put_world(
     requires stands { Stands types.now (world_key id) }
     requires state { MayTake types.now state.old }
     requires taken { MayPutWorld types.now state.old id (named use_content uses.entries) (named (λ k. k) exports.entries) }
-    ensures { MatchResult result (λ r. Takes types.now state.old state.new (height types.now (world_key id)) (world_key id ∷ []) (λ t. IsTakenKey class_of types.now t (world_key id) (world_key r))) (MayRefuse types.now state.old (world_key id ∷ [])) }
+    ensures { MatchResult result (λ r. TakesEntryAs types.now state.old state.new (world_key id) (world_key r)) (MayRefuse types.now state.old (world_key id ∷ [])) }
 {
     types.sound();
     let world = &types[id];

@@ -3,14 +3,13 @@
 ghost use Rattle.std.specs.Prelude.{◌≡◌, [], ◌∷◌, None, IsTrue, IfOk, OnOk, MatchResult};
 ghost use Rattle.wac_component.specs.Entries.{owner_at};
 ghost use Rattle.wac_component.specs.EntryOrder.{HasOwn};
-ghost use Rattle.wac_component.specs.Height.{height};
 ghost use Rattle.wac_component.specs.Key.{Each, Stands, next, defined_key, resource_key, func_key, module_key};
 ghost use Rattle.wac_component.specs.Memo.{memo_of};
 ghost use Rattle.wac_component.specs.Naming.{key_of};
 ghost use Rattle.wac_aggregator_taking.specs.Members.{AnswersMembers};
 ghost use Rattle.wac_aggregator_taking.specs.Refused.{MayRefuse};
 ghost use Rattle.wac_aggregator_taking.specs.Steps.{step_key, step_near, IsReachedFrom, ArePut, AreNext, IsOwnerTold, LacksSource};
-ghost use Rattle.wac_aggregator_taking.specs.Takes.{MayTake, Takes, state_of, IsOwnerImported, alias_at};
+ghost use Rattle.wac_aggregator_taking.specs.Takes.{TakesBelow, MayTake, Takes, state_of, IsOwnerImported, alias_at};
 
 use super::owners::{alias_of, import_owner_of};
 use super::ready::is_func_ready;
@@ -70,7 +69,7 @@ pub(crate) fn take_defined(
 ) -> Result<(), AggregateError>
     requires source { Stands types.now (defined_key id) }
     requires state { MayTake types.now state.old }
-    ensures taken { MatchResult result (λ u. Takes types.now state.old state.new (height types.now (defined_key id)) (defined_key id ∷ []) (λ t. Unit {0})) (MayRefuse types.now state.old (defined_key id ∷ [])) }
+    ensures taken { MatchResult result (λ u. TakesBelow [] types.now state.old state.new (defined_key id)) (MayRefuse types.now state.old (defined_key id ∷ [])) }
     ensures members { AnswersMembers result types.now state.old state.new (IsReachedFrom types.now (defined_key id)) }
     ensures steps { OnOk result (AreNext types.now state.new (defined_key id) None steps.old.items steps.new.items) }
 {
@@ -91,7 +90,7 @@ fn make_defined(state: &mut Merging, types: &Types, id: DefinedTypeId) -> Result
     requires state { MayTake types.now state.old }
     requires parts { Each (HasOwn (memo_of state.old.taken)) (next types.now (defined_key id)) }
     requires new { memo_of state.old.taken (defined_key id) ≡ None }
-    ensures { MatchResult result (λ u. Takes types.now state.old state.new (height types.now (defined_key id)) (defined_key id ∷ []) (λ t. Unit {0})) (MayRefuse types.now state.old (defined_key id ∷ [])) }
+    ensures { MatchResult result (λ u. TakesBelow [] types.now state.old state.new (defined_key id)) (MayRefuse types.now state.old (defined_key id ∷ [])) }
 {
     types.sound();
     let renamed = state.taken.renamed_defined(&types[id])?;
@@ -109,7 +108,7 @@ pub(crate) fn take_func(
 ) -> Result<(), AggregateError>
     requires source { Stands types.now (func_key id) }
     requires state { MayTake types.now state.old }
-    ensures taken { MatchResult result (λ u. Takes types.now state.old state.new (height types.now (func_key id)) (func_key id ∷ []) (λ t. Unit {0})) (MayRefuse types.now state.old (func_key id ∷ [])) }
+    ensures taken { MatchResult result (λ u. TakesBelow [] types.now state.old state.new (func_key id)) (MayRefuse types.now state.old (func_key id ∷ [])) }
     ensures members { AnswersMembers result types.now state.old state.new (IsReachedFrom types.now (func_key id)) }
     ensures steps { OnOk result (AreNext types.now state.new (func_key id) None steps.old.items steps.new.items) }
 {
@@ -136,7 +135,7 @@ pub(crate) fn make_func(
     requires state { MayTake types.now state.old }
     requires parts { Each (HasOwn (memo_of state.old.taken)) (next types.now (func_key id)) }
     requires new { memo_of state.old.taken (func_key id) ≡ None }
-    ensures { OnOk result (Takes types.now state.old state.new (height types.now (func_key id)) (func_key id ∷ []) (λ t. Unit {0})) }
+    ensures { OnOk result (TakesBelow [] types.now state.old state.new (func_key id)) }
 {
     types.sound();
     let renamed = state.taken.renamed_func(&types[id])?;
@@ -154,7 +153,7 @@ pub(crate) fn take_resource(
 ) -> Result<(), AggregateError>
     requires source { Stands types.now (resource_key id) }
     requires state { MayTake types.now state.old }
-    ensures taken { MatchResult result (λ u. Takes types.now state.old state.new (height types.now (resource_key id)) (resource_key id ∷ []) (λ t. Unit {0})) (MayRefuse types.now state.old (resource_key id ∷ [])) }
+    ensures taken { MatchResult result (λ u. TakesBelow [] types.now state.old state.new (resource_key id)) (MayRefuse types.now state.old (resource_key id ∷ [])) }
     ensures members { AnswersMembers result types.now state.old state.new (IsReachedFrom types.now (resource_key id)) }
     ensures steps { OnOk result (AreNext types.now state.new (resource_key id) None steps.old.items steps.new.items) }
 {
@@ -183,7 +182,7 @@ fn take_source(
     requires state { MayTake types.now state.old }
     requires owner { IsOwnerTold types.now (owner_at types.now id) None (state_of state.old) }
     requires new { memo_of state.old.taken (resource_key id) ≡ None }
-    ensures taken { MatchResult result (λ u. Takes types.now state.old state.new (height types.now (resource_key id)) (resource_key id ∷ []) (λ t. Unit {0})) (MayRefuse types.now state.old (resource_key id ∷ [])) }
+    ensures taken { MatchResult result (λ u. TakesBelow [] types.now state.old state.new (resource_key id)) (MayRefuse types.now state.old (resource_key id ∷ [])) }
     ensures members { AnswersMembers result types.now state.old state.new (IsReachedFrom types.now (resource_key id)) }
     ensures steps { OnOk result (AreNext types.now state.new (resource_key id) None steps.old.items steps.new.items) }
 {
@@ -218,7 +217,7 @@ fn make_resource(state: &mut Merging, types: &Types, id: ResourceId) -> Result<(
     requires parts { Each (HasOwn (memo_of state.old.taken)) (next types.now (resource_key id)) }
     requires owner { IsOwnerImported types.now (state_of state.old) (owner_at types.now id) }
     requires new { memo_of state.old.taken (resource_key id) ≡ None }
-    ensures { MatchResult result (λ u. Takes types.now state.old state.new (height types.now (resource_key id)) (resource_key id ∷ []) (λ t. Unit {0})) (MayRefuse types.now state.old (resource_key id ∷ [])) }
+    ensures { MatchResult result (λ u. TakesBelow [] types.now state.old state.new (resource_key id)) (MayRefuse types.now state.old (resource_key id ∷ [])) }
 {
     types.sound();
     let renamed = state.taken.renamed_resource(&types[id])?;
@@ -235,7 +234,7 @@ pub(crate) fn take_module(
 ) -> Result<(), AggregateError>
     requires source { Stands types.now (module_key id) }
     requires state { MayTake types.now state.old }
-    ensures taken { MatchResult result (λ u. Takes types.now state.old state.new (height types.now (module_key id)) (module_key id ∷ []) (λ t. Unit {0})) (MayRefuse types.now state.old (module_key id ∷ [])) }
+    ensures taken { MatchResult result (λ u. TakesBelow [] types.now state.old state.new (module_key id)) (MayRefuse types.now state.old (module_key id ∷ [])) }
     ensures members { AnswersMembers result types.now state.old state.new (IsReachedFrom types.now (module_key id)) }
 {
     if state.taken.module(id).is_some() {

@@ -1,24 +1,18 @@
 //! Shared entries that grow.
 
-ghost use Rattle.std.specs.Prelude.{◌≡◌, ◌≢◌, [], ◌∷◌, ◌++◌, Some, IfErr, IfOk, MatchResult, OnOk, string_bytes};
+ghost use Rattle.std.specs.Prelude.{◌≡◌, [], ◌∷◌, Some, IfErr, IfOk, MatchResult, OnOk, string_bytes};
 ghost use Rattle.wac_model.specs.Text.{Text};
 ghost use Rattle.wac_component.specs.Content.{named, use_content};
 ghost use Rattle.wac_component.specs.Entries.{identifier_at};
-ghost use Rattle.wac_component.specs.Height.{height};
 ghost use Rattle.wac_component.specs.Key.{Stands, AllStand, item_keys, interface_key, named_keys, use_keys};
-ghost use Rattle.wac_component.specs.Replacing.{NamesReach};
 ghost use Rattle.wac_aggregator_promises.specs.Entries.{ReachesByUses};
-ghost use Rattle.wac_aggregator_promises.specs.Reason.{cycle as closes};
-ghost use Rattle.wac_aggregator_errors.specs.declared.error.AggregateError.TheVariants.{Memory};
 ghost use Rattle.wac_merge.specs.Items.{AreUnhidden, extern_keys, extern_list};
 ghost use Rattle.wac_merge.specs.Reads.{exports_at};
 ghost use Rattle.wac_names.specs.Class.{class_of};
-ghost use Rattle.wac_aggregator_narrowing.specs.Taking.{IsTakenKey};
-ghost use Rattle.wac_aggregator_taking.specs.Growing.{IsOwnMeet, AreMetWith, IsMetThere, AreAllPut, with_put, IsGrownBy};
+ghost use Rattle.wac_aggregator_taking.specs.Growing.{AreMetInto, IsOwnMeet, IsMetThere, AreAllPut, with_put, IsGrownBy};
 ghost use Rattle.wac_aggregator_taking.specs.Members.{AnswersMembers};
-ghost use Rattle.wac_aggregator_errors.specs.Said.{said};
-ghost use Rattle.wac_aggregator_taking.specs.Refused.{MayRefuse, IsMergeRefusal, AreRefusedItems, IsRefusedThere};
-ghost use Rattle.wac_aggregator_taking.specs.Takes.{MayTake, MayPut, Takes, shared_in};
+ghost use Rattle.wac_aggregator_taking.specs.Refused.{IsCycleOf, AreRefusedOwn, MayRefuse, IsMergeRefusal, IsRefusedThere};
+ghost use Rattle.wac_aggregator_taking.specs.Takes.{TakesEntryAs, MayTake, MayPut, shared_in};
 
 use super::identity::identifier;
 use super::meeting::meet_own;
@@ -87,7 +81,7 @@ pub(crate) fn merge_shared(
     requires state { MayTake types.now state.old }
     requires shared { (name : Text) × (identifier_at types.now (interface_key id) ≡ Some name) × (shared_in state.old.shared.entries (class_of name) ≡ Some own) }
     requires taken { MayPut types.now state.old id (named use_content uses.entries) (named (λ k. k) exports.now.entries) }
-    ensures taken { MatchResult result (λ r. Takes types.now state.old state.new (height types.now (interface_key id)) (interface_key id ∷ []) (λ t. IsTakenKey class_of types.now t (interface_key id) (interface_key r))) (MayRefuse types.now state.old (interface_key id ∷ [])) }
+    ensures taken { MatchResult result (λ r. TakesEntryAs types.now state.old state.new (interface_key id) (interface_key r)) (MayRefuse types.now state.old (interface_key id ∷ [])) }
     ensures members { AnswersMembers result types.now state.old state.new (ReachesByUses types.now id) }
 {
     if serves(state.alloc(), &state.types, own, &uses, exports) {
@@ -113,7 +107,7 @@ fn grow(
     requires identified { identifier_at types.now (interface_key id) ≡ Some (string_bytes name) }
     requires shared { shared_in state.old.shared.entries (class_of (string_bytes name)) ≡ Some own }
     requires taken { MayPut types.now state.old id (named use_content uses.entries) (named (λ k. k) exports.now.entries) }
-    ensures taken { MatchResult result (λ r. Takes types.now state.old state.new (height types.now (interface_key id)) (interface_key id ∷ []) (λ t. IsTakenKey class_of types.now t (interface_key id) (interface_key r))) (MayRefuse types.now state.old (interface_key id ∷ [])) }
+    ensures taken { MatchResult result (λ r. TakesEntryAs types.now state.old state.new (interface_key id) (interface_key r)) (MayRefuse types.now state.old (interface_key id ∷ [])) }
     ensures members { AnswersMembers result types.now state.old state.new (ReachesByUses types.now id) }
 {
     let alloc = state.alloc();
@@ -138,7 +132,7 @@ fn met_exports(
 ) -> Result<IndexMap<String, ItemKind>, AggregateError>
     requires own { Stands types.old (interface_key own) }
     requires new { AllStand types.old (extern_keys (extern_list exports.now)) }
-    ensures met { MatchResult result (λ m. AreMetWith types.old types.new (exports_at types.old (interface_key own)) (extern_list exports.now) (with_put (exports_at types.old (interface_key own)) (extern_list m))) (AreRefusedItems types.old (exports_at types.old (interface_key own)) (extern_list exports.now)) }
+    ensures met { MatchResult result (λ m. AreMetInto types.old types.new own (extern_list exports.now) (extern_list m)) (AreRefusedOwn types.old own (extern_list exports.now)) }
     ensures found { AreUnhidden (extern_list exports.now) }
     ensures put { IfOk result (λ m. AreAllPut (exports_at types.old (interface_key own)) (extern_list m)) }
 {
@@ -183,7 +177,7 @@ fn put_grown(
     requires uses { AllStand types.old (named_keys use_keys (named use_content uses.entries)) }
     requires exports { AllStand types.old (extern_keys (extern_list exports.now)) }
     ensures grown { OnOk result (IsGrownBy types.old own (named use_content uses.entries) (extern_list exports.now) types.new) }
-    ensures cycle { IfErr result (λ e. e ≢ Memory → NamesReach types.old (named_keys use_keys (named use_content uses.entries) ++ extern_keys (extern_list exports.now)) (interface_key own) × (said e ≡ Some (closes (string_bytes interface)))) }
+    ensures cycle { IfErr result (IsCycleOf types.old (named use_content uses.entries) (extern_list exports.now) own (string_bytes interface)) }
 {
     types.sound();
     let ids = contents_ids(*uses.allocator(), &uses, exports)?;

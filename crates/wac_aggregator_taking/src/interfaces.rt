@@ -4,14 +4,13 @@ ghost use Rattle.std.specs.Prelude.{◌≡◌, ◌<◌, [], ◌∷◌, None, Som
 ghost use Rattle.std.specs.Option.{option_map};
 ghost use Rattle.wac_component.specs.Content.{named, types_of, use_content};
 ghost use Rattle.wac_component.specs.EntryOrder.{HasOwn};
-ghost use Rattle.wac_component.specs.Height.{height};
 ghost use Rattle.wac_component.specs.Key.{Each, Stands, AllStand, item_keys, named_keys, use_keys, interface_key};
 ghost use Rattle.wac_component.specs.Memo.{memo_of};
 ghost use Rattle.wac_aggregator_promises.specs.Entries.{ReachesByUses};
 ghost use Rattle.wac_aggregator_taking.specs.Members.{AnswersMembers};
-ghost use Rattle.wac_aggregator_taking.specs.Refused.{AreRefusedUses, MayRefuse, IsRefusedBy, IsUnidentified, SaysOfUse};
+ghost use Rattle.wac_aggregator_taking.specs.Refused.{AnswersBelow, AreRefusedUses, MayRefuse, IsUnidentified, SaysOfUse};
 ghost use Rattle.wac_aggregator_taking.specs.Steps.{IsReachedFrom, AreNext, IsUseNoted, AreUsesNoted, AreContentsNoted};
-ghost use Rattle.wac_aggregator_taking.specs.Takes.{MayTake, IsNear, near_keys, TakesBy, Takes};
+ghost use Rattle.wac_aggregator_taking.specs.Takes.{TakesBelow, MayTake, IsNear, near_keys, Takes};
 ghost use Rattle.wac_aggregator_taking.specs.declared.state.Merging.{Merging};
 
 use super::entering::put_interface;
@@ -40,7 +39,7 @@ pub(crate) fn take_uses(
     requires source { Stands types.now (interface_key id) }
     requires state { MayTake types.now state.old }
     requires near { IsNear state.old near.now }
-    ensures taken { MatchResult result (λ u. TakesBy (near_keys near.now) types.now state.old state.new (height types.now (interface_key id)) (interface_key id ∷ []) (λ t. Unit {0})) (IsRefusedBy (near_keys near.now) types.now state.old (interface_key id ∷ [])) }
+    ensures taken { AnswersBelow (near_keys near.now) types.now state.old state.new (interface_key id) result }
     ensures members { AnswersMembers result types.now state.old state.new (IsReachedFrom types.now (interface_key id)) }
     ensures steps { OnOk result (AreNext types.now state.new (interface_key id) near.now steps.old.items steps.new.items) }
 {
@@ -116,7 +115,7 @@ pub(crate) fn take_exports(
     requires source { Stands types.now (interface_key id) }
     requires state { MayTake types.now state.old }
     requires near { IsNear state.old near.now }
-    ensures taken { MatchResult result (λ u. TakesBy (near_keys near.now) types.now state.old state.new (height types.now (interface_key id)) (interface_key id ∷ []) (λ t. Unit {0})) (IsRefusedBy (near_keys near.now) types.now state.old (interface_key id ∷ [])) }
+    ensures taken { AnswersBelow (near_keys near.now) types.now state.old state.new (interface_key id) result }
     ensures members { AnswersMembers result types.now state.old state.new (IsReachedFrom types.now (interface_key id)) }
     ensures steps { OnOk result (AreNext types.now state.new (interface_key id) near.now steps.old.items steps.new.items) }
 {
@@ -185,7 +184,7 @@ fn make_interface(state: &mut Merging, types: &Types, id: InterfaceId) -> Result
     requires state { MayTake types.now state.old }
     requires new { memo_of state.old.taken (interface_key id) ≡ None }
     requires has { AreContentsNoted types.now (memo_of state.old.taken) (interface_key id) }
-    ensures taken { MatchResult result (λ u. Takes types.now state.old state.new (height types.now (interface_key id)) (interface_key id ∷ []) (λ t. Unit {0})) (MayRefuse types.now state.old (interface_key id ∷ [])) }
+    ensures taken { MatchResult result (λ u. TakesBelow [] types.now state.old state.new (interface_key id)) (MayRefuse types.now state.old (interface_key id ∷ [])) }
     ensures members { AnswersMembers result types.now state.old state.new (ReachesByUses types.now id) }
 {
     types.sound();

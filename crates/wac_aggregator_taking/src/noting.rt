@@ -1,12 +1,11 @@
 //! Types that an interface exports like the near one, which are taken for that one's.
 
-ghost use Rattle.std.specs.Prelude.{[], ◌∷◌, Some, IfErr, IfOk, IfSome, OnOk, MatchResult};
-ghost use Rattle.wac_component.specs.Height.{height, keys_height};
+ghost use Rattle.std.specs.Prelude.{[], ◌∷◌, Some, IfErr, IfOk, IfSome, OnOk};
 ghost use Rattle.wac_component.specs.Key.{Each, Stands, AllStand, item_keys, optional_keys, defined_key, resource_key, interface_key};
 ghost use Rattle.wac_aggregator_taking.specs.Members.{AnswersMembers};
-ghost use Rattle.wac_aggregator_taking.specs.Refused.{IsRefusedBy, IsUnidentified};
+ghost use Rattle.wac_aggregator_taking.specs.Refused.{AnswersBelow, AnswersKeys, IsUnidentified};
 ghost use Rattle.wac_aggregator_taking.specs.Steps.{IsReachedFrom, ArePut, AreNext, owed_keys};
-ghost use Rattle.wac_aggregator_taking.specs.Takes.{MayTake, IsNear, IsOwnEntry, AreWithin, OnlyGrows, near_keys, TakesBy};
+ghost use Rattle.wac_aggregator_taking.specs.Takes.{MayTake, IsNear, IsOwnEntry, AreWithin, OnlyGrows, near_keys};
 
 use super::near::{near_export, nth_extern};
 use super::owners::{import_owners, push_owners};
@@ -30,7 +29,7 @@ pub(crate) fn take_alike(
     requires source { Stands types.now (interface_key id) }
     requires state { MayTake types.now state.old }
     requires near { IsNear state.old (Some near) }
-    ensures taken { MatchResult result (λ u. TakesBy (near_keys (Some near)) types.now state.old state.new (height types.now (interface_key id)) (interface_key id ∷ []) (λ t. Unit {0})) (IsRefusedBy (near_keys (Some near)) types.now state.old (interface_key id ∷ [])) }
+    ensures taken { AnswersBelow (near_keys (Some near)) types.now state.old state.new (interface_key id) result }
     ensures members { AnswersMembers result types.now state.old state.new (IsReachedFrom types.now (interface_key id)) }
     ensures steps { OnOk result (AreNext types.now state.new (interface_key id) (Some near) steps.old.items steps.new.items) }
 {
@@ -80,7 +79,7 @@ fn note_alike(
     requires source { AllStand types.now (item_keys kind) }
     requires state { MayTake types.now state.old }
     requires own { IfSome own (λ k. Each (IsOwnEntry state.old) (item_keys k)) }
-    ensures taken { MatchResult result (λ o. TakesBy (optional_keys item_keys own) types.now state.old state.new (keys_height types.now (item_keys kind)) (item_keys kind) (λ t. Unit {0})) (IsRefusedBy (optional_keys item_keys own) types.now state.old (item_keys kind)) }
+    ensures taken { AnswersKeys (optional_keys item_keys own) types.now state.old state.new (item_keys kind) result }
     ensures grows { OnOk result (OnlyGrows types.now state.old state.new) }
     ensures unidentified { IfErr result IsUnidentified }
     ensures owed { IfOk result (λ o. AreWithin types.now (owed_keys o) (item_keys kind)) }
@@ -107,7 +106,7 @@ fn note_resource(
     requires source { Stands types.now (resource_key id) }
     requires state { MayTake types.now state.old }
     requires own { IsOwnEntry state.old (resource_key own) }
-    ensures taken { MatchResult result (λ o. TakesBy (resource_key own ∷ []) types.now state.old state.new (height types.now (resource_key id)) (resource_key id ∷ []) (λ t. Unit {0})) (IsRefusedBy (resource_key own ∷ []) types.now state.old (resource_key id ∷ [])) }
+    ensures taken { AnswersBelow (resource_key own ∷ []) types.now state.old state.new (resource_key id) result }
     ensures grows { OnOk result (OnlyGrows types.now state.old state.new) }
     ensures unidentified { IfErr result IsUnidentified }
     ensures owed { IfOk result (λ o. AreWithin types.now (owed_keys o) (resource_key id ∷ [])) }
@@ -140,7 +139,7 @@ fn note_defined(
     requires source { Stands types.now (defined_key id) }
     requires state { MayTake types.now state.old }
     requires own { IsOwnEntry state.old (defined_key own) }
-    ensures taken { MatchResult result (λ o. TakesBy (defined_key own ∷ []) types.now state.old state.new (height types.now (defined_key id)) (defined_key id ∷ []) (λ t. Unit {0})) (IsRefusedBy (defined_key own ∷ []) types.now state.old (defined_key id ∷ [])) }
+    ensures taken { AnswersBelow (defined_key own ∷ []) types.now state.old state.new (defined_key id) result }
     ensures grows { OnOk result (OnlyGrows types.now state.old state.new) }
     ensures unidentified { IfErr result IsUnidentified }
     ensures owed { IfOk result (λ o. AreWithin types.now (owed_keys o) (defined_key id ∷ [])) }

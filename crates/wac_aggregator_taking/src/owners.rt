@@ -1,17 +1,16 @@
 //! The owners of resources.
 
-ghost use Rattle.std.specs.Prelude.{◌≡◌, ◌<◌, [], ◌∷◌, None, Some, IsTrue, IfOk, IfErr, OnOk, IfSome, MatchResult, length, map, slice_get};
+ghost use Rattle.std.specs.Prelude.{◌≡◌, ◌<◌, [], ◌∷◌, None, Some, IfOk, IfErr, OnOk, IfSome, MatchResult, length, map, slice_get};
 ghost use Rattle.std.specs.Option.{option_map};
 ghost use Rattle.wac_component.specs.Content.{alias_content};
 ghost use Rattle.wac_component.specs.Entries.{owner_at};
-ghost use Rattle.wac_component.specs.Height.{height};
 ghost use Rattle.wac_component.specs.Key.{AllStand, Stands, interface_key, resource_key};
 ghost use Rattle.wac_component.specs.Reach.{IsAmong};
 ghost use Rattle.wac_aggregator_narrowing.specs.State.{IsStateKept};
 ghost use Rattle.wac_aggregator_taking.specs.Members.{AnswersMembers};
 ghost use Rattle.wac_aggregator_taking.specs.Refused.{MayRefuse, IsUnidentified};
-ghost use Rattle.wac_aggregator_taking.specs.Steps.{IsReachedFrom, ArePut, AreNext, ImportsOnly, IsOwnerTold};
-ghost use Rattle.wac_aggregator_taking.specs.Takes.{ImportsOwnOwner, shared_keys, state_of, MayTake, Takes, AreOwnersTaken, alias_at};
+ghost use Rattle.wac_aggregator_taking.specs.Steps.{IsResourceTold, IsReachedFrom, ArePut, AreNext, ImportsOnly};
+ghost use Rattle.wac_aggregator_taking.specs.Takes.{TakesOwners, TakesBelow, ImportsOwnOwner, shared_keys, state_of, MayTake, Takes, alias_at};
 
 use super::state::Merging;
 use super::steps::{TakeStep, push_before, push_step};
@@ -72,7 +71,7 @@ pub(crate) fn import_owner_of(
 ) -> Result<Option<InterfaceId>, AggregateError>
     requires source { Stands types.now (resource_key id) }
     requires state { MayTake types.now state.old }
-    ensures taken { MatchResult result (λ r. Takes types.now state.old state.new 0 (resource_key id ∷ []) (IsOwnerTold types.now (owner_at types.now id) r)) (MayRefuse types.now state.old (resource_key id ∷ [])) }
+    ensures taken { MatchResult result (λ r. Takes types.now state.old state.new 0 (resource_key id ∷ []) (IsResourceTold types.now id r)) (MayRefuse types.now state.old (resource_key id ∷ [])) }
     ensures unidentified { IfErr result IsUnidentified }
     ensures others { ImportsOnly state.old state.new }
 {
@@ -98,7 +97,7 @@ pub(crate) fn import_owners(
 ) -> Result<bool, AggregateError>
     requires source { AllStand types.now (map resource_key resources.now.items) }
     requires state { MayTake types.now state.old }
-    ensures taken { MatchResult result (λ all. Takes types.now state.old state.new 0 (map resource_key resources.now.items) (λ t. IsTrue all → AreOwnersTaken types.now resources.now.items t)) (MayRefuse types.now state.old (map resource_key resources.now.items)) }
+    ensures taken { MatchResult result (λ all. TakesOwners types.now state.old state.new resources.now.items all) (MayRefuse types.now state.old (map resource_key resources.now.items)) }
     ensures unidentified { IfErr result IsUnidentified }
     ensures others { ImportsOnly state.old state.new }
 {
@@ -124,7 +123,7 @@ pub(crate) fn take_owner(
 ) -> Result<(), AggregateError>
     requires source { Stands types.now (resource_key id) }
     requires state { MayTake types.now state.old }
-    ensures taken { MatchResult result (λ u. Takes types.now state.old state.new (height types.now (resource_key id)) (resource_key id ∷ []) (λ t. Unit {0})) (MayRefuse types.now state.old (resource_key id ∷ [])) }
+    ensures taken { MatchResult result (λ u. TakesBelow [] types.now state.old state.new (resource_key id)) (MayRefuse types.now state.old (resource_key id ∷ [])) }
     ensures members { AnswersMembers result types.now state.old state.new (IsReachedFrom types.now (resource_key id)) }
     ensures steps { OnOk result (AreNext types.now state.new (resource_key id) None steps.old.items steps.new.items) }
 {

@@ -1,12 +1,12 @@
 //! What needs no step: all that is named was taken in, or is made at once.
 
-ghost use Rattle.std.specs.Prelude.{◌<◌, [], ◌∷◌, IsTrue, OnOk};
+ghost use Rattle.std.specs.Prelude.{◌<◌, [], IsTrue, OnOk};
 ghost use Rattle.wac_component.specs.Content.{named};
 ghost use Rattle.wac_component.specs.EntryOrder.{HasOwn};
-ghost use Rattle.wac_component.specs.Height.{height, keys_height};
+ghost use Rattle.wac_component.specs.Height.{keys_height};
 ghost use Rattle.wac_component.specs.Key.{Each, Stands, AllStand, item_keys, value_keys, named_keys, next, func_key};
 ghost use Rattle.wac_component.specs.Memo.{memo_of};
-ghost use Rattle.wac_aggregator_taking.specs.Takes.{MayTake, Takes, OnlyGrows};
+ghost use Rattle.wac_aggregator_taking.specs.Takes.{TakesKeys, TakesBelow, MayTake, Takes, OnlyGrows};
 
 use super::entries::make_func;
 use super::near::nth_extern;
@@ -25,7 +25,7 @@ pub(crate) fn take_ready(
 ) -> Result<usize, AllocError>
     requires source { AllStand types.now (named_keys item_keys (named (λ k. k) externs.now.entries)) }
     requires state { MayTake types.now state.old }
-    ensures taken { OnOk result (Takes types.now state.old state.new (keys_height types.now (named_keys item_keys (named (λ k. k) externs.now.entries))) (named_keys item_keys (named (λ k. k) externs.now.entries)) (λ t. Unit {0})) }
+    ensures taken { OnOk result (TakesKeys [] types.now state.old state.new (named_keys item_keys (named (λ k. k) externs.now.entries)) (λ t. Unit {0})) }
     ensures grows { OnOk result (OnlyGrows types.now state.old state.new) }
 {
     for i in next..externs.len() {
@@ -57,7 +57,7 @@ pub(crate) fn is_func_ready(
 ) -> Result<bool, AllocError>
     requires source { Stands types.now (func_key id) }
     requires state { MayTake types.now state.old }
-    ensures taken { OnOk result (Takes types.now state.old state.new (height types.now (func_key id)) (func_key id ∷ []) (λ t. Unit {0})) }
+    ensures taken { OnOk result (TakesBelow [] types.now state.old state.new (func_key id)) }
     ensures grows { OnOk result (OnlyGrows types.now state.old state.new) }
 {
     if state.taken.func(id).is_some() {

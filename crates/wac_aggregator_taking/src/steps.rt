@@ -2,19 +2,16 @@
 
 ghost use Rattle.std.specs.Prelude.{◌≡◌, ◌++◌, ◌⊎◌, [], ◌∷◌, All, None, map, IsTrue, IfOk, IfSome, OnOk, MatchResult};
 ghost use Rattle.wac_component.specs.EntryOrder.{HasOwn};
-ghost use Rattle.wac_component.specs.Height.{height, keys_height};
 ghost use Rattle.wac_component.specs.Id.{Id};
 ghost use Rattle.wac_component.specs.Key.{Each, AllStand, item_keys, value_keys, interface_key};
 ghost use Rattle.wac_component.specs.Memo.{memo_of};
 ghost use Rattle.wac_component.specs.Naming.{key_of};
 ghost use Rattle.wac_component.specs.declared.items.ItemKind.TheVariants.{Instance};
 ghost use Rattle.wac_aggregator_promises.specs.Entries.{ReachesByUses};
-ghost use Rattle.wac_names.specs.Class.{class_of};
-ghost use Rattle.wac_aggregator_narrowing.specs.Taking.{IsTakenItem};
 ghost use Rattle.wac_aggregator_taking.specs.Members.{AnswersMembers};
-ghost use Rattle.wac_aggregator_taking.specs.Refused.{IsRefusedBy};
-ghost use Rattle.wac_aggregator_taking.specs.Steps.{step_key, step_near, MayStep, IsReachedFrom, IsStepOf, ArePut, AreNext, AreUnderWay, AreRefusedFrom, GoesOnTaking};
-ghost use Rattle.wac_aggregator_taking.specs.Takes.{MayTake, IsNear, near_keys, TakesBy};
+ghost use Rattle.wac_aggregator_taking.specs.Refused.{AnswersBelow, IsRefusedBy};
+ghost use Rattle.wac_aggregator_taking.specs.Steps.{AnswersOnWay, step_key, step_near, MayStep, IsReachedFrom, IsStepOf, ArePut, AreNext, GoesOnTaking};
+ghost use Rattle.wac_aggregator_taking.specs.Takes.{TakesItemAs, MayTake, IsNear, near_keys};
 
 use super::entries::{take_defined, take_func, take_module, take_resource};
 use super::interfaces::{take_exports, take_uses};
@@ -64,7 +61,7 @@ pub fn take_item(
     requires source { AllStand types.now (item_keys kind) }
     requires state { MayTake types.now state.old }
     requires near { IsNear state.old near }
-    ensures taken { MatchResult result (λ k. TakesBy (near_keys near) types.now state.old state.new (keys_height types.now (item_keys kind)) (item_keys kind) (λ t. IsTakenItem class_of types.now t kind k)) (IsRefusedBy (near_keys near) types.now state.old (item_keys kind)) }
+    ensures taken { MatchResult result (λ k. TakesItemAs (near_keys near) types.now state.old state.new kind k) (IsRefusedBy (near_keys near) types.now state.old (item_keys kind)) }
     ensures members { (i : Id) → kind ≡ Instance i → AnswersMembers result types.now state.old state.new (ReachesByUses types.now i) }
 {
     let mut steps = Vec::new(state.alloc());
@@ -85,7 +82,7 @@ fn take_steps(
     requires state { MayTake types.now state.old }
     requires near { IsNear state.old near.now }
     requires no_steps { steps.old.items ≡ [] }
-    ensures way { MatchResult result (λ u. AreUnderWay types.now (near_keys near.now) (item_keys kind.now) state.old state.new) (AreRefusedFrom types.now (near_keys near.now) (item_keys kind.now) state.old) }
+    ensures way { AnswersOnWay types.now (near_keys near.now) (item_keys kind.now) state.old state.new result }
     ensures has { OnOk result (Each (HasOwn (memo_of state.new.taken)) (item_keys kind.now)) }
 {
     types.sound();
@@ -154,7 +151,7 @@ fn take_step(
 ) -> Result<(), AggregateError>
     requires step { MayStep types.now state.old step }
     requires state { MayTake types.now state.old }
-    ensures taken { MatchResult result (λ u. TakesBy (near_keys (step_near step)) types.now state.old state.new (height types.now (step_key step)) (step_key step ∷ []) (λ t. Unit {0})) (IsRefusedBy (near_keys (step_near step)) types.now state.old (step_key step ∷ [])) }
+    ensures taken { AnswersBelow (near_keys (step_near step)) types.now state.old state.new (step_key step) result }
     ensures members { AnswersMembers result types.now state.old state.new (IsReachedFrom types.now (step_key step)) }
     ensures steps { OnOk result (AreNext types.now state.new (step_key step) (step_near step) steps.old.items steps.new.items) }
 {

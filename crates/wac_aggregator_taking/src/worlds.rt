@@ -1,13 +1,12 @@
 //! Worlds: taken in once what they use and export was.
 
 ghost use Rattle.std.specs.Prelude.{◌≡◌, [], ◌∷◌, None, OnOk, MatchResult};
-ghost use Rattle.wac_component.specs.Height.{height};
 ghost use Rattle.wac_component.specs.Key.{Stands, world_key};
 ghost use Rattle.wac_component.specs.Memo.{memo_of};
 ghost use Rattle.wac_aggregator_taking.specs.Members.{AnswersMembers};
 ghost use Rattle.wac_aggregator_taking.specs.Refused.{MayRefuse};
 ghost use Rattle.wac_aggregator_taking.specs.Steps.{IsReachedFrom, AreNext, AreContentsNoted};
-ghost use Rattle.wac_aggregator_taking.specs.Takes.{MayTake, Takes};
+ghost use Rattle.wac_aggregator_taking.specs.Takes.{TakesBelow, MayTake, Takes};
 
 use super::entering::put_world;
 use super::interfaces::{has_contents, used_at};
@@ -28,7 +27,7 @@ pub(crate) fn take_world_uses(
 ) -> Result<(), AggregateError>
     requires source { Stands types.now (world_key id) }
     requires state { MayTake types.now state.old }
-    ensures taken { MatchResult result (λ u. Takes types.now state.old state.new (height types.now (world_key id)) (world_key id ∷ []) (λ t. Unit {0})) (MayRefuse types.now state.old (world_key id ∷ [])) }
+    ensures taken { MatchResult result (λ u. TakesBelow [] types.now state.old state.new (world_key id)) (MayRefuse types.now state.old (world_key id ∷ [])) }
     ensures members { AnswersMembers result types.now state.old state.new (IsReachedFrom types.now (world_key id)) }
     ensures steps { OnOk result (AreNext types.now state.new (world_key id) None steps.old.items steps.new.items) }
 {
@@ -57,7 +56,7 @@ pub(crate) fn take_world_exports(
 ) -> Result<(), AggregateError>
     requires source { Stands types.now (world_key id) }
     requires state { MayTake types.now state.old }
-    ensures taken { MatchResult result (λ u. Takes types.now state.old state.new (height types.now (world_key id)) (world_key id ∷ []) (λ t. Unit {0})) (MayRefuse types.now state.old (world_key id ∷ [])) }
+    ensures taken { MatchResult result (λ u. TakesBelow [] types.now state.old state.new (world_key id)) (MayRefuse types.now state.old (world_key id ∷ [])) }
     ensures members { AnswersMembers result types.now state.old state.new (IsReachedFrom types.now (world_key id)) }
     ensures steps { OnOk result (AreNext types.now state.new (world_key id) None steps.old.items steps.new.items) }
 {
@@ -85,7 +84,7 @@ fn make_world(state: &mut Merging, types: &Types, id: WorldId) -> Result<(), Agg
     requires state { MayTake types.now state.old }
     requires new { memo_of state.old.taken (world_key id) ≡ None }
     requires has { AreContentsNoted types.now (memo_of state.old.taken) (world_key id) }
-    ensures { MatchResult result (λ u. Takes types.now state.old state.new (height types.now (world_key id)) (world_key id ∷ []) (λ t. Unit {0})) (MayRefuse types.now state.old (world_key id ∷ [])) }
+    ensures { MatchResult result (λ u. TakesBelow [] types.now state.old state.new (world_key id)) (MayRefuse types.now state.old (world_key id ∷ [])) }
 {
     types.sound();
     let World {

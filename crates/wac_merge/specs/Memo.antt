@@ -129,6 +129,10 @@ pub record Grows (d : Collection) (m : BoundMemo) (e : Collection) (n : BoundMem
 abbrev pub asked_for : Bound → BoundPair → Asked
 asked_for b p = record { bound = b; pair = p }
 
+-- of two core module types
+abbrev pub asked_of_modules : Bound → Id → Id → Asked
+asked_of_modules b x y = asked_for b (Modules x y)
+
 -- the entry was made before for what is asked, and nothing is added; or it is made now, and noted
 pub data IsBoundMade (d : Collection) (m : BoundMemo) (e : Collection) (n : BoundMemo) (a : Asked) (p : BoundId) (IsAdded : Type 0) : Type 0 where
   before : Contains (made_of m) (a, p) → e ≡ d → IsSame m n → IsBoundMade d m e n a p IsAdded

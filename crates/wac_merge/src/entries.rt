@@ -1,7 +1,6 @@
 //! What is read of interfaces and worlds, and the entries that are made of two.
 
 ghost use Rattle.std.specs.Prelude.{◌≡◌, IfOk, OnErr, None};
-ghost use Rattle.wac_component.specs.Id.{Id};
 ghost use Rattle.wac_component.specs.Content.{named, use_content};
 ghost use Rattle.wac_component.specs.Growth.{Extends};
 ghost use Rattle.wac_component.specs.Key.{Stands, AllStand, interface_key, world_key};

@@ -5,10 +5,9 @@ ghost use Rattle.std.specs.Option.{option_map};
 ghost use Rattle.wac_model.specs.CoreTree.{is_valid_module};
 ghost use Rattle.wac_core.specs.Content.{module_content};
 ghost use Rattle.wac_component.specs.Growth.{Extends};
-ghost use Rattle.wac_component.specs.Id.{Id};
 ghost use Rattle.wac_component.specs.Key.{Stands, module_key};
 ghost use Rattle.wac_merge.specs.Built.{IsModuleBuilt};
-ghost use Rattle.wac_merge.specs.Memo.{IsTrueMemo, Grows, asked_for, IsMadeAs, IsSame, made_of};
+ghost use Rattle.wac_merge.specs.Memo.{IsTrueMemo, Grows, asked_of_modules, IsMadeAs, IsSame, made_of};
 ghost use Rattle.wac_merge.specs.Reads.{IsModuleAdded};
 ghost use Rattle.wac_merge.specs.Runs.{Runs};
 ghost use Rattle.wac_merge.specs.Told.{IsModuleBoundIn, LacksOnly};
@@ -30,7 +29,7 @@ fn module_of(
     ty: ModuleType,
 ) -> Result<BoundId, AllocError>
     requires { IsTrue (is_valid_module (module_content ty)) }
-    ensures made { IfOk result (IsMadeAs types.old memo.old types.new memo.new (asked_for bound (BoundPair.Modules first second)) BoundId.Module (IsModuleAdded types.old types.new (module_content ty))) }
+    ensures made { IfOk result (IsMadeAs types.old memo.old types.new memo.new (asked_of_modules bound first second) BoundId.Module (IsModuleAdded types.old types.new (module_content ty))) }
     ensures grows { Extends types.old types.new }
     ensures err { OnErr result (types.new ≡ types.old) }
     ensures err_memo { OnErr result (IsSame memo.old memo.new) }
