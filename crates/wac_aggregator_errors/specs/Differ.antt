@@ -7,7 +7,7 @@ use Rattle.wac_component.specs.Entries.{uses_at}
 use Rattle.wac_component.specs.Implicit.{identifier}
 use Rattle.wac_component.specs.Key.{Key}
 use Rattle.wac_component.specs.Reach.{IsAmong}
-use Rattle.wac_component.specs.declared.items.UsedType.{UsedType}
+use Rattle.wac_component.specs.declared.interfaces.UsedType.{UsedType}
 use Rattle.wac_aggregator_promises.specs.Reason.{used_interface, used_name}
 use Rattle.wac_names.specs.Class.{class_of}
 use Rattle.wac_aggregator_errors.specs.declared.error.AggregateError.{AggregateError}

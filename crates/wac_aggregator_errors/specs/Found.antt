@@ -1,28 +1,39 @@
 -- What is found of two that clash, while they are looked for.
-use Rattle.std.specs.Prelude.{◌≡◌, ◌<◌, List, Option, Some, string_bytes}
+use Rattle.std.specs.Prelude.{◌≡◌, ◌<◌, ◌++◌, ◌∷◌, [], List, Option, Some, IfSome, string_bytes}
 use Rattle.std.specs.Option.{MatchOption}
 use Rattle.std.specs.Str.{bytes_eq}
 use Rattle.wac_model.specs.Text.{Text, lookup}
 use Rattle.wac_model.specs.CoreTree.{CoreTree}
 use Rattle.wac_model.specs.ItemTree.{ItemTree, Items}
 use Rattle.wac_component.specs.Collection.{Collection}
+use Rattle.wac_component.specs.Growth.{Extends}
 use Rattle.wac_component.specs.Height.{height, keys_height}
 use Rattle.wac_component.specs.Key.{Key, AllStand, item_keys}
+use Rattle.wac_component.specs.Sound.{IsSound}
 use Rattle.wac_component.specs.Tree.{externs, items_of, item_tree}
 use Rattle.wac_component.specs.declared.items.ItemKind.{ItemKind}
 use Rattle.wac_merge.specs.Items.{ExternKinds, extern_keys}
+use Rattle.wac_merge.specs.Known.{KnowsMeets}
+use Rattle.wac_merge.specs.declared.meets.Meets.{Meets}
 use Rattle.wac_mismatch.specs.Path.{AreAlike}
 use Rattle.wac_mismatch.specs.Place.{item_side}
+use Rattle.wac_mismatch.specs.declared.check.SubtypeCheck.{SubtypeCheck}
 use Rattle.wac_mismatch.specs.declared.error.SubtypeError.{SubtypeError}
-use Rattle.wac_aggregator_errors.specs.Clashes.{AreApart, AreCoresApart, HasNoClash, HasNoCoreClash, export_of, core_export_of, SaysOfCores}
+use Rattle.wac_aggregator_errors.specs.Clashes.{AreApart, AreCoresApart, ClashesAt, HasNoClash, HasNoCoreClash, export_of, core_export_of, SaysOfCores}
 use Rattle.wac_aggregator_errors.specs.declared.exports.ExportClash.{ExportClash}
+use Rattle.wac_aggregator_errors.specs.declared.frame.MergeFrame.{MergeFrame}
 use Rattle.wac_aggregator_errors.specs.declared.modules.CoreClash.{CoreClash}
 
--- an interface or a world has these exports, which stand and are lower
+-- in whatever collection the first ids stood from which d was only added to, the others stood
+abbrev pub StoodWith : Collection → List Key → List Key → Type 0
+StoodWith d ks js = (c : Collection) → IsSound c → Extends c d → AllStand c ks → AllStand c js
+
+-- an interface or a world has these exports, which stand, where it stood too, and are lower
 pub record HasExportsAt (c : Collection) (k : Key) (es : ExternKinds) : Type 0 where
   pub imports : Items
   pub tree : externs c k ≡ record { imports = imports; exports = items_of (item_tree c) es }
   pub standing : AllStand c (extern_keys es)
+  pub stood : StoodWith c (k ∷ []) (extern_keys es)
   pub lower : keys_height c (extern_keys es) < height c k
 
 -- both have the name, and what they have there has no meet
@@ -94,3 +105,24 @@ IsCoreSearchOf es ts o = MatchOption o (HasNone AreCoresApart es ts) (AreFoundIn
 
 abbrev pub IsCoreSearchBelow : ItemTree → ItemTree → Option CoreClash → Type 0
 IsCoreSearchBelow a b o = MatchOption o (HasNoCoreClash a b) (IsCoreClashOf a b)
+
+-- what is known of meets is true, from a collection on in which these ids stood
+abbrev pub IsKnownFrom : Collection → Meets → List Key → Type 0
+IsKnownFrom d m ks = (c : Collection) × IsSound c × AllStand c ks × KnowsMeets c d m
+
+-- and still is, wherever that was so
+abbrev pub GoesOnKnown : List Key → Collection → Meets → Collection → Meets → Type 0
+GoesOnKnown ks d m e n = (c : Collection) → IsSound c → AllStand c ks → KnowsMeets c d m → KnowsMeets c e n
+
+-- frames lead from two items of c that have no meet to two of d that have none
+pub record IsWayTo (c : Collection) (from : ItemKind × ItemKind) (before : List MergeFrame) (d : Collection) (to : ItemKind × ItemKind) (frames : List MergeFrame) : Type 0 where
+  pub first_stands : AllStand d (item_keys to.0)
+  pub second_stands : AllStand d (item_keys to.1)
+  pub apart : AreApart (item_tree d to.0) (item_tree d to.1)
+  pub more : List MergeFrame
+  pub put : frames ≡ before ++ more
+  pub leads : (check : SubtypeCheck) (e : SubtypeError) (rest : List MergeFrame) → ClashesAt check e rest (item_tree d to.0) (item_tree d to.1) → ClashesAt check e (more ++ rest) (item_tree c from.0) (item_tree c from.1)
+
+-- what was found stood where these ids did
+abbrev pub FoundWith : Collection → List Key → Option ExportClash → Type 0
+FoundWith d ks o = IfSome o (λ f. StoodWith d ks (item_keys f.existing ++ item_keys f.new))

@@ -13,7 +13,7 @@ use Rattle.wac_component.specs.Key.{Key, interface_key, world_key}
 use Rattle.wac_component.specs.declared.items.ItemKind.{ItemKind}
 use Rattle.wac_component.specs.declared.items.ItemKind.TheVariants.{«Type» as OfType, Instance, Component}
 use Rattle.wac_component.specs.declared.items.Type.TheVariants.{Interface as TypeInterface, World as TypeWorld}
-use Rattle.wac_component.specs.declared.items.UsedType.{UsedType}
+use Rattle.wac_component.specs.declared.interfaces.UsedType.{UsedType}
 use Rattle.wac_names.specs.Class.{class_of}
 
 -- their interfaces are on one track, if both have identifiers

@@ -1,6 +1,6 @@
 //! What a checker says of what doesn't fit.
 
-ghost use Rattle.std.specs.Prelude.{◌≡◌, ◌<◌, ◌↔◌, IsTrue, IfOk};
+ghost use Rattle.std.specs.Prelude.{◌≡◌, ◌<◌, ◌++◌, ◌↔◌, IsTrue, IfOk};
 ghost use Rattle.wac_model.specs.CoreTree.{CoreFits};
 ghost use Rattle.wac_model.specs.Order.{Fits};
 ghost use Rattle.wac_core.specs.Content.{core_tree};
@@ -11,28 +11,29 @@ ghost use Rattle.wac_mismatch.specs.declared.check.SubtypeCheck.TheVariants.{Cov
 ghost use Rattle.wac_mismatch.specs.Place.{item_side};
 ghost use Rattle.wac_checker.specs.Checker.{direction, depth, remembered};
 ghost use Rattle.wac_aggregator_errors.specs.Clashes.{AreApart, SaysNo, SaysOfCores};
+ghost use Rattle.wac_aggregator_errors.specs.Found.{IsKnownFrom, GoesOnKnown};
 
 use std::alloc::{AllocError, Global};
 use std::collections::HashSet;
 use wac_checker::SubtypeChecker;
 use wac_component::{ItemKind, Types};
 use wac_core::CoreExtern;
-use wac_merge::meet;
+use wac_merge::Meets;
 use wac_mismatch::{SubtypeCheck, SubtypeError};
 
 // Whether two items have no meet.
 pub(crate) fn are_apart(
-    alloc: Global,
+    meets: &mut Meets,
     own: &mut Types,
     a: ItemKind,
     b: ItemKind,
 ) -> Result<bool, AllocError>
-    requires left { AllStand own.old (item_keys a) }
-    requires right { AllStand own.old (item_keys b) }
+    requires known { IsKnownFrom own.old meets.old (item_keys a ++ item_keys b) }
     ensures grows { Extends own.old own.new }
+    ensures known { GoesOnKnown (item_keys a ++ item_keys b) own.old meets.old own.new meets.new }
     ensures apart { IfOk result (λ yes. IsTrue yes ↔ AreApart (item_tree own.old a) (item_tree own.old b)) }
 {
-    match meet(alloc, own, a, b) {
+    match meets.meet(own, a, b) {
         Ok(met) => Ok(met.is_none()),
         Err(error) => Err(error),
     }

@@ -50,8 +50,8 @@ abbrev pub Mismatches : Attempt → Type 0
 Mismatches a = ImportClashes a ⊎ (Touches a × ExportsClash (IsSource a.sources))
 
 -- an import stood on the name's track, or the item touches
-abbrev pub Meets : Attempt → Type 0
-Meets a = IsSome a.import ⊎ Touches a
+abbrev pub IsImportedOrTouches : Attempt → Type 0
+IsImportedOrTouches a = IsSome a.import ⊎ Touches a
 
 -- the item openly reaches a use under the name of an interface without identifier
 pub record UsesUnidentified (a : Attempt) (name : Text) : Type 0 where
@@ -108,8 +108,8 @@ abbrev pub IsReason : Attempt → CallRefusal → Type 0
 IsReason a (kinds existing found) = KindsDiffer a existing found
 IsReason a mismatch = Mismatches a
 IsReason a unexplained = ⊥
-IsReason a (used_interface used expected found) = Meets a × InterfacesClash (IsSource a.sources) used expected found
-IsReason a (used_name used) = Meets a × NamesClash (IsSource a.sources) used
+IsReason a (used_interface used expected found) = IsImportedOrTouches a × InterfacesClash (IsSource a.sources) used expected found
+IsReason a (used_name used) = IsImportedOrTouches a × NamesClash (IsSource a.sources) used
 IsReason a (no_identifier used) = UsesUnidentified a used
 IsReason a (owner_without_identifier name) = OwnerUnidentified a name
 IsReason a (taken name) = IsTaken a name

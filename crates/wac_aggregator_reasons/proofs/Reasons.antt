@@ -21,7 +21,7 @@ use Rattle.wac_component.specs.declared.items.Type.TheVariants.{Resource as Type
 use Rattle.wac_component.proofs.Among.{among_each, each_among}
 use Rattle.wac_names.specs.Class.{Class, class_of}
 use Rattle.wac_aggregator_promises.specs.Attempt.{Attempt, IsSource, Touches}
-use Rattle.wac_aggregator_promises.specs.Reason.{IsReason, mismatch, used_interface, used_name, cycle, Meets}
+use Rattle.wac_aggregator_promises.specs.Reason.{IsReason, mismatch, used_interface, used_name, cycle, IsImportedOrTouches}
 use Rattle.wac_aggregator_promises.specs.TreeSets.{HaveNoLowerBound}
 use Rattle.wac_aggregator_promises.proofs.Read.{use_opens}
 use Rattle.wac_merge.specs.Built.{Builds, IsBuilt}
@@ -157,14 +157,14 @@ module _ (a : Attempt) where
   items_clash s name x y kept touches hx hy apart = inr (touches, named_clash (IsSource a.sources) s.own kept.good.sound name x y hx.item.stands hy.item.stands hx.item.keys hy.item.keys hx.item.export hy.item.export apart)
 
   -- uses of one name on two tracks, or with unequal `name`
-  pub interfaces_differ : (s : State) (used expected found : Text) (u v : UseContent) → Meets a → IsOpenUse a s used u → IsOpenUse a s used v → identifier s.own u.interface ≡ Some expected → identifier s.own v.interface ≡ Some found → class_of expected ≢ class_of found
+  pub interfaces_differ : (s : State) (used expected found : Text) (u v : UseContent) → IsImportedOrTouches a → IsOpenUse a s used u → IsOpenUse a s used v → identifier s.own u.interface ≡ Some expected → identifier s.own v.interface ≡ Some found → class_of expected ≢ class_of found
       → IsReason a (used_interface used expected found)
   interfaces_differ s used expected found u v meets hu hv eu ev apart = (
     meets,
     interfaces_clash (IsSource a.sources) s.own used u v expected found hu.use_sourced.use_from hv.use_sourced.use_from (record { name = expected; identified = eu; on_track = refl }) (record { name = found; identified = ev; on_track = refl }) apart,
   )
 
-  pub names_differ : (s : State) (used : Text) (u v : UseContent) → Meets a → IsOpenUse a s used u → IsOpenUse a s used v → u.name ≢ v.name → IsReason a (used_name used)
+  pub names_differ : (s : State) (used : Text) (u v : UseContent) → IsImportedOrTouches a → IsOpenUse a s used u → IsOpenUse a s used v → u.name ≢ v.name → IsReason a (used_name used)
   names_differ s used u v meets hu hv apart = (meets, names_clash (IsSource a.sources) s.own used u v hu.use_sourced.use_from hv.use_sourced.use_from apart)
 
   -- the interface that is taken in

@@ -21,7 +21,7 @@ use Rattle.wac_aggregator_promises.specs.Attempt.{Attempt, Sources, IsSource, Op
 use Rattle.wac_aggregator_promises.specs.Call.{Call, IsSoundCall}
 use Rattle.wac_aggregator_promises.specs.Clash.{ExportsClash}
 use Rattle.wac_aggregator_promises.specs.Entries.{IsIdentifiedOn}
-use Rattle.wac_aggregator_promises.specs.Reason.{IsReason, mismatch, used_interface, used_name, cycle, Meets}
+use Rattle.wac_aggregator_promises.specs.Reason.{IsReason, mismatch, used_interface, used_name, cycle, IsImportedOrTouches}
 use Rattle.wac_aggregator_promises.specs.TreeSets.{HaveNoLowerBound}
 use Rattle.wac_merge.specs.Built.{Builds, IsBuilt, uses_of_both}
 use Rattle.wac_merge.specs.Items.{AreUnhidden}
@@ -237,12 +237,12 @@ GrowthsAreMismatches = (a : Attempt) (c : Collection) (name : Text) (x y : ItemK
 
 -- where two uses of one name are of interfaces on two tracks, there is reason to refuse them
 abbrev pub InterfacesAreReasons : Type 0
-InterfacesAreReasons = (a : Attempt) (c : Collection) (used expected found : Text) (u v : UseContent) → Meets a → IsUseFrom (IsSource a.sources) c used u → IsUseFrom (IsSource a.sources) c used v → IsIdentifiedOn c u.interface (class_of expected) → IsIdentifiedOn c v.interface (class_of found)
+InterfacesAreReasons = (a : Attempt) (c : Collection) (used expected found : Text) (u v : UseContent) → IsImportedOrTouches a → IsUseFrom (IsSource a.sources) c used u → IsUseFrom (IsSource a.sources) c used v → IsIdentifiedOn c u.interface (class_of expected) → IsIdentifiedOn c v.interface (class_of found)
     → class_of expected ≢ class_of found → IsReason a (used_interface used expected found)
 
 -- where two uses of one name have unequal `name`, there is reason to refuse them
 abbrev pub NamesAreReasons : Type 0
-NamesAreReasons = (a : Attempt) (c : Collection) (used : Text) (u v : UseContent) → Meets a → IsUseFrom (IsSource a.sources) c used u → IsUseFrom (IsSource a.sources) c used v → u.name ≢ v.name → IsReason a (used_name used)
+NamesAreReasons = (a : Attempt) (c : Collection) (used : Text) (u v : UseContent) → IsImportedOrTouches a → IsUseFrom (IsSource a.sources) c used u → IsUseFrom (IsSource a.sources) c used v → u.name ≢ v.name → IsReason a (used_name used)
 
 -- where arrows lead back to the track of an interface that the item openly
 -- reaches, there is reason for a cycle

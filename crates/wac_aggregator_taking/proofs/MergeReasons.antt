@@ -7,7 +7,7 @@ use Rattle.wac_component.specs.Key.{Key, Each, Stands, AllStand, item_keys}
 use Rattle.wac_component.specs.declared.items.ItemKind.{ItemKind}
 use Rattle.wac_component.proofs.Among.{among_each, each_among}
 use Rattle.wac_aggregator_promises.specs.Attempt.{Attempt, IsSource, Touches}
-use Rattle.wac_aggregator_promises.specs.Reason.{CallRefusal, Meets, IsReason, mismatch, used_interface, used_name}
+use Rattle.wac_aggregator_promises.specs.Reason.{CallRefusal, IsImportedOrTouches, IsReason, mismatch, used_interface, used_name}
 use Rattle.wac_names.specs.Class.{Class}
 use Rattle.wac_aggregator_narrowing.specs.Apart.{IsGood}
 use Rattle.wac_aggregator_narrowing.specs.Laws.{LeadsAlongArrows}
@@ -82,12 +82,12 @@ pub one_reason : (at : Attempt) (e : AggregateError) (r : CallRefusal) → said 
 one_reason at e r says reason q is = let same : r ≡ q = (let both : Some r ≡ Some q = sym says ∙ is in cc) in subst (IsReason at) same reason
 
 -- uses that differ, of interfaces that are open
-pub uses_refused : (at : Attempt) (s : State) (us vs : List (Text × UseContent)) (e : AggregateError) → Meets at → AreOpenUses at s us → AreOpenUses at s vs → SaysUsesDiffer s.own us vs e → HasReason at e
+pub uses_refused : (at : Attempt) (s : State) (us vs : List (Text × UseContent)) (e : AggregateError) → IsImportedOrTouches at → AreOpenUses at s us → AreOpenUses at s vs → SaysUsesDiffer s.own us vs e → HasReason at e
 uses_refused at s us vs e meets hu hv (of_interfaces name expected found u v mu mv eu ev apart says) = one_reason at e (used_interface name expected found) says (interfaces_differ at s name expected found u v meets (hu name u mu) (hv name v mv) eu ev apart)
 uses_refused at s us vs e meets hu hv (of_names name u v mu mv apart says) = one_reason at e (used_name name) says (names_differ at s name u v meets (hu name u mu) (hv name v mv) apart)
 
 -- the same of entries
-pub entries_refused : (at : Attempt) (s : State) (ks js : List Key) (e : AggregateError) → Meets at → IsStateKept s → AllStand s.own ks → AllStand s.own js → Each (IsOpenSource at s) ks → Each (IsOpenSource at s) js → UsesDiffer s.own ks js e → HasReason at e
+pub entries_refused : (at : Attempt) (s : State) (ks js : List Key) (e : AggregateError) → IsImportedOrTouches at → IsStateKept s → AllStand s.own ks → AllStand s.own js → Each (IsOpenSource at s) ks → Each (IsOpenSource at s) js → UsesDiffer s.own ks js e → HasReason at e
 entries_refused at s ks js e meets kept sk sj hk hj h =
     let first = entry_items at s kept h.first (among_each (Stands s.own) h.first ks h.among_first sk) (among_each (IsOpenSource at s) h.first ks h.among_first hk) in
     let second = entry_items at s kept h.second (among_each (Stands s.own) h.second js h.among_second sj) (among_each (IsOpenSource at s) h.second js h.among_second hj) in

@@ -1,5 +1,5 @@
 -- An item that is met with what an interface exports under its name, among whatever other items.
-use Rattle.std.proofs.Common.{◌≡◌, ◌≢◌, [], Some, refl, subst, sym, ◌∙◌}
+use Rattle.std.proofs.Common.{◌≡◌, [], Some, refl, subst, sym, ◌∙◌}
 use Rattle.std.specs.Prelude.{Result, Ok, Err, MatchResult}
 use Rattle.std.specs.Str.{bytes_eq}
 use Rattle.wac_model.specs.Text.{Text, lookup}

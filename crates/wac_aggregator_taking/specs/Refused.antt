@@ -1,5 +1,5 @@
 -- Why what is to be taken in is refused.
-use Rattle.std.specs.Prelude.{◌≡◌, ◌≢◌, ◌⊎◌, ◌×◌, ℕ, All, List, [], ◌∷◌, Contains, MatchResult, Result, Some, Unit, slice_get}
+use Rattle.std.specs.Prelude.{◌≡◌, ◌≢◌, ◌⊎◌, ℕ, All, List, [], ◌∷◌, Contains, MatchResult, Result, Some, slice_get}
 use Rattle.std.specs.Str.{bytes_eq}
 use Rattle.wac_model.specs.Text.{Text, lookup}
 use Rattle.wac_component.specs.Collection.{Collection, UseContent}

@@ -1,7 +1,5 @@
 -- Looking up and noting what was made.
-use Rattle.std.proofs.Common.{◌≡◌, ◌⊎◌, List, [], ◌∷◌, ◌++◌, Bool, true, false, cond, if◌then◌else◌, Contains, Option, Some, None, refl, ap, sym, subst, ◌∙◌, inl, inr, arith, rules}
-use Rattle.std.proofs.lemmas.List.Elements.{Contains-append_cases}
-use Rattle.std.specs.List.{list_any}
+use Rattle.std.proofs.Common.{◌≡◌, [], ◌∷◌, ◌++◌, Bool, true, false, cond, Contains, Option, Some, None, refl, ap, sym, subst, ◌∙◌, inl, inr, arith, rules}
 use Rattle.std.specs.Map.{lookup}
 use Rattle.indexmap.specs.IndexMap.{insert_entry}
 use Rattle.wac_component.proofs.Among.{Contains-first, Contains-later, Contains-cases}

@@ -1,5 +1,5 @@
 -- What was built stays built while more is, and runs one after another.
-use Rattle.std.proofs.Common.{◌≡◌, refl, ap, sym, subst, ◌∙◌, ◌⊎◌, inl, inr, List, [], ◌∷◌, ◌++◌, Contains, arith, Some, Result, Ok, Err, IfOk}
+use Rattle.std.proofs.Common.{◌≡◌, refl, ap, sym, subst, ◌∙◌, ◌⊎◌, inl, inr, List, [], ◌∷◌, ◌++◌, arith, Some, Result, Ok, Err, IfOk}
 use Rattle.std.specs.Result.{IsErr}
 use Rattle.std.proofs.lemmas.List.Elements.{All-weaker, Contains-append_left, Contains-append_right, Contains-append_cases}
 use Rattle.wac_model.specs.Text.{Text}
@@ -21,7 +21,7 @@ use Rattle.wac_merge.specs.Bounded.{AreIncomparable, IsMetAs, IsJoinedAs}
 use Rattle.wac_merge.specs.Built.{Origins, IsBuilt, first, second, fresh, IsBuiltAt, of_first, of_second, of_both, AreBuilt, IsEntryFrom, of_interfaces, of_worlds, of_modules, IsMadeOf, IsAddedBuilt, OnlyBuilds}
 use Rattle.wac_merge.specs.Items.{entry_item, item_of, ExternKinds}
 use Rattle.wac_merge.specs.Memo.{Made, first_key, second_key, bound_key, IsBoundOf}
-use Rattle.wac_merge.specs.Runs.{IsMadeOn, IsNoted, AreMadeOn, FromBuilt, Ran, Runs}
+use Rattle.wac_merge.specs.Runs.{IsMadeOn, IsNoted, AreMadeOn, FromBuilt, Runs}
 use Rattle.wac_merge.specs.Told.{LacksOnly}
 use Rattle.wac_merge.specs.declared.memo.Untold.{Untold}
 use Rattle.wac_merge.specs.declared.memo.Untold.TheVariants.{Memory, Lacks}

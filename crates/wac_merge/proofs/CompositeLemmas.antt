@@ -12,16 +12,14 @@ use Rattle.wac_bounds.proofs.CompositeBounds.{composite_meet, composite_no_meet,
 use Rattle.wac_bounds.proofs.ModuleBounds.{modules_meet, modules_join}
 use Rattle.wac_component.specs.Id.{Id}
 use Rattle.wac_component.specs.Collection.{Collection}
-use Rattle.wac_component.specs.Growth.{Extends}
-use Rattle.wac_component.specs.Key.{Stands, AllStand, interface_key, world_key, module_key}
+use Rattle.wac_component.specs.Key.{Stands, interface_key, world_key, module_key}
 use Rattle.wac_component.specs.Sound.{IsSound}
 use Rattle.wac_component.specs.Tree.{externs, items_of, item_tree, module_tree}
-use Rattle.wac_component.proofs.Extended.{Extends-trans}
 use Rattle.wac_merge.specs.Bounded.{IsMetAs, IsJoinedAs, AreMet, AreJoined, Clash}
-use Rattle.wac_merge.specs.Items.{ExternKinds, extern_keys, entry_item}
+use Rattle.wac_merge.specs.Items.{ExternKinds, entry_item}
 use Rattle.wac_merge.specs.Reads.{imports_at, exports_at, HasExports}
 use Rattle.wac_merge.proofs.ExternLemmas.{items_met, items_joined, items_clash}
-use Rattle.wac_merge.proofs.ReadLemmas.{imports_stay, exports_stay, imports_at_stand, exports_at_stand, world_tree}
+use Rattle.wac_merge.proofs.ReadLemmas.{world_tree}
 
 -- the tree of an item that names an entry
 

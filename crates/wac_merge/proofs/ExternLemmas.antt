@@ -12,7 +12,6 @@ use Rattle.wac_model.proofs.ItemOrder.{Fits-refl}
 use Rattle.wac_bounds.specs.MeetIn.{IsMeetIn, IsJoinIn}
 use Rattle.wac_bounds.proofs.MeetOf.{meet_both, join_both}
 use Rattle.wac_component.specs.Collection.{Collection}
-use Rattle.wac_component.specs.Growth.{Extends}
 use Rattle.wac_component.specs.Key.{Stands, AllStand, item_keys, optional_keys}
 use Rattle.wac_component.specs.Tree.{item_tree, items_of}
 use Rattle.wac_component.specs.declared.items.ItemKind.{ItemKind}
@@ -21,9 +20,8 @@ use Rattle.wac_core_merge.specs.Names.{is_new, with_new}
 use Rattle.wac_core_merge.proofs.NameLemmas.{lookup-with_new, All-with_new}
 use Rattle.wac_checker.proofs.ExternLemmas.{item_at-items_of, named_stands}
 use Rattle.wac_merge.specs.Items.{ExternKinds, extern_keys, AreUnhidden}
-use Rattle.wac_merge.specs.Bounded.{IsMetWith, IsJoinedWith, IsMetAt, IsFirstMetAt, IsJoinedAt, AreFirstMet, AreMet, AreJoined, Clash}
+use Rattle.wac_merge.specs.Bounded.{IsMetWith, IsMetAt, IsFirstMetAt, IsJoinedAt, AreFirstMet, AreMet, AreJoined, Clash}
 use Rattle.wac_merge.specs.Built.{Origins, IsBuiltAt, of_second, AreBuilt}
-use Rattle.wac_merge.proofs.BoundLemmas.{bound_before, bound_after}
 
 -- what a look-up finds stands where all do
 pub found_stands : (c : Collection) (es : ExternKinds) (n : Text) → AllStand c (extern_keys es) → AllStand c (optional_keys item_keys (lookup bytes_eq es n))

@@ -4,7 +4,7 @@ use Rattle.std.specs.Option.{option_map}
 use Rattle.wac_model.specs.ItemTree.{Kind}
 use Rattle.wac_bounds.specs.MeetIn.{IsMeetIn}
 use Rattle.wac_component.specs.Collection.{Collection}
-use Rattle.wac_component.specs.Key.{Stands, AllStand, item_keys}
+use Rattle.wac_component.specs.Key.{Stands, item_keys}
 use Rattle.wac_component.specs.Tree.{item_tree}
 use Rattle.wac_component.specs.declared.items.ItemKind.{ItemKind}
 use Rattle.wac_component.proofs.Keys.{Each-left, Each-right}
@@ -21,7 +21,7 @@ use Rattle.wac_merge.specs.declared.memo.BoundMemo.{BoundMemo}
 use Rattle.wac_merge.specs.declared.memo.BoundPair.{BoundPair}
 use Rattle.wac_merge.specs.declared.memo.Untold.{Untold}
 use Rattle.wac_merge.proofs.BoundLemmas.{incomparable_before}
-use Rattle.wac_merge.proofs.BuiltLemmas.{entry_item_stands, made_item}
+use Rattle.wac_merge.proofs.BuiltLemmas.{made_item}
 use Rattle.wac_merge.proofs.ItemKeys.{entry_item-keys}
 
 -- both items, or both as types

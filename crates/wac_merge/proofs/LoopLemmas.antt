@@ -1,5 +1,5 @@
 -- One turn of a loop over what the first of two sides has, name by name.
-use Rattle.std.proofs.Common.{◌≡◌, refl, ap, sym, subst, ◌∙◌, ◌≤◌, Bool, true, false, cond, List, [], ◌∷◌, ◌++◌, map, Option, Some, None, string_bytes, String, Global}
+use Rattle.std.proofs.Common.{◌≡◌, refl, ap, sym, subst, ◌∙◌, Bool, true, false, cond, List, [], ◌∷◌, ◌++◌, map, Option, Some, None, string_bytes, String, Global}
 use Rattle.std.specs.Iterator.{Yields}
 use Rattle.std.specs.List.{IsDistinct}
 use Rattle.std.specs.Map.{keys_of}
@@ -17,9 +17,8 @@ use Rattle.wac_component.specs.Growth.{Extends}
 use Rattle.wac_component.specs.Height.{height, keys_height}
 use Rattle.wac_component.specs.Key.{Key, Stands, AllStand, item_keys, optional_keys}
 use Rattle.wac_component.specs.declared.items.ItemKind.{ItemKind}
-use Rattle.wac_component.proofs.Extended.{AllStand-Extends}
 use Rattle.wac_component.proofs.Keys.{Each-left, Each-right, Each-append, largest-same}
-use Rattle.wac_checker.proofs.ExternLemmas.{named_stands, named_lower}
+use Rattle.wac_checker.proofs.ExternLemmas.{named_stands}
 use Rattle.wac_core_merge.proofs.NameLemmas.{lookup-append}
 use Rattle.wac_core_merge.specs.NameOrder.{HasSomeNames}
 use Rattle.wac_merge.specs.Bounded.{IsMetWith, IsJoinedWith, IsFirstMetAt, IsJoinedAt, AreJoined}

@@ -7,7 +7,7 @@ use Rattle.wac_core_merge.specs.NameOrder.{HasAllNames, HasSomeNames}
 use Rattle.wac_component.specs.Id.{Id}
 use Rattle.wac_component.specs.Collection.{Collection, InterfaceContent, WorldContent}
 use Rattle.wac_component.specs.Growth.{Extends, with_entry}
-use Rattle.wac_component.specs.Key.{Key, Entry, interface_entry, world_entry, module_entry, entry_at, Stands, AllStand, interface_key, world_key, module_key}
+use Rattle.wac_component.specs.Key.{Key, interface_entry, world_entry, module_entry, Stands, AllStand, interface_key, world_key, module_key}
 use Rattle.wac_component.specs.Sound.{IsSound}
 use Rattle.wac_component.specs.Laws.{HasLeavesOf}
 use Rattle.wac_component.proofs.Keys.{Each-append}

@@ -1,6 +1,6 @@
 -- What is noted of two entries: the bound that is made of them, or that they have none.
-use Rattle.std.proofs.Common.{◌≡◌, refl, sym, subst, ◌∷◌, [], Some, None, slice_get}
-use Rattle.wac_model.specs.CoreTree.{ModuleContent, ModuleTree, module_of}
+use Rattle.std.proofs.Common.{◌≡◌, refl, sym, subst, ◌∷◌, [], Some, None}
+use Rattle.wac_model.specs.CoreTree.{ModuleContent}
 use Rattle.wac_component.specs.Collection.{Collection}
 use Rattle.wac_component.specs.Growth.{Extends}
 use Rattle.wac_component.specs.Id.{Id}
@@ -14,13 +14,11 @@ use Rattle.wac_merge.specs.Reads.{exports_at, IsInterfaceOfBoth, IsWorldOfBoth}
 use Rattle.wac_merge.specs.Runs.{FromBuilt, Runs}
 use Rattle.wac_merge.specs.Told.{AreBound, HasBoundNames, AreSides, AreSidesOf, AreSidesBuilt, IsModuleBoundIn}
 use Rattle.wac_merge.specs.declared.entries.WorldSides.{WorldSides}
-use Rattle.wac_merge.specs.declared.memo.Asked.{Asked}
 use Rattle.wac_merge.specs.declared.memo.Bound.{Bound}
 use Rattle.wac_merge.specs.declared.memo.Bound.TheVariants.{Meet, Join}
 use Rattle.wac_merge.specs.declared.memo.BoundId.{BoundId}
 use Rattle.wac_merge.specs.declared.memo.BoundId.TheVariants.{Interface, World}
 use Rattle.wac_merge.specs.declared.memo.BoundMemo.{BoundMemo}
-use Rattle.wac_merge.specs.declared.memo.BoundPair.{BoundPair}
 use Rattle.wac_merge.specs.declared.memo.BoundPair.TheVariants.{Interfaces, Worlds, Modules}
 use Rattle.wac_merge.proofs.CompositeLemmas.{interfaces_clash, worlds_clash, worlds_do_not_join, modules_met, modules_joined}
 use Rattle.wac_merge.proofs.DoneLemmas.{interface_done, world_done}

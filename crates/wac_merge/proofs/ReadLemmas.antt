@@ -18,7 +18,7 @@ use Rattle.wac_component.specs.Sound.{IsSound}
 use Rattle.wac_component.specs.Tree.{externs, interface_externs, world_externs, items_of, item_tree}
 use Rattle.wac_component.proofs.Keys.{Each-append}
 use Rattle.wac_component.proofs.Lists.{slice_get-map}
-use Rattle.wac_component.proofs.Members.{uses_stand, world_uses_stand, exports_stand, exports_lower, world_imports_stand, world_imports_lower, world_exports_stand, world_exports_lower}
+use Rattle.wac_component.proofs.Members.{uses_stand, world_uses_stand, exports_stand, exports_lower, world_imports_stand, world_exports_stand}
 use Rattle.wac_component.proofs.Reading.{interface_standing, interface_lower}
 use Rattle.wac_component.proofs.Trees.{interface-externs, world-externs}
 use Rattle.wac_merge.specs.Built.{uses_of_both}

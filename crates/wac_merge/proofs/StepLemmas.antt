@@ -1,8 +1,11 @@
 -- Steps of a meet or a join, one after another.
-use Rattle.std.proofs.Common.{◌≡◌, ◌≤◌, ◌+◌, ◌*◌, refl, ap, sym, subst, ◌∙◌, ◌∷◌, [], ◌++◌, List, All, length, Some, Option, Result, Ok, Err, IfOk, IfSome, arith}
+use Rattle.std.proofs.Common.{◌≡◌, ◌≤◌, ◌+◌, ◌*◌, ap, ◌∷◌, [], ◌++◌, List, length, Some, Option, Result, Ok, Err, IfOk, IfSome, arith}
 use Rattle.std.specs.declared.alloc.AllocError.{AllocError}
 use Rattle.std.proofs.lemmas.List.Elements.{All-nil, All-same, All-weaker, All-pop}
 use Rattle.std.specs.Option.{option_map, option_to_list}
+use Rattle.wac_model.specs.Order.{Fits}
+use Rattle.wac_bounds.specs.Bounds.{IsMeetIfAny}
+use Rattle.wac_bounds.proofs.Bounds.{meet_of_two}
 use Rattle.wac_component.specs.Collection.{Collection}
 use Rattle.wac_component.specs.Growth.{Extends}
 use Rattle.wac_component.specs.Key.{Key, Stands, AllStand, item_keys}
@@ -11,12 +14,12 @@ use Rattle.wac_component.specs.Tree.{item_tree}
 use Rattle.wac_component.specs.declared.items.ItemKind.{ItemKind}
 use Rattle.wac_component.proofs.Extended.{AllStand-Extends}
 use Rattle.wac_component.proofs.Keys.{Each-append}
-use Rattle.wac_merge.specs.Bounded.{KeepsFitting}
 use Rattle.wac_merge.specs.Built.{Origins, IsBuilt, Builds}
-use Rattle.wac_merge.specs.Memo.{Made, made_of, first_key, second_key, order_of, IsTrueMemo, Grows}
+use Rattle.wac_merge.specs.Memo.{made_of, first_key, second_key, IsTrueMemo, Grows}
 use Rattle.wac_merge.specs.Runs.{Runs, StepsStand, IsUnderWay}
-use Rattle.wac_merge.specs.Told.{of_two, IsBoundIn, IsToldIn, LacksOnly, LacksStand}
+use Rattle.wac_merge.specs.Told.{IsToldIn, LacksOnly, LacksStand}
 use Rattle.wac_merge.specs.declared.memo.Bound.{Bound}
+use Rattle.wac_merge.specs.declared.memo.Bound.TheVariants.{Meet}
 use Rattle.wac_merge.specs.declared.memo.BoundMemo.{BoundMemo}
 use Rattle.wac_merge.specs.declared.memo.Untold.{Untold}
 use Rattle.wac_merge.specs.declared.memo.Untold.TheVariants.{Memory, Lacks}
@@ -53,6 +56,12 @@ steps_popped c ss ts r s is last h =
 pub no_steps_stand : (c : Collection) (ss : List BoundStep) → ss ≡ [] → StepsStand c ss
 no_steps_stand c ss none = All-same (λ (t : BoundStep). AllStand c (first_key t.asked.pair ∷ second_key t.asked.pair ∷ [])) ss [] none (All-nil (λ (t : BoundStep). AllStand c (first_key t.asked.pair ∷ second_key t.asked.pair ∷ [])))
 
+-- and they stand where the collection was added to
+pub steps_stand_on : (c d : Collection) (ss : List BoundStep) → Extends c d → StepsStand c ss → StepsStand d ss
+steps_stand_on c d ss grown h =
+    All-weaker (λ (t : BoundStep). AllStand c (first_key t.asked.pair ∷ second_key t.asked.pair ∷ [])) (λ (t : BoundStep). AllStand d (first_key t.asked.pair ∷ second_key t.asked.pair ∷ []))
+    (λ t st. AllStand-Extends c d grown (first_key t.asked.pair ∷ second_key t.asked.pair ∷ []) st) ss h
+
 -- no more is added than what is made of ordered pairs
 pub underway_bounded : (c d : Collection) (m : BoundMemo) → IsUnderWay c d m → entry_count d ≤ entry_count c + 2 * entry_count c * entry_count c
 underway_bounded c d m way = made_bounded c d d way.ran.origins (made_of m) way.true_memo.once way.ran.made way.counted
@@ -69,3 +78,7 @@ builds u c d m a b sound sa sb way r told = record { origins = way.ran.origins; 
     built : (r : Result (Option ItemKind) AllocError) → IfOk r (IsToldIn u d m a b) → IfOk r (λ x. IfSome x (IsBuilt c d way.ran.origins a b))
     built (Ok x) told = told.built c way.ran.origins sound (Each-append (Stands c) (item_keys a) (item_keys b) sa sb) way.ran.only way.ran.made
     built (Err e) told = tt
+
+-- the meet of two items is what is told of it later
+pub meet_told : (c d : Collection) (m : BoundMemo) (a b : ItemKind) → Extends c d → AllStand c (item_keys a) → AllStand c (item_keys b) → (r : Option ItemKind) → IsToldIn Meet d m a b r → IsMeetIfAny (option_map (item_tree d) r) (item_tree c a ∷ item_tree c b ∷ [])
+meet_told c d m a b grown sa sb r told = meet_of_two (item_tree c a) (item_tree c b) (option_map (item_tree d) r) (bound_before Fits c d grown a b sa sb (option_map (item_tree d) r) told.bound)

@@ -5,3 +5,4 @@ pub mod Memo
 pub mod Runs
 pub mod Reads
 pub mod Told
+pub mod Known

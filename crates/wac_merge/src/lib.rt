@@ -7,6 +7,7 @@ mod composites;
 mod entries;
 mod externs;
 mod items;
+mod meets;
 mod memo;
 mod modules;
 mod names;
@@ -15,4 +16,5 @@ mod pairs;
 mod steps;
 
 pub use bounds::{join, meet};
+pub use meets::Meets;
 pub use names::{extern_named, put_extern};

@@ -11,7 +11,7 @@ ghost use Rattle.wac_merge.specs.Bounded.{KeepsFitting};
 ghost use Rattle.wac_merge.specs.Built.{Builds};
 ghost use Rattle.wac_merge.specs.Items.{extern_keys, extern_list};
 ghost use Rattle.wac_merge.specs.Memo.{IsTrueMemo, Grows, made_of, first_key, second_key};
-ghost use Rattle.wac_merge.specs.Runs.{Runs, StepsStand};
+ghost use Rattle.wac_merge.specs.Runs.{Runs, StepsStand, IsUnderWay};
 ghost use Rattle.wac_merge.specs.Told.{of_two, IsBoundIn, IsToldIn, LacksOnly, LacksStand, GoesOn};
 
 use crate::composites::bound_entries;
@@ -99,6 +99,29 @@ fn take_steps(
     Err(AllocError)
 }
 
+/// The meet of two items, if they have one, while more and more is known of what was built from a
+/// collection on. Turns are taken as for a bound.
+pub(crate) fn tell(
+    types: &mut Types,
+    memo: &mut BoundMemo,
+    steps: &mut Vec<BoundStep>,
+    a: ItemKind,
+    b: ItemKind,
+) -> Result<Option<ItemKind>, AllocError>
+    requires way { (c : Collection) × IsSound c × AllStand c (item_keys a ++ item_keys b) × IsUnderWay c types.old memo.old }
+    requires no_steps { steps.old.items ≡ [] }
+    ensures told { IfOk result (IsToldIn Bound.Meet types.new memo.new a b) }
+    ensures way { (c : Collection) → IsSound c → AllStand c (item_keys a ++ item_keys b) → IsUnderWay c types.old memo.old → IsUnderWay c types.new memo.new }
+    ensures grows { Extends types.old types.new }
+{
+    for _turn in 0..u64::MAX {
+        if let Some(told) = turn(types, memo, steps, Bound::Meet, &a, &b)? {
+            return Ok(told);
+        }
+    }
+    Err(AllocError)
+}
+
 // Takes the last step, or asks for the bound of the items where there is none.
 fn turn(
     types: &mut Types,
@@ -114,6 +137,7 @@ fn turn(
     requires steps { StepsStand types.old steps.old.items }
     ensures goes_on { GoesOn (item_keys a.now ++ item_keys b.now) types.old memo.old steps.old.items types.new memo.new steps.new.items }
     ensures told { IfOk result (λ r. IfSome r (IsToldIn bound types.new memo.new a.now b.now)) }
+    ensures extends { Extends types.old types.new }
 {
     match steps.pop() {
         Some(step) => {
@@ -158,6 +182,7 @@ fn take(
     requires entries { AllStand types.old (first_key step.asked.pair ∷ second_key step.asked.pair ∷ []) }
     requires memo { IsTrueMemo types.old memo.old }
     ensures goes_on { GoesOn (first_key step.asked.pair ∷ second_key step.asked.pair ∷ []) types.old memo.old steps.old.items types.new memo.new steps.new.items }
+    ensures extends { Extends types.old types.new }
 {
     let mut step = step;
     match take_step(types, memo, &mut step) {

@@ -4,27 +4,45 @@ use Rattle.std.specs.Map.Iter.{deref_pair}
 use Rattle.wac_model.specs.Text.{lookup}
 use Rattle.std.proofs.lemmas.Map.Iter.{iter_end}
 use Rattle.wac_component.specs.Content.{named}
-use Rattle.wac_component.specs.Key.{item_keys}
-use Rattle.wac_component.proofs.Extended.{AllStand-Extends, Extends-trans}
+use Rattle.wac_component.proofs.Extended.{Extends-trans}
 use Rattle.wac_checker.proofs.ExternLemmas.{named_stands}
 use Rattle.wac_merge.specs.Items.{extern_list}
 use Rattle.wac_aggregator_errors.specs.Clashes.{AreApart}
 use Rattle.wac_aggregator_errors.specs.Found.{HasNone, AreItemsApart}
 use Rattle.wac_aggregator_errors.proofs.Apart.{trees_before, not_apart_from}
+use Rattle.wac_aggregator_errors.proofs.Reading.{named_both, pair_known, pair_goes_on}
 use Rattle.wac_aggregator_errors.proofs.Turns.{name_has, found_at, not_found_at, done_more, none_more}
 use Rattle.wac_aggregator_errors.proofs.exports.first_clash.Goals as goal
 
-pub are_apart-requires-clause-left : goal.are_apart-requires-clause-left
-are_apart-requires-clause-left c =
-    let there = name_has deref_pair c.args.first.now.entries c.loop-name.yielded _ _ _ _ (c.in-Some.name, c.in-Some.existing) c.into_iter-name-iterator.ensures.into_iter_gives.0 c.loop-name.yielded_by c.in-Some.is c.next.ensures.steps c.into_iter-name-iterator.ensures.into_iter_gives.4 in
-    AllStand-Extends c.args.own.now c.loop-name.own c.loop-name.invariant.grows (item_keys c.in-Some.existing.now)
-    (named_stands c.args.own.now (extern_list c.args.first.now) (string_bytes c.in-Some.name.now) c.in-Some.existing.now there c.requires.first)
+pub are_apart-requires : goal.are_apart-requires
+are_apart-requires c =
+    let of_first = name_has deref_pair c.args.first.now.entries c.loop-name.yielded _ _ _ _ (c.in-Some.name, c.in-Some.existing) c.into_iter-name-iterator.ensures.into_iter_gives.0 c.loop-name.yielded_by c.in-Some.is c.next.ensures.steps c.into_iter-name-iterator.ensures.into_iter_gives.4 in
+    let of_second = found_at c.args.second.now.entries (string_bytes c.in-Some.name.now) c.get.result c.in-Some-get.new c.get.ensures.value c.in-Some-get.is in
+    record { known = pair_known (extern_list c.args.first.now) (extern_list c.args.second.now) (string_bytes c.in-Some.name.now) c.in-Some.existing.now c.in-Some-get.new.now of_first of_second c.args.own.now c.loop-name.own c.args.meets.now c.loop-name.meets c.requires.known c.loop-name.invariant.known }
 
-pub are_apart-requires-clause-right : goal.are_apart-requires-clause-right
-are_apart-requires-clause-right c =
-    let there = found_at c.args.second.now.entries (string_bytes c.in-Some.name.now) c.get.result c.in-Some-get.new c.get.ensures.value c.in-Some-get.is in
-    AllStand-Extends c.args.own.now c.loop-name.own c.loop-name.invariant.grows (item_keys c.in-Some-get.new.now)
-    (named_stands c.args.own.now (extern_list c.args.second.now) (string_bytes c.in-Some.name.now) c.in-Some-get.new.now there c.requires.second)
+pub returns-in_err-are_apart-clause-known : goal.returns-in_err-are_apart-clause-known
+returns-in_err-are_apart-clause-known c =
+    let of_first = name_has deref_pair c.args.first.now.entries c.loop-name.yielded _ _ _ _ (c.in-Some.name, c.in-Some.existing) c.into_iter-name-iterator.ensures.into_iter_gives.0 c.loop-name.yielded_by c.in-Some.is c.next.ensures.steps c.into_iter-name-iterator.ensures.into_iter_gives.4 in
+    let of_second = found_at c.args.second.now.entries (string_bytes c.in-Some.name.now) c.get.result c.in-Some-get.new c.get.ensures.value c.in-Some-get.is in
+    pair_goes_on (extern_list c.args.first.now) (extern_list c.args.second.now) (string_bytes c.in-Some.name.now) c.in-Some.existing.now c.in-Some-get.new.now of_first of_second c.args.own.now c.loop-name.own c.are_apart.new.own c.args.meets.now c.loop-name.meets c.are_apart.new.meets c.loop-name.invariant.known c.are_apart.ensures.known
+
+pub returns-in_err-clone-clause-known : goal.returns-in_err-clone-clause-known
+returns-in_err-clone-clause-known c =
+    let of_first = name_has deref_pair c.args.first.now.entries c.loop-name.yielded _ _ _ _ (c.in-Some.name, c.in-Some.existing) c.into_iter-name-iterator.ensures.into_iter_gives.0 c.loop-name.yielded_by c.in-Some.is c.next.ensures.steps c.into_iter-name-iterator.ensures.into_iter_gives.4 in
+    let of_second = found_at c.args.second.now.entries (string_bytes c.in-Some.name.now) c.get.result c.in-Some-get.new c.get.ensures.value c.in-Some-get.is in
+    pair_goes_on (extern_list c.args.first.now) (extern_list c.args.second.now) (string_bytes c.in-Some.name.now) c.in-Some.existing.now c.in-Some-get.new.now of_first of_second c.args.own.now c.loop-name.own c.are_apart.new.own c.args.meets.now c.loop-name.meets c.are_apart.new.meets c.loop-name.invariant.known c.are_apart.ensures.known
+
+pub returns-then-branch-clause-known : goal.returns-then-branch-clause-known
+returns-then-branch-clause-known c =
+    let of_first = name_has deref_pair c.args.first.now.entries c.loop-name.yielded _ _ _ _ (c.in-Some.name, c.in-Some.existing) c.into_iter-name-iterator.ensures.into_iter_gives.0 c.loop-name.yielded_by c.in-Some.is c.next.ensures.steps c.into_iter-name-iterator.ensures.into_iter_gives.4 in
+    let of_second = found_at c.args.second.now.entries (string_bytes c.in-Some.name.now) c.get.result c.in-Some-get.new c.get.ensures.value c.in-Some-get.is in
+    pair_goes_on (extern_list c.args.first.now) (extern_list c.args.second.now) (string_bytes c.in-Some.name.now) c.in-Some.existing.now c.in-Some-get.new.now of_first of_second c.args.own.now c.loop-name.own c.are_apart.new.own c.args.meets.now c.loop-name.meets c.are_apart.new.meets c.loop-name.invariant.known c.are_apart.ensures.known
+
+pub returns-then-branch-clause-stood : goal.returns-then-branch-clause-stood
+returns-then-branch-clause-stood c = λ d sound grown st.
+    let of_first = name_has deref_pair c.args.first.now.entries c.loop-name.yielded _ _ _ _ (c.in-Some.name, c.in-Some.existing) c.into_iter-name-iterator.ensures.into_iter_gives.0 c.loop-name.yielded_by c.in-Some.is c.next.ensures.steps c.into_iter-name-iterator.ensures.into_iter_gives.4 in
+    let of_second = found_at c.args.second.now.entries (string_bytes c.in-Some.name.now) c.get.result c.in-Some-get.new c.get.ensures.value c.in-Some-get.is in
+    named_both (extern_list c.args.first.now) (extern_list c.args.second.now) (string_bytes c.in-Some.name.now) c.in-Some.existing.now c.in-Some-get.new.now of_first of_second d st
 
 pub returns-in_err-are_apart-clause-grows : goal.returns-in_err-are_apart-clause-grows
 returns-in_err-are_apart-clause-grows c = Extends-trans c.args.own.now c.loop-name.own c.are_apart.new.own c.loop-name.invariant.grows c.are_apart.ensures.grows
@@ -55,6 +73,7 @@ loop-name-preserved-else-branch c =
     let of_second = found_at c.args.second.now.entries (string_bytes c.in-Some.name.now) c.get.result c.in-Some-get.new c.get.ensures.value c.in-Some-get.is in
     record {
       grows = Extends-trans c.args.own.now c.loop-name.own c.are_apart.new.own c.loop-name.invariant.grows c.are_apart.ensures.grows;
+      known = pair_goes_on (extern_list c.args.first.now) (extern_list c.args.second.now) (string_bytes c.in-Some.name.now) c.in-Some.existing.now c.in-Some-get.new.now of_first of_second c.args.own.now c.loop-name.own c.are_apart.new.own c.args.meets.now c.loop-name.meets c.are_apart.new.meets c.loop-name.invariant.known c.are_apart.ensures.known;
       none = rw more (none_more (AreItemsApart c.args.own.now) (named (λ k. k) (map deref_pair c.loop-name.yielded)) (extern_list c.args.second.now) (string_bytes c.in-Some.name.now) c.in-Some.existing.now c.loop-name.invariant.none
           (not_apart_from c.args.own.now c.loop-name.own c.loop-name.invariant.grows c.in-Some.existing.now c.in-Some-get.new.now
           (named_stands c.args.own.now (extern_list c.args.first.now) (string_bytes c.in-Some.name.now) c.in-Some.existing.now of_first c.requires.first)
@@ -69,6 +88,7 @@ loop-name-preserved c =
     let absent = not_found_at c.args.second.now.entries (string_bytes c.in-Some.name.now) c.get.result c.get.ensures.value nothing in
     record {
       grows = c.loop-name.invariant.grows;
+      known = c.loop-name.invariant.known;
       none = rw more (none_more (AreItemsApart c.args.own.now) (named (λ k. k) (map deref_pair c.loop-name.yielded)) (extern_list c.args.second.now) (string_bytes c.in-Some.name.now) c.in-Some.existing.now c.loop-name.invariant.none
           (λ y there. absurd (cc)));
     }

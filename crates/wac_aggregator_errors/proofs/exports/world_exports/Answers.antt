@@ -8,6 +8,6 @@ use Rattle.wac_aggregator_errors.proofs.exports.world_exports.Goals as goal
 pub returns : goal.returns
 returns c =
     MatchResult-weaker c.clone.result c.clone.ensures.cases
-    (λ m cloned. reads_world c.args.own.now c.args.id (world_content c.index.result.now) (extern_list m) c.index.ensures.tree c.index.ensures.standing c.index.ensures.lower
+    (λ m cloned. reads_world c.args.own.now c.args.id (world_content c.index.result.now) (extern_list m) c.index.ensures.entry c.index.ensures.tree c.index.ensures.standing c.index.ensures.lower
     (named-clones (λ k. k) (λ k l e. e) c.index.result.now.exports m cloned))
     (λ e h. tt)

@@ -1,4 +1,4 @@
-use Rattle.std.proofs.Common.{◌≡◌, Some, string_bytes, refl, ap, sym, subst, ◌∙◌}
+use Rattle.std.proofs.Common.{◌≡◌, string_bytes, refl, ap, sym, subst, ◌∙◌}
 use Rattle.wac_component.specs.Collection.{InterfaceContent}
 use Rattle.wac_component.specs.Content.{named, use_content, interface_content}
 use Rattle.wac_component.specs.Key.{Stands, interface_key, named_keys, use_keys}

@@ -7,7 +7,7 @@ use Rattle.wac_component.specs.Key.{Stands, interface_key, named_keys, use_keys}
 use Rattle.wac_component.specs.Tree.{item_tree}
 use Rattle.wac_component.proofs.Among.{each_found}
 use Rattle.wac_component.proofs.Keys.{Each-right}
-use Rattle.wac_merge.specs.Items.{ExternKinds, extern_keys, extern_list}
+use Rattle.wac_merge.specs.Items.{ExternKinds, extern_keys}
 use Rattle.wac_merge.specs.Reads.{exports_at}
 use Rattle.wac_merge.proofs.ReadLemmas.{interface_at, interface_exports_are}
 use Rattle.wac_aggregator_reasons.proofs.Accounts.{accounted_none, none_roots}

@@ -1,11 +1,11 @@
-use Rattle.std.proofs.Common.{◌≡◌, ◌++◌, ◌∷◌, [], map, string_bytes, ap, sym, subst, ◌∙◌, None}
+use Rattle.std.proofs.Common.{◌≡◌, ◌++◌, ◌∷◌, [], map, string_bytes, ap, sym, subst, ◌∙◌}
 use Rattle.std.proofs.lemmas.List.Elements.{All-contains, All-nil}
 use Rattle.std.proofs.lemmas.Map.Iter.{iter_end}
 use Rattle.std.specs.Map.Iter.{deref_pair}
 use Rattle.std.specs.Str.{bytes_eq}
 use Rattle.indexmap.specs.IndexMap.{insert_entry}
 use Rattle.wac_component.specs.Content.{named}
-use Rattle.wac_component.specs.Key.{Stands, interface_key, item_keys}
+use Rattle.wac_component.specs.Key.{interface_key, item_keys}
 use Rattle.wac_component.proofs.Extended.{AllStand-Extends}
 use Rattle.wac_checker.proofs.ExternLemmas.{named_stands}
 use Rattle.wac_merge.specs.Items.{ExternKinds, extern_list}

@@ -1,5 +1,4 @@
 use Rattle.std.proofs.Common.{◌≡◌, ◌++◌, map, refl, ap, ◌∙◌}
-use Rattle.wac_component.specs.Collection.{InterfaceContent}
 use Rattle.wac_component.specs.Content.{named, use_content, interface_content}
 use Rattle.wac_component.specs.Key.{Stands, interface_key, named_keys, use_keys}
 use Rattle.wac_component.specs.Naming.{key_of}

@@ -10,6 +10,7 @@ returns-in_err-push_step-in-Err c =
         underway_run d c.args.types.now c.take_step.new.types c.args.memo.now c.take_step.new.memo (first_key c.args.step.asked.pair) (second_key c.args.step.asked.pair) sound stand c.in-Err.ensures.grows c.in-Err.ensures.built way,
         c.push_step.ensures d (rw c.in-Err.ensures.asked stand) steps,
       );
+      extends = c.in-Err.ensures.grows.extends;
     }
 
 pub returns-in_ok-push_step-in-Err : goal.returns-in_ok-push_step-in-Err
@@ -20,4 +21,5 @@ returns-in_ok-push_step-in-Err c =
         c.push_lacking.ensures d (lacking_stands d c.args.types.now (first_key c.args.step.asked.pair ∷ second_key c.args.step.asked.pair ∷ []) c.in-Err.untold sound way.ran.only.extends stand c.in-Err.ensures.lacks)
             (c.push_step.ensures d (rw c.in-Err.ensures.asked stand) steps),
       );
+      extends = c.in-Err.ensures.grows.extends;
     }
