@@ -16,3 +16,9 @@ pub mod NameTokens
 pub mod TypeSteps
 pub mod TypesMade
 pub mod TypesRead
+pub mod Listing
+pub mod GateSteps
+pub mod Signatures
+pub mod Ended
+pub mod Items
+pub mod Files

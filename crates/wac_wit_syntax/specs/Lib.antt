@@ -13,4 +13,12 @@ pub mod Cursors
 pub mod Paths
 pub mod Types
 pub mod TypeParts
+pub mod Gates
+pub mod Lists
+pub mod Functions
+pub mod Typedefs
+pub mod Interfaces
+pub mod Worlds
+pub mod Documents
+pub mod Behind
 pub mod Laws

@@ -92,7 +92,3 @@ pub record IsRead (text : Text) (tokens : List Token) : Type 0 where
   pub parts : List Part
   pub cut : IsCut parts (drop (first_place text) text)
   pub tokens_are : tokens ≡ tokens_of (first_place text) None parts
-
--- the text is what some tokens say
-abbrev pub IsLexical : Text → Type 0
-IsLexical text = (tokens : List Token) × IsRead text tokens

@@ -65,6 +65,10 @@ IsName id = λ s i j. IsNameAt s i (string_bytes id.name) × (id.span ≡ (token
 abbrev pub IsSpan : Span → Source → ℕ → ℕ → Type 0
 IsSpan span s i j = span ≡ record { start = (token_at s i).span.start; end = (token_at s (j - 1)).span.end }
 
+-- a production, where this holds too
+abbrev pub Having : Type 0 → Production → Production
+Having fact P = λ s i j. P s i j × fact
+
 -- a production, whose place is this
 abbrev pub Spanning : Span → Production → Production
 Spanning span P = λ s i j. P s i j × IsSpan span s i j

@@ -1,6 +1,6 @@
 //! Steps over tokens.
 
-ghost use Rattle.std.specs.Prelude.{◌≡◌, ◌≢◌, ◌+◌, ◌-◌, ◌<◌, ◌≤◌, true, false, [], ◌∷◌, IfOk, IfSome, IsOk, OnOk, length, slice_range, string_bytes, vec_len};
+ghost use Rattle.std.specs.Prelude.{◌≡◌, ◌≢◌, ◌+◌, ◌-◌, ◌<◌, true, false, [], IfOk, IfSome, OnOk, slice_range, string_bytes, vec_len};
 ghost use Rattle.wac_wit_syntax.specs.Cursors.{HasNoRefusal, Reads, ReadsKind, SpellsName, source};
 ghost use Rattle.wac_wit_syntax.specs.Productions.{◌▸◌, IsKind, IsName, IsWord, SaysWord, is_keyword, token_at};
 ghost use Rattle.wac_wit_syntax.specs.declared.error.Fault.TheVariants.{Refused};
@@ -27,12 +27,9 @@ pub(crate) struct Cursor {
 
 impl Cursor {
     /// At the first token.
-    pub(crate) fn new(
-        alloc: Global,
-        text: String,
-        tokens: Vec<Token>,
-        refusals: Refusals,
-    ) -> Cursor {
+    pub(crate) fn new(alloc: Global, text: String, tokens: Vec<Token>, refusals: Refusals) -> Cursor
+        ensures { result ≡ record { alloc = alloc; text = text; tokens = tokens; next = 0; refusals = refusals } }
+    {
         Cursor {
             alloc,
             text,
@@ -382,7 +379,7 @@ impl Cursor {
 
     /// What was read of the text, if nothing is refused.
     pub(crate) fn finish<T: Drop>(self, read: Result<T, Fault>) -> Result<T, SyntaxError>
-        ensures { IsOk result → IsOk read }
+        ensures { IfOk result (λ value. (read ≡ Ok value) × HasNoRefusal self) }
     {
         match read {
             Ok(read) if self.refusals.is_empty() => Ok(read),

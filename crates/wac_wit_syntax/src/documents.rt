@@ -1,7 +1,13 @@
 //! Reads files.
 
-ghost use Rattle.std.specs.Prelude.{◌≡◌, IsOk, true};
-ghost use Rattle.wac_wit_syntax.specs.Parts.{IsLexical};
+ghost use Rattle.std.specs.Prelude.{◌≡◌, true, codes, IfOk, OnOk, vec_len};
+ghost use Rattle.wac_wit_syntax.specs.Behind.{ReadsAfter, ReadsAfterWord};
+ghost use Rattle.wac_wit_syntax.specs.Cursors.{Reads, source};
+ghost use Rattle.wac_wit_syntax.specs.Documents.{IsDocument, IsInterface, IsTopItem, IsTopUse, IsWorld, Says};
+ghost use Rattle.wac_wit_syntax.specs.Gates.{IsGates};
+ghost use Rattle.wac_wit_syntax.specs.Paths.{IsPackageName};
+ghost use Rattle.wac_wit_syntax.specs.Productions.{◌▸◌, IsWord, Nothing, SaysWord, token_at};
+ghost use Rattle.wac_wit_syntax.specs.declared.cursor.Cursor.{Cursor};
 
 use super::cursor::Cursor;
 use super::error::{Fault, SyntaxError};
@@ -22,31 +28,23 @@ use std::alloc::Global;
 /// After an item that is refused the rest of the text is read too, so that all its refusals are
 /// told at once. The time is linear in the length of the text, whatever is refused.
 pub fn parse(alloc: Global, text: &str) -> Result<Document, SyntaxError>
-    ensures { IsOk result → IsLexical text.now }
+    ensures { IfOk result (λ document. Says text.now document) }
 {
     let mut refusals = Refusals::new(alloc);
     let tokens = cut(alloc, text, &mut refusals)?;
     if refusals.is_full() {
         return Err(refusals.into_error());
     }
-    let is_cut = refusals.is_empty();
     let text = String::from_str(alloc, text)?;
     let mut cursor = Cursor::new(alloc, text, tokens, refusals);
     let document = read_document(&mut cursor);
-    cursor.finish(if_cut(document, is_cut))
+    cursor.finish(document)
 }
 
-// What was read, if nothing of the text was refused before.
-fn if_cut(read: Result<Document, Fault>, is_cut: bool) -> Result<Document, Fault>
-    ensures { IsOk result → is_cut ≡ true }
+fn read_document(cursor: &mut Cursor) -> Result<Document, Fault>
+    ensures read { IfOk result (λ document. Reads cursor.old cursor.new (IsDocument document)) }
+    ensures end { OnOk result ((token_at (source cursor.new) cursor.new.next).kind ≡ TokenKind.End) }
 {
-    match read {
-        Ok(_) if !is_cut => Err(Fault::Refused),
-        read => read,
-    }
-}
-
-fn read_document(cursor: &mut Cursor) -> Result<Document, Fault> {
     let mut document = Document {
         package: None,
         items: Vec::new(cursor.alloc),
@@ -54,18 +52,20 @@ fn read_document(cursor: &mut Cursor) -> Result<Document, Fault> {
     };
     for _turn in 0..cursor.len() {
         if cursor.sees(TokenKind::End) {
-            break;
+            return Ok(document);
         }
         let start = cursor.index();
         if let Err(fault) = read_top(cursor, &mut document) {
             cursor.recover(fault, start)?;
         }
     }
-    Ok(document)
+    Err(cursor.refuse("the end of the file"))
 }
 
 // Reads an item of a file, or the name of its package.
-fn read_top(cursor: &mut Cursor, document: &mut Document) -> Result<(), Fault> {
+fn read_top(cursor: &mut Cursor, document: &mut Document) -> Result<(), Fault>
+    ensures { OnOk result (ReadsAfter (IsDocument document.old) cursor.old cursor.new (IsDocument document.new)) }
+{
     let gates = read_gates(cursor)?;
     if cursor.word() == "package" {
         refuse_gates(cursor, &gates)?;
@@ -77,7 +77,9 @@ fn read_top(cursor: &mut Cursor, document: &mut Document) -> Result<(), Fault> {
 }
 
 // Reads a package that is written inside a file, or the name of the file's own.
-fn read_package(cursor: &mut Cursor, document: &mut Document) -> Result<(), Fault> {
+fn read_package(cursor: &mut Cursor, document: &mut Document) -> Result<(), Fault>
+    ensures { OnOk result (ReadsAfterWord (IsDocument document.old) (codes "package") cursor.old cursor.new (IsDocument document.new)) }
+{
     cursor.take();
     let name = read_package_name(cursor)?;
     if !cursor.sees(TokenKind::OpenBrace) {
@@ -93,11 +95,10 @@ fn name_package(
     cursor: &mut Cursor,
     document: &mut Document,
     name: PackageName,
-) -> Result<(), Fault> {
-    let is_first = document.package.is_none()
-        && document.items.is_empty()
-        && document.packages.is_empty();
-    if !is_first {
+) -> Result<(), Fault>
+    ensures { OnOk result (ReadsAfter (IsDocument document.old ▸ IsWord (codes "package") ▸ IsPackageName name) cursor.old cursor.new (IsDocument document.new)) }
+{
+    if !has_nothing(document) {
         return Err(cursor.refuse("`{`, since a file names its package once, before all else"));
     }
     cursor.expect_end()?;
@@ -105,8 +106,17 @@ fn name_package(
     Ok(())
 }
 
+// Whether nothing of a file is read so far.
+fn has_nothing(document: &Document) -> bool
+    ensures { result ≡ true → (document.now.«package» ≡ None) × (vec_len document.now.items ≡ 0) × (vec_len document.now.packages ≡ 0) }
+{
+    document.package.is_none() && document.items.is_empty() && document.packages.is_empty()
+}
+
 // An item of a package that is written inside a file.
 impl Item for TopItem {
+    ghost item = { λ item. IsTopItem item };
+
     fn read(cursor: &mut Cursor) -> Result<TopItem, Fault> {
         let gates = read_gates(cursor)?;
         if cursor.eat_word("package") {
@@ -118,7 +128,9 @@ impl Item for TopItem {
 }
 
 // Reads an item after its attributes.
-fn read_item_after(cursor: &mut Cursor, gates: Gates, expected: &str) -> Result<TopItem, Fault> {
+fn read_item_after(cursor: &mut Cursor, gates: Gates, expected: &str) -> Result<TopItem, Fault>
+    ensures { IfOk result (λ item. ReadsAfter (IsGates gates) cursor.old cursor.new (IsTopItem item)) }
+{
     match cursor.word() {
         "interface" => Ok(TopItem::Interface(read_interface(cursor, gates)?)),
         "world" => Ok(TopItem::World(read_world(cursor, gates)?)),
@@ -130,21 +142,27 @@ fn read_item_after(cursor: &mut Cursor, gates: Gates, expected: &str) -> Result<
     }
 }
 
-fn read_interface(cursor: &mut Cursor, gates: Gates) -> Result<InterfaceDecl, Fault> {
+fn read_interface(cursor: &mut Cursor, gates: Gates) -> Result<InterfaceDecl, Fault>
+    ensures { IfOk result (λ interface. ReadsAfterWord (IsGates gates) (codes "interface") cursor.old cursor.new (IsInterface interface)) }
+{
     cursor.take();
     let name = cursor.ident("the name of the interface")?;
     let items = read_block(cursor)?;
     Ok(InterfaceDecl { gates, name, items })
 }
 
-fn read_world(cursor: &mut Cursor, gates: Gates) -> Result<WorldDecl, Fault> {
+fn read_world(cursor: &mut Cursor, gates: Gates) -> Result<WorldDecl, Fault>
+    ensures { IfOk result (λ world. ReadsAfterWord (IsGates gates) (codes "world") cursor.old cursor.new (IsWorld world)) }
+{
     cursor.take();
     let name = cursor.ident("the name of the world")?;
     let items = read_block(cursor)?;
     Ok(WorldDecl { gates, name, items })
 }
 
-fn read_top_use(cursor: &mut Cursor) -> Result<TopUse, Fault> {
+fn read_top_use(cursor: &mut Cursor) -> Result<TopUse, Fault>
+    ensures { IfOk result (λ item. (before : Cursor) → Reads before cursor.old Nothing → SaysWord (source cursor.old) cursor.old.next (codes "use") → Reads before cursor.new (IsTopUse item)) }
+{
     cursor.take();
     let path = read_path(cursor)?;
     let alias = read_alias(cursor)?;

@@ -1,5 +1,10 @@
 //! Reads functions.
 
+ghost use Rattle.std.specs.Prelude.{◌≡◌, IfOk};
+ghost use Rattle.wac_wit_syntax.specs.Behind.{ReadsSignature};
+ghost use Rattle.wac_wit_syntax.specs.Cursors.{Reads};
+ghost use Rattle.wac_wit_syntax.specs.Functions.{IsFieldDecl, IsReturns, IsSignature};
+
 use super::cursor::Cursor;
 use super::error::Fault;
 use super::lists::{ListForm, Member, read_list};
@@ -22,7 +27,9 @@ pub(crate) fn sees_func(cursor: &Cursor) -> bool {
 }
 
 /// Reads `async? func(..) -> TYPE;`.
-pub(crate) fn read_signature(cursor: &mut Cursor) -> Result<Signature, Fault> {
+pub(crate) fn read_signature(cursor: &mut Cursor) -> Result<Signature, Fault>
+    ensures { IfOk result (λ signature. Reads cursor.old cursor.new (IsSignature signature)) }
+{
     let start = cursor.peek().span;
     let is_async = cursor.eat_word("async");
     if !cursor.eat_word("func") {
@@ -36,7 +43,10 @@ pub(crate) fn signature_after(
     cursor: &mut Cursor,
     start: Span,
     is_async: bool,
-) -> Result<Signature, Fault> {
+) -> Result<Signature, Fault>
+    ensures read { IfOk result (λ signature. ReadsSignature start signature cursor.old cursor.new) }
+    ensures kind { IfOk result (λ signature. signature.is_async ≡ is_async) }
+{
     let params = read_list(cursor, PARAMS)?;
     let returns = read_returns(cursor)?;
     let span = start.to(cursor.last_span());
@@ -49,7 +59,9 @@ pub(crate) fn signature_after(
 }
 
 // Reads `-> TYPE`, if that comes next.
-fn read_returns(cursor: &mut Cursor) -> Result<Option<TypeExpr>, Fault> {
+fn read_returns(cursor: &mut Cursor) -> Result<Option<TypeExpr>, Fault>
+    ensures { IfOk result (λ returns. Reads cursor.old cursor.new (IsReturns returns)) }
+{
     if !cursor.eat(TokenKind::Arrow) {
         return Ok(None);
     }
@@ -61,6 +73,8 @@ fn read_returns(cursor: &mut Cursor) -> Result<Option<TypeExpr>, Fault> {
 
 // A parameter, or a field of a record.
 impl Member for Field {
+    ghost member = { λ _ field. IsFieldDecl field };
+
     fn read(cursor: &mut Cursor, form: ListForm) -> Result<Field, Fault> {
         let name = cursor.label(form.member)?;
         let ty = read_type(cursor)?;

@@ -1,13 +1,23 @@
 //! Reads attributes.
 
+ghost use Rattle.std.specs.Prelude.{◌≡◌, false, true, IfOk, OnOk};
+ghost use Rattle.wac_wit_syntax.specs.Cursors.{Reads, ReadsBehind};
+ghost use Rattle.wac_wit_syntax.specs.Gates.{AreExclusive, AreGates, IsGateField, IsGates};
+ghost use Rattle.wac_wit_syntax.specs.Productions.{◌▸◌, IsKind};
+ghost use Rattle.wac_wit_syntax.specs.declared.cursor.Cursor.{Cursor};
+ghost use Rattle.wac_wit_syntax.specs.declared.tree.Gate.{Gate};
+
 use super::cursor::Cursor;
 use super::error::Fault;
+use super::positions::Span;
 use super::token::TokenKind;
 use super::tree::{Gate, Gates};
 use super::versions::read_version;
 
 /// Reads the attributes of an item.
-pub(crate) fn read_gates(cursor: &mut Cursor) -> Result<Gates, Fault> {
+pub(crate) fn read_gates(cursor: &mut Cursor) -> Result<Gates, Fault>
+    ensures { IfOk result (λ gates. Reads cursor.old cursor.new (IsGates gates)) }
+{
     let mut gates = Gates {
         docs: cursor.peek().docs,
         since: None,
@@ -18,53 +28,89 @@ pub(crate) fn read_gates(cursor: &mut Cursor) -> Result<Gates, Fault> {
         if !cursor.eat(TokenKind::At) {
             break;
         }
+        let span = cursor.peek().span;
         read_gate(cursor, &mut gates)?;
+        refuse_both(cursor, &gates, span)?;
     }
     Ok(gates)
 }
 
 /// Refuses an item that can't have attributes behind some.
-pub(crate) fn refuse_gates(cursor: &mut Cursor, gates: &Gates) -> Result<(), Fault> {
+pub(crate) fn refuse_gates(cursor: &mut Cursor, gates: &Gates) -> Result<(), Fault>
+    ensures none { OnOk result ((gates.now.since ≡ None) × (gates.now.unstable ≡ None) × (gates.now.deprecated ≡ None)) }
+    ensures rest { OnOk result (cursor.new ≡ cursor.old) }
+{
     if gates.since.is_some() || gates.unstable.is_some() || gates.deprecated.is_some() {
         return Err(cursor.refuse("`interface` or `world` behind an attribute"));
     }
     Ok(())
 }
 
-// Reads an attribute after its `@`.
-fn read_gate(cursor: &mut Cursor, gates: &mut Gates) -> Result<(), Fault> {
-    let span = cursor.peek().span;
-    match cursor.word() {
-        "since" => put_gate(cursor, &mut gates.since, false)?,
-        "unstable" => put_gate(cursor, &mut gates.unstable, true)?,
-        "deprecated" => put_gate(cursor, &mut gates.deprecated, false)?,
-        _ => return Err(cursor.refuse("`since`, `unstable` or `deprecated`")),
-    }
+// Refuses two attributes that don't go together, the second of which stands at a place.
+fn refuse_both(cursor: &mut Cursor, gates: &Gates, span: Span) -> Result<(), Fault>
+    ensures none { OnOk result (AreExclusive gates.now) }
+    ensures rest { OnOk result (cursor.new ≡ cursor.old) }
+{
     if gates.since.is_some() && gates.unstable.is_some() {
         return Err(cursor.refuse_at(span, "`@since` and `@unstable` don't go together"));
     }
     Ok(())
 }
 
+// Reads an attribute after its `@`.
+fn read_gate(cursor: &mut Cursor, gates: &mut Gates) -> Result<(), Fault>
+    ensures read { OnOk result ((first at : Cursor) → Reads first at (λ s i j. AreGates s gates.old.since gates.old.unstable gates.old.deprecated i j) → Reads at cursor.old (IsKind TokenKind.At) → Reads first cursor.new (λ s i j. AreGates s gates.new.since gates.new.unstable gates.new.deprecated i j)) }
+    ensures docs { OnOk result (gates.new.docs ≡ gates.old.docs) }
+{
+    match cursor.word() {
+        "since" => {
+            put_gate(cursor, &mut gates.since, false)?;
+            Ok(())
+        }
+        "unstable" => {
+            put_gate(cursor, &mut gates.unstable, true)?;
+            Ok(())
+        }
+        "deprecated" => {
+            put_gate(cursor, &mut gates.deprecated, false)?;
+            Ok(())
+        }
+        _ => Err(cursor.refuse("`since`, `unstable` or `deprecated`")),
+    }
+}
+
 // Reads an attribute that hasn't been there yet, from its name on.
-fn put_gate(cursor: &mut Cursor, gate: &mut Option<Gate>, is_feature: bool) -> Result<(), Fault> {
+fn put_gate(cursor: &mut Cursor, gate: &mut Option<Gate>, is_feature: bool) -> Result<(), Fault>
+    ensures none { OnOk result (gate.old ≡ None) }
+    ensures put { OnOk result ((g : Gate) × (gate.new ≡ Some g) × ReadsBehind cursor.old cursor.new (IsKind TokenKind.OpenParen ▸ IsGateField is_feature g ▸ IsKind TokenKind.CloseParen)) }
+{
     let span = cursor.peek().span;
     if gate.is_some() {
         return Err(cursor.refuse_at(span, "this attribute stands twice"));
     }
     cursor.take();
     cursor.expect(TokenKind::OpenParen)?;
-    *gate = Some(if is_feature {
-        read_feature(cursor)?
-    } else {
-        read_since(cursor)?
-    });
-    cursor.expect(TokenKind::CloseParen)?;
+    let field = read_field(cursor, is_feature)?;
+    let field = cursor.before(field, TokenKind::CloseParen)?;
+    *gate = Some(field);
     Ok(())
 }
 
+// Reads `version = VERSION` or `feature = NAME`.
+fn read_field(cursor: &mut Cursor, is_feature: bool) -> Result<Gate, Fault>
+    ensures { IfOk result (λ field. Reads cursor.old cursor.new (IsGateField is_feature field)) }
+{
+    if is_feature {
+        read_feature(cursor)
+    } else {
+        read_since(cursor)
+    }
+}
+
 // Reads `version = VERSION`.
-fn read_since(cursor: &mut Cursor) -> Result<Gate, Fault> {
+fn read_since(cursor: &mut Cursor) -> Result<Gate, Fault>
+    ensures { IfOk result (λ version. Reads cursor.old cursor.new (IsGateField false version)) }
+{
     if !cursor.eat_word("version") {
         return Err(cursor.refuse("`version = VERSION`"));
     }
@@ -73,7 +119,9 @@ fn read_since(cursor: &mut Cursor) -> Result<Gate, Fault> {
 }
 
 // Reads `feature = NAME`.
-fn read_feature(cursor: &mut Cursor) -> Result<Gate, Fault> {
+fn read_feature(cursor: &mut Cursor) -> Result<Gate, Fault>
+    ensures { IfOk result (λ feature. Reads cursor.old cursor.new (IsGateField true feature)) }
+{
     if !cursor.eat_word("feature") {
         return Err(cursor.refuse("`feature = NAME`"));
     }

@@ -1,5 +1,12 @@
 //! Reads interfaces.
 
+ghost use Rattle.std.specs.Prelude.{false, codes, IfOk};
+ghost use Rattle.wac_wit_syntax.specs.Behind.{ReadsAfter, ReadsAfterWord};
+ghost use Rattle.wac_wit_syntax.specs.Cursors.{Reads};
+ghost use Rattle.wac_wit_syntax.specs.Functions.{IsFunc};
+ghost use Rattle.wac_wit_syntax.specs.Gates.{IsGates};
+ghost use Rattle.wac_wit_syntax.specs.Interfaces.{IsAlias, IsInterfaceItem, IsRename, IsUse};
+
 use super::cursor::Cursor;
 use super::error::Fault;
 use super::functions::read_signature;
@@ -19,6 +26,8 @@ const USED_NAMES: ListForm = ListForm {
 };
 
 impl Item for InterfaceItem {
+    ghost item = { λ item. IsInterfaceItem item };
+
     fn read(cursor: &mut Cursor) -> Result<InterfaceItem, Fault> {
         let gates = read_gates(cursor)?;
         if let Some(word) = def_word(cursor) {
@@ -31,7 +40,9 @@ impl Item for InterfaceItem {
     }
 }
 
-fn read_func(cursor: &mut Cursor, gates: Gates) -> Result<FuncItem, Fault> {
+fn read_func(cursor: &mut Cursor, gates: Gates) -> Result<FuncItem, Fault>
+    ensures { IfOk result (λ func. ReadsAfter (IsGates gates) cursor.old cursor.new (IsFunc func)) }
+{
     let name = cursor.label("a function, a type, `use` or `}`")?;
     let signature = read_signature(cursor)?;
     let span = name.span.to(signature.span);
@@ -44,7 +55,9 @@ fn read_func(cursor: &mut Cursor, gates: Gates) -> Result<FuncItem, Fault> {
 }
 
 /// Reads `use PATH.{..};`.
-pub(crate) fn read_use(cursor: &mut Cursor, gates: Gates) -> Result<UseItem, Fault> {
+pub(crate) fn read_use(cursor: &mut Cursor, gates: Gates) -> Result<UseItem, Fault>
+    ensures { IfOk result (λ item. ReadsAfterWord (IsGates gates) (codes "use") cursor.old cursor.new (IsUse item)) }
+{
     cursor.take();
     let path = read_path(cursor)?;
     let path = cursor.before(path, TokenKind::Dot)?;
@@ -54,18 +67,22 @@ pub(crate) fn read_use(cursor: &mut Cursor, gates: Gates) -> Result<UseItem, Fau
 
 // A name with the one that it gets, if it gets another.
 impl Member for Rename {
+    ghost member = { λ needed rename. IsRename needed rename };
+
     fn read(cursor: &mut Cursor, form: ListForm) -> Result<Rename, Fault> {
         let name = cursor.ident(form.member)?;
-        if form.needs_alias && cursor.word() != "as" {
+        let alias = read_alias(cursor)?;
+        if form.needs_alias && alias.is_none() {
             return Err(cursor.refuse("`as` and the name that it gets"));
         }
-        let alias = read_alias(cursor)?;
         Ok(Rename { name, alias })
     }
 }
 
 /// Reads `as NAME`, if that comes next.
-pub(crate) fn read_alias(cursor: &mut Cursor) -> Result<Option<Ident>, Fault> {
+pub(crate) fn read_alias(cursor: &mut Cursor) -> Result<Option<Ident>, Fault>
+    ensures { IfOk result (λ alias. Reads cursor.old cursor.new (IsAlias false alias)) }
+{
     if !cursor.eat_word("as") {
         return Ok(None);
     }

@@ -1,22 +1,33 @@
 //! Reads what stands one after another.
 
+ghost use Rattle.std.specs.Prelude.{◌≢◌, ℕ, Bool, IfOk};
+ghost use Rattle.wac_wit_syntax.specs.Cursors.{Reads};
+ghost use Rattle.wac_wit_syntax.specs.Lists.{IsBlock, Separated};
+ghost use Rattle.wac_wit_syntax.specs.Productions.{◌▸◌, IsKind, Source};
+
 use super::cursor::Cursor;
 use super::error::Fault;
 use super::token::TokenKind;
 
 /// What stands in a block: it begins with attributes, and where one is refused, the next is read.
 pub(crate) trait Item: Drop {
+    /// What the tokens of one are.
+    ghost item: { Self → Source → ℕ → ℕ → Type 0 };
+
     /// Reads one.
-    fn read(cursor: &mut Cursor) -> Result<Self, Fault>;
+    fn read(cursor: &mut Cursor) -> Result<Self, Fault>
+        ensures { IfOk result (λ read. Reads cursor.old cursor.new (item read)) };
 }
 
 /// Reads items between braces, and leaves out those that are refused.
-pub(crate) fn read_block<T: Item>(cursor: &mut Cursor) -> Result<Vec<T>, Fault> {
+pub(crate) fn read_block<T: Item>(cursor: &mut Cursor) -> Result<Vec<T>, Fault>
+    ensures { IfOk result (λ items. Reads cursor.old cursor.new (IsBlock T.item items.items)) }
+{
     cursor.expect(TokenKind::OpenBrace)?;
     let mut items = Vec::new(cursor.alloc);
     for _turn in 0..cursor.len() {
         if cursor.eat(TokenKind::CloseBrace) {
-            break;
+            return Ok(items);
         }
         let start = cursor.index();
         match T::read(cursor) {
@@ -24,13 +35,17 @@ pub(crate) fn read_block<T: Item>(cursor: &mut Cursor) -> Result<Vec<T>, Fault> 
             Err(fault) => cursor.recover(fault, start)?,
         }
     }
-    Ok(items)
+    Err(cursor.refuse("`}`"))
 }
 
 /// What stands in a list.
 pub(crate) trait Member: Drop {
+    /// What the tokens of one are, and whether it has to get another name.
+    ghost member: { Bool → Self → Source → ℕ → ℕ → Type 0 };
+
     /// Reads one of a list of a form.
-    fn read(cursor: &mut Cursor, form: ListForm) -> Result<Self, Fault>;
+    fn read(cursor: &mut Cursor, form: ListForm) -> Result<Self, Fault>
+        ensures { IfOk result (λ read. Reads cursor.old cursor.new (member form.needs_alias read)) };
 }
 
 /// How a list with commas is written, one of which may stand behind the last member.
@@ -49,17 +64,22 @@ pub(crate) struct ListForm {
 }
 
 /// Reads a list.
-pub(crate) fn read_list<T: Member>(cursor: &mut Cursor, form: ListForm) -> Result<Vec<T>, Fault> {
+pub(crate) fn read_list<T: Member>(cursor: &mut Cursor, form: ListForm) -> Result<Vec<T>, Fault>
+    ensures { IfOk result (λ members. form.open ≢ TokenKind.End → form.close ≢ TokenKind.End → Reads cursor.old cursor.new (IsKind form.open ▸ Separated (T.member form.needs_alias) members.items ▸ IsKind form.close)) }
+{
     cursor.expect(form.open)?;
     let mut members = Vec::new(cursor.alloc);
     for _turn in 0..cursor.len() {
         if cursor.eat(form.close) {
-            break;
+            return Ok(members);
         }
         members.push(T::read(cursor, form)?)?;
-        if !cursor.eat(TokenKind::Comma) && !cursor.sees(form.close) {
+        if !cursor.eat(TokenKind::Comma) {
+            if cursor.eat(form.close) {
+                return Ok(members);
+            }
             return Err(cursor.refuse(form.separator));
         }
     }
-    Ok(members)
+    Err(cursor.refuse(form.separator))
 }

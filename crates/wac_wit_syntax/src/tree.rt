@@ -3,6 +3,8 @@
 //! What the functions of this crate hold while they may fail is dropped by hand: each place that
 //! drops it calls `drop`, while what is derived is proved field by field at each such place.
 
+ghost use Rattle.std.specs.Prelude.{◌≡◌};
+
 use super::positions::Span;
 use wac_model::PrimitiveType;
 
@@ -16,7 +18,9 @@ pub struct Ident {
 
 impl Ident {
     /// The name as what stands in the parentheses of an attribute.
-    pub(crate) fn into_gate(self) -> Gate {
+    pub(crate) fn into_gate(self) -> Gate
+        ensures { result ≡ record { text = self.name; span = self.span } }
+    {
         let Ident { name: text, span } = self;
         Gate { text, span }
     }

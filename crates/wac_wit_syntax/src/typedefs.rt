@@ -1,5 +1,12 @@
 //! Reads types that have names.
 
+ghost use Rattle.std.specs.Prelude.{◌≡◌, IfOk, IfSome, codes};
+ghost use Rattle.wac_wit_syntax.specs.Behind.{ReadsAfter, ReadsAfterWord, def_text};
+ghost use Rattle.wac_wit_syntax.specs.Cursors.{Reads, source};
+ghost use Rattle.wac_wit_syntax.specs.Gates.{IsGates};
+ghost use Rattle.wac_wit_syntax.specs.Productions.{IsName, SaysWord};
+ghost use Rattle.wac_wit_syntax.specs.Typedefs.{AreMethods, IsBody, IsCaseDecl, IsMethod, IsPayloadDecl, IsTypeItem, word_of};
+
 use super::cursor::Cursor;
 use super::error::Fault;
 use super::functions::{read_signature, signature_after};
@@ -54,7 +61,9 @@ pub(crate) enum DefWord {
 }
 
 /// The word that comes next, if a type with a name begins with it.
-pub(crate) fn def_word(cursor: &Cursor) -> Option<DefWord> {
+pub(crate) fn def_word(cursor: &Cursor) -> Option<DefWord>
+    ensures { IfSome result (λ word. SaysWord (source cursor.now) cursor.now.next (def_text word)) }
+{
     if cursor.ahead(1).kind == TokenKind::Colon {
         return None;
     }
@@ -74,7 +83,9 @@ pub(crate) fn read_typedef(
     cursor: &mut Cursor,
     gates: Gates,
     word: DefWord,
-) -> Result<TypeItem, Fault> {
+) -> Result<TypeItem, Fault>
+    ensures { IfOk result (λ item. ReadsAfterWord (IsGates gates) (def_text word) cursor.old cursor.new (IsTypeItem item)) }
+{
     let start = cursor.take().span;
     let name = cursor.ident("the name of the type")?;
     let def = read_def(cursor, word)?;
@@ -88,7 +99,10 @@ pub(crate) fn read_typedef(
 }
 
 // Reads what follows the name of a type that begins with this word.
-fn read_def(cursor: &mut Cursor, word: DefWord) -> Result<TypeDef, Fault> {
+fn read_def(cursor: &mut Cursor, word: DefWord) -> Result<TypeDef, Fault>
+    ensures read { IfOk result (λ def. Reads cursor.old cursor.new (IsBody def)) }
+    ensures word { IfOk result (λ def. word_of def ≡ def_text word) }
+{
     match word {
         DefWord::Alias => read_alias(cursor),
         DefWord::Record => Ok(TypeDef::Record(read_list(cursor, FIELDS)?)),
@@ -99,7 +113,10 @@ fn read_def(cursor: &mut Cursor, word: DefWord) -> Result<TypeDef, Fault> {
     }
 }
 
-fn read_alias(cursor: &mut Cursor) -> Result<TypeDef, Fault> {
+fn read_alias(cursor: &mut Cursor) -> Result<TypeDef, Fault>
+    ensures read { IfOk result (λ def. Reads cursor.old cursor.new (IsBody def)) }
+    ensures word { IfOk result (λ def. word_of def ≡ def_text DefWord.Alias) }
+{
     cursor.expect(TokenKind::Equals)?;
     let ty = read_type(cursor)?;
     cursor.ended(TypeDef::Alias(ty))
@@ -107,6 +124,8 @@ fn read_alias(cursor: &mut Cursor) -> Result<TypeDef, Fault> {
 
 // A case of a variant.
 impl Member for Case {
+    ghost member = { λ _ case. IsCaseDecl case };
+
     fn read(cursor: &mut Cursor, form: ListForm) -> Result<Case, Fault> {
         let name = cursor.ident(form.member)?;
         let ty = read_payload(cursor)?;
@@ -116,7 +135,9 @@ impl Member for Case {
 }
 
 // Reads `(TYPE)`, if that comes next.
-fn read_payload(cursor: &mut Cursor) -> Result<Option<TypeExpr>, Fault> {
+fn read_payload(cursor: &mut Cursor) -> Result<Option<TypeExpr>, Fault>
+    ensures { IfOk result (λ ty. Reads cursor.old cursor.new (IsPayloadDecl ty)) }
+{
     if !cursor.eat(TokenKind::OpenParen) {
         return Ok(None);
     }
@@ -126,13 +147,17 @@ fn read_payload(cursor: &mut Cursor) -> Result<Option<TypeExpr>, Fault> {
 
 // A flag, or a case of an enum.
 impl Member for Ident {
+    ghost member = { λ _ id. IsName id };
+
     fn read(cursor: &mut Cursor, form: ListForm) -> Result<Ident, Fault> {
         cursor.ident(form.member)
     }
 }
 
 // Reads `;` or the functions of a resource.
-fn read_methods(cursor: &mut Cursor) -> Result<Vec<Method>, Fault> {
+fn read_methods(cursor: &mut Cursor) -> Result<Vec<Method>, Fault>
+    ensures { IfOk result (λ methods. Reads cursor.old cursor.new (AreMethods methods.items)) }
+{
     if cursor.eat(TokenKind::Semicolon) {
         return Ok(Vec::new(cursor.alloc));
     }
@@ -143,6 +168,8 @@ fn read_methods(cursor: &mut Cursor) -> Result<Vec<Method>, Fault> {
 }
 
 impl Item for Method {
+    ghost item = { λ method. IsMethod method };
+
     fn read(cursor: &mut Cursor) -> Result<Method, Fault> {
         let gates = read_gates(cursor)?;
         if cursor.word() == "constructor" {
@@ -153,7 +180,9 @@ impl Item for Method {
     }
 }
 
-fn read_constructor(cursor: &mut Cursor, gates: Gates) -> Result<Method, Fault> {
+fn read_constructor(cursor: &mut Cursor, gates: Gates) -> Result<Method, Fault>
+    ensures { IfOk result (λ method. ReadsAfterWord (IsGates gates) (codes "constructor") cursor.old cursor.new (IsMethod method)) }
+{
     let start = cursor.take().span;
     let signature = signature_after(cursor, start, false)?;
     let name = String::from_str(cursor.alloc, "constructor")?;
@@ -167,7 +196,9 @@ fn read_constructor(cursor: &mut Cursor, gates: Gates) -> Result<Method, Fault> 
     })
 }
 
-fn read_named_method(cursor: &mut Cursor, gates: Gates) -> Result<Method, Fault> {
+fn read_named_method(cursor: &mut Cursor, gates: Gates) -> Result<Method, Fault>
+    ensures { IfOk result (λ method. ReadsAfter (IsGates gates) cursor.old cursor.new (IsMethod method)) }
+{
     let name = cursor.label("the name of a method, `constructor` or `}`")?;
     let kind = if cursor.eat_word("static") {
         MethodKind::Static

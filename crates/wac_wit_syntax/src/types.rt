@@ -1,9 +1,9 @@
 //! Reads types.
 
-ghost use Rattle.std.specs.Prelude.{◌≡◌, true, false, [], ◌∷◌, ◌++◌, IfOk, IfSome, IsOk, OnOk};
+ghost use Rattle.std.specs.Prelude.{◌≡◌, true, false, [], ◌∷◌, ◌++◌, IfOk, IfSome, IsOk};
 ghost use Rattle.wac_model.specs.Desc.{primitive_desc};
 ghost use Rattle.wac_wit_syntax.specs.Cursors.{Reads, ReadsBehind, source};
-ghost use Rattle.wac_wit_syntax.specs.Productions.{◌▸◌, IsKind, IsName, Nothing, SaysWord};
+ghost use Rattle.wac_wit_syntax.specs.Productions.{◌▸◌, IsKind, IsName, SaysWord};
 ghost use Rattle.wac_wit_syntax.specs.TypeParts.{Begun, IsTypeMade, Parted, HasMapKey, Stage, TakesLast, is_empty, is_first, may_end, may_go_on, next_is_type, word_text};
 ghost use Rattle.wac_wit_syntax.specs.Types.{IsLength, IsTypeOf, SaysLength, is_key};
 ghost use Rattle.wac_wit_syntax.specs.declared.cursor.Cursor.{Cursor};

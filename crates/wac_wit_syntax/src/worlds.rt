@@ -1,5 +1,13 @@
 //! Reads worlds.
 
+ghost use Rattle.std.specs.Prelude.{true, codes, IfOk};
+ghost use Rattle.wac_model.specs.Text.{Text};
+ghost use Rattle.wac_wit_syntax.specs.Behind.{ReadsAfter, ReadsAfterWord};
+ghost use Rattle.wac_wit_syntax.specs.Cursors.{Reads};
+ghost use Rattle.wac_wit_syntax.specs.Gates.{IsGates};
+ghost use Rattle.wac_wit_syntax.specs.Productions.{◌▸◌, IsKind, IsName};
+ghost use Rattle.wac_wit_syntax.specs.Worlds.{AreRenames, IsExtern, IsExternItem, IsInclude, IsWorldItem};
+
 use super::cursor::Cursor;
 use super::error::Fault;
 use super::functions::{read_signature, sees_func};
@@ -21,6 +29,8 @@ const RENAMED: ListForm = ListForm {
 };
 
 impl Item for WorldItem {
+    ghost item = { λ item. IsWorldItem item };
+
     fn read(cursor: &mut Cursor) -> Result<WorldItem, Fault> {
         let gates = read_gates(cursor)?;
         if let Some(word) = def_word(cursor) {
@@ -36,7 +46,9 @@ impl Item for WorldItem {
     }
 }
 
-fn read_include(cursor: &mut Cursor, gates: Gates) -> Result<IncludeItem, Fault> {
+fn read_include(cursor: &mut Cursor, gates: Gates) -> Result<IncludeItem, Fault>
+    ensures { IfOk result (λ item. ReadsAfterWord (IsGates gates) (codes "include") cursor.old cursor.new (IsInclude item)) }
+{
     cursor.take();
     let path = read_path(cursor)?;
     let renames = read_renames(cursor)?;
@@ -48,7 +60,9 @@ fn read_include(cursor: &mut Cursor, gates: Gates) -> Result<IncludeItem, Fault>
 }
 
 // Reads `with { .. }` or `;`.
-fn read_renames(cursor: &mut Cursor) -> Result<Vec<Rename>, Fault> {
+fn read_renames(cursor: &mut Cursor) -> Result<Vec<Rename>, Fault>
+    ensures { IfOk result (λ renames. Reads cursor.old cursor.new (AreRenames renames.items)) }
+{
     if cursor.eat_word("with") {
         return read_list(cursor, RENAMED);
     }
@@ -56,7 +70,9 @@ fn read_renames(cursor: &mut Cursor) -> Result<Vec<Rename>, Fault> {
 }
 
 // Reads an import or an export from its first word on.
-fn read_extern_item(cursor: &mut Cursor, gates: Gates) -> Result<ExternItem, Fault> {
+fn read_extern_item(cursor: &mut Cursor, gates: Gates) -> Result<ExternItem, Fault>
+    ensures { IfOk result (λ item. (word : Text) → ReadsAfterWord (IsGates gates) word cursor.old cursor.new (IsExternItem word item)) }
+{
     cursor.take();
     let start = cursor.peek().span;
     let what = read_extern(cursor)?;
@@ -64,18 +80,22 @@ fn read_extern_item(cursor: &mut Cursor, gates: Gates) -> Result<ExternItem, Fau
     Ok(ExternItem { gates, what, span })
 }
 
-fn read_extern(cursor: &mut Cursor) -> Result<Extern, Fault> {
+fn read_extern(cursor: &mut Cursor) -> Result<Extern, Fault>
+    ensures { IfOk result (λ what. Reads cursor.old cursor.new (IsExtern what)) }
+{
     let first = cursor.ident("a name or the path of an interface")?;
     if is_path_ahead(cursor) {
         let path = path_after(cursor, first)?;
         return cursor.ended(Extern::Path(path));
     }
-    cursor.take();
+    cursor.expect(TokenKind::Colon)?;
     read_named_extern(cursor, first)
 }
 
 // Reads what is imported or exported under a name, behind its colon.
-fn read_named_extern(cursor: &mut Cursor, name: Ident) -> Result<Extern, Fault> {
+fn read_named_extern(cursor: &mut Cursor, name: Ident) -> Result<Extern, Fault>
+    ensures { IfOk result (λ what. ReadsAfter (IsName name ▸ IsKind TokenKind.Colon) cursor.old cursor.new (IsExtern what)) }
+{
     if sees_func(cursor) {
         return Ok(Extern::Func(name, read_signature(cursor)?));
     }
