@@ -1,5 +1,6 @@
 pub mod Advances
 pub mod After
+pub mod Alone
 pub mod Content
 pub mod HandedIn
 pub mod InOrder

@@ -21,6 +21,7 @@ ghost use Rattle.wac_aggregator.specs.Content.{shown, state_in};
 use super::aggregator::TypeAggregator;
 use super::importing::advance;
 use super::start::no_imports;
+use indexmap::IndexMap;
 use std::alloc::Global;
 use wac_aggregator_errors::AggregateAllError;
 use wac_checker::SubtypeChecker;
@@ -90,13 +91,14 @@ pub fn aggregate_all(
 {
     checker.forget(number);
     let mut state = no_imports(alloc, number, checker.direction());
+    let mut alone = IndexMap::new(alloc);
     for at in 0..calls.len() {
         let call = &calls[at];
         call.types.sound();
-        if let Err(error) = advance(&mut state, call) {
+        if let Err(error) = advance(&mut state, &mut alone, call) {
             return Err(AggregateAllError { at, error });
         }
         state.imports.filed();
     }
-    Ok(TypeAggregator { state })
+    Ok(TypeAggregator { state, alone })
 }

@@ -4,6 +4,7 @@
 
 mod aggregator;
 mod all;
+mod alone;
 mod cases;
 mod importing;
 mod noting;

@@ -16,3 +16,6 @@ pub mod Entering
 pub mod New
 pub mod Values
 pub mod EnteringLeaves
+pub mod Alone
+pub mod GrownAlone
+pub mod GrowsTo

@@ -4,6 +4,7 @@ pub mod Narrows
 pub mod Standing
 pub mod Imports
 pub mod State
+pub mod Alone
 pub mod Remembers
 pub mod Taking
 pub mod Last

@@ -17,6 +17,7 @@ pub mod ReadyLemmas
 pub mod Enters
 pub mod Within
 pub mod Alike
+pub mod Alone
 pub mod Identifiers
 pub mod Plain
 pub mod Refusals
@@ -28,3 +29,4 @@ pub mod Members
 pub mod Arrowed
 pub mod MemberCycles
 pub mod MemberGrows
+pub mod GrownAlone

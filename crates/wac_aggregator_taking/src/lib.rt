@@ -16,6 +16,7 @@ mod state;
 mod steps;
 mod worlds;
 
+pub use growing::put_apart;
 pub use meeting::meet_own;
 pub use state::Merging;
 pub use steps::take_item;
