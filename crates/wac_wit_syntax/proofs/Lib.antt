@@ -4,6 +4,7 @@ pub mod Labels
 pub mod FirstPart
 pub mod Balanced
 pub mod Places
+pub mod Placing
 pub mod OnePart
 pub mod Pieces
 pub mod FaultFacts
@@ -14,6 +15,8 @@ pub mod Keys
 pub mod Covering
 pub mod NameTokens
 pub mod TypeSteps
+pub mod TypesLeft
+pub mod TypesGone
 pub mod TypesMade
 pub mod TypesRead
 pub mod Listing
@@ -22,3 +25,16 @@ pub mod Signatures
 pub mod Ended
 pub mod Items
 pub mod Files
+pub mod Finishing
+pub mod CutOut
+pub mod PlainTypes
+pub mod PathSteps
+pub mod Lengths
+pub mod GatesLeft
+pub mod ListsLeft
+pub mod ItemsLeft
+pub mod Lengthening
+pub mod WorldsLeft
+pub mod ItemsBegin
+pub mod TopLeft
+pub mod FilesLeft

@@ -39,6 +39,9 @@ span_of_one t s i j e h =
     let k : i ≡ j - 1 = omega arith in
     ap₂ (λ (a b : Token). record { start = a.span.start; end = b.span.end }) e (e ∙ ap (token_at s) k)
 
+pub says_primitive : (s : Source) (i : ℕ) (w : Text) (p : PrimitiveType) → w ≡ primitive_desc p → (w ≢ [] → SaysWord s i w) → SaysWord s i (primitive_desc p)
+says_primitive s i w p e h = subst (SaysWord s i) e (h (λ z. desc_nonempty p (sym e ∙ z)))
+
 pub reads_primitive : (c d : Cursor) (taken : Token) (p : PrimitiveType) (w : Text) → w ≡ primitive_desc p → (w ≢ [] → SaysWord (source c) c.next w) → taken ≡ token_at (source c) c.next
     → d ≡ record c { next = d.next } → (taken.kind ≢ End → d.next ≡ c.next + 1) → Reads c d (IsTypeOf (ty.Primitive p taken.span))
 reads_primitive c d taken p w e h f g n =

@@ -1,6 +1,7 @@
 -- Files (WIT.md, "Top-level items" and "Package declaration").
 use Rattle.std.specs.Prelude.{◌≡◌, ℕ, false, codes, List, [], ◌∷◌, ◌++◌, Option, Some, None}
 use Rattle.wac_model.specs.Text.{Text}
+use Rattle.wac_wit_syntax.specs.Completing.{IsShallow}
 use Rattle.wac_wit_syntax.specs.Gates.{IsGates}
 use Rattle.wac_wit_syntax.specs.Interfaces.{IsAlias, IsInterfaceItem}
 use Rattle.wac_wit_syntax.specs.Lists.{IsBlock}
@@ -59,3 +60,7 @@ IsDocument d = MayBeNamed d.«package» ▸ (λ s i j. AreParts s d.items.items 
 -- The text says some tokens, and those from the first to the end of the text are the document.
 abbrev pub Says : Text → Document → Type 0
 Says text d = (tokens : List Token) × IsRead text tokens × ((j : ℕ) × IsDocument d (record { text = text; tokens = tokens }) 0 j × ((token_at (record { text = text; tokens = tokens }) j).kind ≡ End))
+
+-- at no place of what the text says are as many angles open as types may nest deep
+abbrev pub IsShallowText : Text → Type 0
+IsShallowText text = (tokens : List Token) → IsRead text tokens → IsShallow (record { text = text; tokens = tokens })

@@ -1,10 +1,12 @@
--- Where a text is refused while it is cut into tokens.
-use Rattle.std.specs.Prelude.{◌≡◌, ◌⊎◌, ℕ, ◌≤◌, true, List, ◌∷◌, ◌++◌, All, drop, length}
-use Rattle.std.specs.Str.{chars, encode_utf8_all}
+-- Where a text is refused.
+use Rattle.std.specs.Prelude.{◌≡◌, ◌⊎◌, ℕ, ◌≤◌, true, List, ◌∷◌, ◌++◌, All, drop, length, ⊤}
+use Rattle.std.specs.Str.{IsCharBoundary, chars, encode_utf8_all}
 use Rattle.wac_model.specs.Text.{Text}
 use Rattle.wac_wit_syntax.specs.Characters.{is_refused_before}
 use Rattle.wac_wit_syntax.specs.Parts.{HasNoPart}
 use Rattle.wac_wit_syntax.specs.declared.error.Refusal.{Refusal}
+use Rattle.wac_wit_syntax.specs.declared.error.SyntaxError.{SyntaxError}
+use Rattle.wac_wit_syntax.specs.declared.error.SyntaxError.TheVariants.{Memory, Refused}
 use Rattle.wac_wit_syntax.specs.declared.positions.Span.{Span}
 
 -- a character that is refused begins at the place
@@ -25,3 +27,18 @@ pub record IsFault (text : Text) (span : Span) : Type 0 where
 -- so are all the places of these refusals
 abbrev pub AreFaults : Text → List Refusal → Type 0
 AreFaults text refusals = All (λ (r : Refusal). IsFault text r.span) refusals
+
+-- the place lies in the text, and no character lies partly in it
+pub record IsPlaceIn (text : Text) (span : Span) : Type 0 where
+  pub ordered : span.start ≤ span.end
+  pub begins : IsCharBoundary text span.start
+  pub ends : IsCharBoundary text span.end
+
+-- so do all the places of these refusals
+abbrev pub ArePlacesIn : Text → List Refusal → Type 0
+ArePlacesIn text refusals = All (λ (r : Refusal). IsPlaceIn text r.span) refusals
+
+-- each place that the error names lies in the text
+abbrev pub LiesIn : Text → SyntaxError → Type 0
+LiesIn text (Refused refusals) = ArePlacesIn text refusals.items
+LiesIn text Memory = ⊤

@@ -10,10 +10,12 @@ pub mod Faults
 pub mod Steps
 pub mod Productions
 pub mod Cursors
+pub mod Completing
 pub mod Paths
 pub mod Types
 pub mod TypeParts
 pub mod Gates
+pub mod GateParts
 pub mod Lists
 pub mod Functions
 pub mod Typedefs

@@ -1,13 +1,20 @@
 -- What the reader of types has between two steps, behind the word with which a type begins: the parts
 -- that stand between the angles. The grammar is told apart from this (`Types`).
-use Rattle.std.specs.Prelude.{◌≡◌, ℕ, Bool, true, false, codes, List, [], ◌∷◌, ◌++◌, Option, Some, None, Box}
+use Rattle.std.specs.Prelude.{◌≡◌, ◌≢◌, ◌⊎◌, ℕ, ◌+◌, ◌<◌, ◌≤◌, ⊤, length, Bool, true, false, codes, List, [], ◌∷◌, ◌++◌, Option, Some, None, Box, Result, IfOk, IfErr}
 use Rattle.std.specs.declared.alloc.Global.{Global}
 use Rattle.wac_model.specs.Text.{Text}
-use Rattle.wac_wit_syntax.specs.Productions.{◌▸◌, IsKind, IsSpan, IsWord, Nothing, Production, Source}
+use Rattle.wac_wit_syntax.specs.Completing.{AnyOf, AreOpen, IsReadable, NotBefore}
+use Rattle.wac_wit_syntax.specs.Cursors.{source}
+use Rattle.wac_wit_syntax.specs.Productions.{◌▸◌, IsKind, IsSpan, IsWord, Nothing, Production, SaysWord, Source, token_at}
 use Rattle.wac_wit_syntax.specs.Types.{AreTypes, IsKey, IsLength, IsType, IsTypeOf}
+use Rattle.wac_wit_syntax.specs.declared.types.TheConstants.{MAX_DEPTH}
+use Rattle.wac_wit_syntax.specs.declared.cursor.Cursor.{Cursor}
+use Rattle.wac_wit_syntax.specs.declared.error.Fault.{Fault}
+use Rattle.wac_wit_syntax.specs.declared.error.Fault.TheVariants.{Memory}
 use Rattle.wac_wit_syntax.specs.declared.positions.Span.{Span}
 use Rattle.wac_wit_syntax.specs.declared.token.TokenKind.TheVariants.{CloseAngle, Comma, OpenAngle, Underscore}
 use Rattle.wac_wit_syntax.specs.declared.tree.TypeExpr.{TypeExpr}
+use Rattle.wac_wit_syntax.specs.declared.types.Parts.{Parts}
 use Rattle.wac_wit_syntax.specs.declared.types.TypeWord.{TypeWord}
 use Rattle.wac_wit_syntax.specs.declared.types.TypeWord.TheVariants as word
 
@@ -19,6 +26,14 @@ word_text word.Tuple = codes "tuple"
 word_text word.Map = codes "map"
 word_text word.Future = codes "future"
 word_text word.Stream = codes "stream"
+
+-- no word that makes types comes next; `map` makes one before `<` alone
+abbrev pub BeginsPlain : Source → ℕ → Type 0
+BeginsPlain s i = (w : TypeWord) → SaysWord s i (word_text w) → (w ≡ word.Map) × ((token_at s (i + 1)).kind ≢ OpenAngle)
+
+-- a type that begins with none
+abbrev pub IsPlainType : Production
+IsPlainType = λ s i j. AnyOf IsTypeOf s i j × BeginsPlain s i
 
 -- there is no part yet
 abbrev pub is_empty : List TypeExpr → Bool → Bool
@@ -118,3 +133,83 @@ TakesLast before after (Some b) = before ≡ after ++ b.value ∷ []
 abbrev pub HasMapKey : List TypeExpr → Type 0
 HasMapKey [] = ⊥
 HasMapKey (t ∷ ts) = IsKey t
+
+-- the parts that a word needs are there
+abbrev pub AreEnough : TypeWord → List TypeExpr → Type 0
+AreEnough word.Map ts = (1 < length ts) × HasMapKey ts
+AreEnough word.List ts = 0 < length ts
+AreEnough word.Option ts = 0 < length ts
+AreEnough w ts = ⊤
+
+-- ---- what is left to be read
+
+-- a type of which no more stands behind these words
+abbrev pub stands_alone : TypeWord → Bool
+stands_alone word.Result = true
+stands_alone word.Future = true
+stands_alone word.Stream = true
+stands_alone w = false
+
+-- behind these parts, what stands from the next part on, up to behind the angle that closes them, and what
+-- stands behind a part; where so many angles are open. Whichever type is read for one of them, the rest is so.
+mutual
+  pub data IsPartNext (s : Source) (w : TypeWord) (n : ℕ) : List TypeExpr → Bool → Option ℕ → ℕ → ℕ → Type 0 where
+    ty : {ts : List TypeExpr} {lacks : Bool} {l : Option ℕ} {t : TypeExpr} {i k j : ℕ} → next_is_type w ts lacks ≡ true → AreOpen s i n → IsType s t i k
+        → ((u : TypeExpr) → (IsKey t → IsKey u) → IsBehind s w n (ts ++ u ∷ []) lacks l k j) → IsPartNext s w n ts lacks l i j
+    lack : {l : Option ℕ} {i k j : ℕ} → w ≡ word.Result → IsKind Underscore s i k → IsBehind s w n [] true l k j → IsPartNext s w n [] false l i j
+    length_of : {ts : List TypeExpr} {lacks : Bool} {l : Option ℕ} {m i k j : ℕ} → next_is_type w ts lacks ≡ false → IsLength m s i k → ((u : ℕ) → IsBehind s w n ts lacks (Some u) k j) → IsPartNext s w n ts lacks l i j
+
+  pub data IsBehind (s : Source) (w : TypeWord) (n : ℕ) : List TypeExpr → Bool → Option ℕ → ℕ → ℕ → Type 0 where
+    end : {ts : List TypeExpr} {lacks : Bool} {l : Option ℕ} {i j : ℕ} → may_end w ts lacks l ≡ true → AreEnough w ts → IsKind CloseAngle s i j → IsBehind s w n ts lacks l i j
+    comma : {ts : List TypeExpr} {lacks : Bool} {l : Option ℕ} {i k j : ℕ} → may_go_on w ts lacks l ≡ true → IsKind Comma s i k → IsPartNext s w n ts lacks l k j → IsBehind s w n ts lacks l i j
+    comma_end : {ts : List TypeExpr} {lacks : Bool} {l : Option ℕ} {i k j : ℕ} → w ≡ word.Tuple → IsKind Comma s i k → IsKind CloseAngle s k j → IsBehind s w n ts lacks l i j
+
+-- all that stands behind a word
+abbrev pub IsRest : Source → TypeWord → ℕ → ℕ → ℕ → Type 0
+IsRest s w n i j = ((stands_alone w ≡ true) × (j ≡ i) × ((token_at s j).kind ≢ OpenAngle)) ⊎ ((k : ℕ) × IsKind OpenAngle s i k × IsPartNext s w (n + 1) [] false None k j)
+
+-- the reader goes on to where so much is left: the parts from the next on, or none where they are closed
+pub record GoesTo (is_open : Bool) (w : TypeWord) (n : ℕ) (ts : List TypeExpr) (lacks : Bool) (l : Option ℕ) (c d : Cursor) (j : ℕ) : Type 0 where
+  pub same : d ≡ record c { next = d.next }
+  pub further : c.next ≤ d.next
+  pub left : is_open ≡ true → IsPartNext (source c) w n ts lacks l d.next j
+  pub closed : is_open ≡ false → (d.next ≡ j) × AreEnough w ts
+
+-- a type stands in front of what is left
+pub record IsTypeNext (s : Source) (w : TypeWord) (n : ℕ) (ts : List TypeExpr) (lacks : Bool) (l : Option ℕ) (i j : ℕ) : Type 0 where
+  pub first : TypeExpr
+  pub end : ℕ
+  pub are_open : AreOpen s i n
+  pub is_type : IsType s first i end
+  pub behind : (u : TypeExpr) → (IsKey first → IsKey u) → IsBehind s w n (ts ++ u ∷ []) lacks l end j
+
+-- a part is taken, or a type comes next
+pub record GoesBehind (is_other : Bool) (w : TypeWord) (n : ℕ) (p q : Parts) (c d : Cursor) (j : ℕ) : Type 0 where
+  pub same : d ≡ record c { next = d.next }
+  pub further : is_other ≡ true → c.next < d.next
+  pub behind : is_other ≡ true → IsBehind (source c) w n q.types.items q.lacks_first q.length d.next j
+  pub ty : is_other ≡ false → IsTypeNext (source c) w n p.types.items p.lacks_first p.length c.next j
+
+-- what the three steps of the reader answer where so much is left
+abbrev pub OpensParts : Cursor → Cursor → TypeWord → Result Bool Fault → Type 0
+OpensParts c d w r = IsReadable (source c) → (n j : ℕ) → IsRest (source c) w n c.next j → IfOk r (λ is_open. GoesTo is_open w (n + 1) [] false None c d j) × IfErr r (λ fault. fault ≡ Memory)
+
+abbrev pub ReadsOther : Cursor → Cursor → TypeWord → Parts → Parts → Result Bool Fault → Type 0
+ReadsOther c d w p q r = IsReadable (source c) → (n j : ℕ) → IsPartNext (source c) w n p.types.items p.lacks_first p.length c.next j
+    → IfOk r (λ is_other. GoesBehind is_other w n p q c d j) × IfErr r (λ fault. fault ≡ Memory)
+
+abbrev pub EndsPart : Cursor → Cursor → TypeWord → Parts → Result Bool Fault → Type 0
+EndsPart c d w p r = IsReadable (source c) → (n j : ℕ) → IsBehind (source c) w n p.types.items p.lacks_first p.length c.next j
+    → IfOk r (λ is_open. GoesTo is_open w n p.types.items p.lacks_first p.length c d j) × IfErr r (λ fault. fault ≡ Memory)
+
+-- a type stands ahead, where so many may nest, and no `<` behind it
+pub record IsTypeAhead (c : Cursor) (depth j : ℕ) : Type 0 where
+  pub readable : IsReadable (source c)
+  pub is_type : NotBefore OpenAngle (AnyOf IsTypeOf) (source c) c.next j
+  pub count : ℕ
+  pub are_open : AreOpen (source c) c.next count
+  pub deep : count + depth ≡ MAX_DEPTH
+
+-- what is read is the key of a map where the grammar derives one
+abbrev pub KeepsKey : Cursor → TypeExpr → Type 0
+KeepsKey c u = IsReadable (source c) → (t : TypeExpr) (k : ℕ) → IsType (source c) t c.next k → IsKey t → IsKey u

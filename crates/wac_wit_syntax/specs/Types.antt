@@ -1,5 +1,5 @@
 -- Types (WIT.md, "Types").
-use Rattle.std.specs.Prelude.{◌≡◌, ℕ, ◌+◌, Bool, true, false, codes, List, [], ◌∷◌, Some, None, Box, Vec}
+use Rattle.std.specs.Prelude.{◌≡◌, ℕ, ◌+◌, ◌^◌, ◌<◌, Bool, true, false, codes, List, [], ◌∷◌, Some, None, Box, Vec}
 use Rattle.std.specs.Str.Parse.{digits_value, without_leading_plus}
 use Rattle.wac_model.specs.Text.{Text}
 use Rattle.wac_model.specs.Desc.{primitive_desc}
@@ -18,9 +18,9 @@ abbrev pub Opens : Text → Production
 Opens word = IsWord word ▸ IsKind OpenAngle
 
 -- uint ::= [0-9]+
--- The number that the digits write; an integer has no plus in front of them.
+-- The number that the digits write, which is below 2^32; an integer has no plus in front of them.
 abbrev pub SaysLength : Source → ℕ → ℕ → Type 0
-SaysLength s i n = ((token_at s i).kind ≡ Integer) × (n ≡ digits_value 10 (without_leading_plus (token_text s i)))
+SaysLength s i n = ((token_at s i).kind ≡ Integer) × (n ≡ digits_value 10 (without_leading_plus (token_text s i))) × (n < 2 ^ 32)
 
 abbrev pub IsLength : ℕ → Production
 IsLength n = λ s i j. SaysLength s i n × (j ≡ i + 1)

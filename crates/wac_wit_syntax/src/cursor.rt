@@ -1,9 +1,13 @@
 //! Steps over tokens.
 
-ghost use Rattle.std.specs.Prelude.{◌≡◌, ◌≢◌, ◌+◌, ◌-◌, ◌<◌, true, false, [], IfOk, IfSome, OnOk, slice_range, string_bytes, vec_len};
+ghost use Rattle.std.specs.Prelude.{◌≡◌, ◌≢◌, ◌⊎◌, ◌+◌, ◌-◌, ◌<◌, true, false, [], IfErr, IfOk, IfSome, IsErr, IsOk, IsSome, OnOk, length, slice_range, string_bytes, vec_len};
+ghost use Rattle.wac_model.specs.Text.{Text};
+ghost use Rattle.wac_wit_syntax.specs.Completing.{AnyOf, IsReadable, Completes, Eats, IsCutOut};
 ghost use Rattle.wac_wit_syntax.specs.Cursors.{HasNoRefusal, Reads, ReadsKind, SpellsName, source};
-ghost use Rattle.wac_wit_syntax.specs.Productions.{◌▸◌, IsKind, IsName, IsWord, SaysWord, is_keyword, token_at};
-ghost use Rattle.wac_wit_syntax.specs.declared.error.Fault.TheVariants.{Refused};
+ghost use Rattle.wac_wit_syntax.specs.Faults.{IsPlaceIn, LiesIn};
+ghost use Rattle.wac_wit_syntax.specs.Productions.{◌▸◌, IsKind, IsName, IsNameAt, IsWord, SaysWord, is_keyword, token_at};
+ghost use Rattle.wac_wit_syntax.specs.declared.error.Fault.TheVariants.{Memory, Refused};
+ghost use Rattle.wac_wit_syntax.specs.declared.error.SyntaxError.TheVariants as syntax;
 
 use super::error::{Fault, SyntaxError};
 use super::keywords::is_keyword;
@@ -40,7 +44,9 @@ impl Cursor {
     }
 
     /// How many tokens there are, which bounds the turns of each loop.
-    pub(crate) fn len(&self) -> usize {
+    pub(crate) fn len(&self) -> usize
+        ensures { result ≡ length (source self.now).tokens }
+    {
         self.tokens.len()
     }
 
@@ -57,7 +63,9 @@ impl Cursor {
     }
 
     /// The token so many behind the next.
-    pub(crate) fn ahead(&self, by: usize) -> Token {
+    pub(crate) fn ahead(&self, by: usize) -> Token
+        ensures { result ≡ token_at (source self.now) (self.now.next + by) }
+    {
         self.token_at(self.next.saturating_add(by))
     }
 
@@ -87,21 +95,24 @@ impl Cursor {
 
     /// The text of a token.
     pub(crate) fn text_of(&self, token: Token) -> &str
-        ensures { result.now ≢ [] → result.now ≡ slice_range (string_bytes self.now.text) token.span.start token.span.end }
+        ensures text { result.now ≢ [] → result.now ≡ slice_range (string_bytes self.now.text) token.span.start token.span.end }
+        ensures complete { IsPlaceIn (string_bytes self.now.text) token.span → result.now ≡ slice_range (string_bytes self.now.text) token.span.start token.span.end }
     {
         self.spelling(token).unwrap_or("")
     }
 
     /// The text of a token, if it stands where one can be cut out.
     pub(crate) fn spelling(&self, token: Token) -> Option<&str>
-        ensures { IfSome result (λ text. text.now ≡ slice_range (string_bytes self.now.text) token.span.start token.span.end) }
+        ensures text { IfSome result (λ text. text.now ≡ slice_range (string_bytes self.now.text) token.span.start token.span.end) }
+        ensures complete { IsPlaceIn (string_bytes self.now.text) token.span → IsSome result }
     {
         self.text.get(token.span.start..token.span.end)
     }
 
     /// The next token, if it is a word that stands without `%`; else nothing.
     pub(crate) fn word(&self) -> &str
-        ensures { result.now ≢ [] → SaysWord (source self.now) self.now.next result.now }
+        ensures word { result.now ≢ [] → SaysWord (source self.now) self.now.next result.now }
+        ensures complete { (w : Text) → IsReadable (source self.now) → SaysWord (source self.now) self.now.next w → result.now ≡ w }
     {
         let token = self.peek();
         if token.kind == TokenKind::Word {
@@ -124,7 +135,8 @@ impl Cursor {
 
     /// Whether the next token is of a kind.
     pub(crate) fn sees(&self, kind: TokenKind) -> bool
-        ensures { result ≡ true → (token_at (source self.now) self.now.next).kind ≡ kind }
+        ensures seen { result ≡ true → (token_at (source self.now) self.now.next).kind ≡ kind }
+        ensures complete { (token_at (source self.now) self.now.next).kind ≡ kind → result ≡ true }
     {
         self.peek().kind == kind
     }
@@ -133,6 +145,8 @@ impl Cursor {
     pub(crate) fn eat(&mut self, kind: TokenKind) -> bool
         ensures eaten { result ≡ true → ReadsKind kind self.old self.new }
         ensures left { result ≡ false → self.new ≡ self.old }
+        ensures seen { result ≡ true → (token_at (source self.old) self.old.next).kind ≡ kind }
+        ensures complete { kind ≢ TokenKind.End → Eats self.old self.new result (IsKind kind) }
     {
         let found = self.sees(kind);
         if found {
@@ -145,6 +159,8 @@ impl Cursor {
     pub(crate) fn eat_word(&mut self, word: &str) -> bool
         ensures eaten { word.now ≢ [] → result ≡ true → Reads self.old self.new (IsWord word.now) }
         ensures left { result ≡ false → self.new ≡ self.old }
+        ensures seen { word.now ≢ [] → result ≡ true → SaysWord (source self.old) self.old.next word.now }
+        ensures complete { Eats self.old self.new result (IsWord word.now) }
     {
         let found = self.word() == word;
         if found {
@@ -155,7 +171,8 @@ impl Cursor {
 
     /// Takes the next token, which has to be of a kind.
     pub(crate) fn expect(&mut self, kind: TokenKind) -> Result<Span, Fault>
-        ensures { OnOk result (ReadsKind kind self.old self.new) }
+        ensures read { OnOk result (ReadsKind kind self.old self.new) }
+        ensures complete { kind ≢ TokenKind.End → Completes self.old self.new result (IsKind kind) }
     {
         if self.sees(kind) {
             return Ok(self.take().span);
@@ -167,6 +184,7 @@ impl Cursor {
     pub(crate) fn before<T: Drop>(&mut self, read: T, kind: TokenKind) -> Result<T, Fault>
         ensures kind { OnOk result (ReadsKind kind self.old self.new) }
         ensures value { IfOk result (λ value. value ≡ read) }
+        ensures complete { kind ≢ TokenKind.End → Completes self.old self.new result (IsKind kind) }
     {
         self.expect(kind)?;
         Ok(read)
@@ -175,7 +193,8 @@ impl Cursor {
     /// Takes the `;` of an item. Where it is missing and a line or what the item stands in ends,
     /// the item is read as if it stood there.
     pub(crate) fn expect_end(&mut self) -> Result<(), Fault>
-        ensures { OnOk result (Reads self.old self.new (IsKind TokenKind.Semicolon)) }
+        ensures read { OnOk result (Reads self.old self.new (IsKind TokenKind.Semicolon)) }
+        ensures complete { Completes self.old self.new result (IsKind TokenKind.Semicolon) }
     {
         if self.eat(TokenKind::Semicolon) {
             return Ok(());
@@ -193,6 +212,7 @@ impl Cursor {
     pub(crate) fn ended<T: Drop>(&mut self, item: T) -> Result<T, Fault>
         ensures end { OnOk result (Reads self.old self.new (IsKind TokenKind.Semicolon)) }
         ensures value { IfOk result (λ value. value ≡ item) }
+        ensures complete { Completes self.old self.new result (IsKind TokenKind.Semicolon) }
     {
         self.expect_end()?;
         Ok(item)
@@ -220,7 +240,8 @@ impl Cursor {
 
     /// Takes a name.
     pub(crate) fn ident(&mut self, expected: &str) -> Result<Ident, Fault>
-        ensures { IfOk result (λ ident. Reads self.old self.new (IsName ident)) }
+        ensures read { IfOk result (λ ident. Reads self.old self.new (IsName ident)) }
+        ensures complete { Completes self.old self.new result (AnyOf IsName) }
     {
         let token = self.peek();
         let Some(text) = self.name_of(token) else {
@@ -234,9 +255,21 @@ impl Cursor {
         Ok(Ident { name, span })
     }
 
+    /// Whether a name comes next.
+    pub(crate) fn sees_name(&self) -> bool
+        ensures { IsReadable (source self.now) → (name : Text) → IsNameAt (source self.now) self.now.next name → result ≡ true }
+    {
+        let token = self.peek();
+        match self.name_of(token) {
+            Some(text) => !is_bare_keyword(token, text),
+            None => false,
+        }
+    }
+
     // The text of a name without the `%` that may stand before it, if the token is of such a kind.
     fn name_of(&self, token: Token) -> Option<&str>
-        ensures { IfSome result (λ name. SpellsName (string_bytes self.now.text) token name.now) }
+        ensures name { IfSome result (λ name. SpellsName (string_bytes self.now.text) token name.now) }
+        ensures complete { IsCutOut (string_bytes self.now.text) token → (token.kind ≡ TokenKind.Word) ⊎ (token.kind ≡ TokenKind.Escaped) → IsSome result }
     {
         let Span { start, end } = token.span;
         match token.kind {
@@ -248,7 +281,8 @@ impl Cursor {
 
     /// Takes a name and the colon behind it.
     pub(crate) fn label(&mut self, expected: &str) -> Result<Ident, Fault>
-        ensures { IfOk result (λ ident. Reads self.old self.new (IsName ident ▸ IsKind TokenKind.Colon)) }
+        ensures read { IfOk result (λ ident. Reads self.old self.new (IsName ident ▸ IsKind TokenKind.Colon)) }
+        ensures complete { Completes self.old self.new result (AnyOf IsName ▸ IsKind TokenKind.Colon) }
     {
         let name = self.ident(expected)?;
         self.expect(TokenKind::Colon)?;
@@ -330,7 +364,9 @@ impl Cursor {
     ///
     /// `Err` where nothing follows it, where enough is refused, and after a failed allocation.
     pub(crate) fn recover(&mut self, fault: Fault, start: usize) -> Result<(), Fault>
-        ensures { OnOk result (0 < vec_len self.new.refusals.found) }
+        ensures refused { OnOk result (0 < vec_len self.new.refusals.found) }
+        ensures memory { fault ≡ Memory → IsErr result }
+        ensures fault { IfErr result (λ same. same ≡ fault) }
     {
         // where an item is refused, a refusal is noted
         let is_over = self.refusals.is_empty() || self.refusals.is_full();
@@ -378,20 +414,41 @@ impl Cursor {
     }
 
     /// What was read of the text, if nothing is refused.
-    pub(crate) fn finish<T: Drop>(self, read: Result<T, Fault>) -> Result<T, SyntaxError>
-        ensures { IfOk result (λ value. (read ≡ Ok value) × HasNoRefusal self) }
+    ///
+    /// `text` is what was read.
+    pub(crate) fn finish<T: Drop>(
+        self,
+        read: Result<T, Fault>,
+        text: &str,
+    ) -> Result<T, SyntaxError>
+        ensures read { IfOk result (λ value. (read ≡ Ok value) × HasNoRefusal self) }
+        ensures complete { OnOk read (HasNoRefusal self) → IfErr read (λ fault. fault ≡ Memory) → IfErr result (λ error. error ≡ syntax.Memory) }
+        ensures places { IfErr result (LiesIn text.now) }
     {
         match read {
-            Ok(read) if self.refusals.is_empty() => Ok(read),
             Err(Fault::Memory) => Err(SyntaxError::Memory),
-            _ => Err(self.refusals.into_error()),
+            Ok(read) => self.unless_refused(read, text),
+            Err(Fault::Refused) => Err(self.refusals.into_error(text)),
         }
+    }
+
+    // What was read, if nothing is refused.
+    fn unless_refused<T: Drop>(self, read: T, text: &str) -> Result<T, SyntaxError>
+        ensures read { IfOk result (λ value. (value ≡ read) × HasNoRefusal self) }
+        ensures complete { HasNoRefusal self → IsOk result }
+        ensures places { IfErr result (LiesIn text.now) }
+    {
+        if self.refusals.is_empty() {
+            return Ok(read);
+        }
+        Err(self.refusals.into_error(text))
     }
 }
 
 // Whether a token with this text is a keyword, which `%` before it would make a name.
 fn is_bare_keyword(token: Token, text: &str) -> bool
-    ensures { result ≡ false → token.kind ≡ TokenKind.Word → is_keyword text.now ≡ false }
+    ensures bare { result ≡ false → token.kind ≡ TokenKind.Word → is_keyword text.now ≡ false }
+    ensures complete { result ≡ true → (token.kind ≡ TokenKind.Word) × (is_keyword text.now ≡ true) }
 {
     token.kind == TokenKind::Word && is_keyword(text)
 }

@@ -35,6 +35,11 @@ pub enum SyntaxError {
 }
 
 impl From<AllocError> for SyntaxError {
+    ghost use Rattle.std.specs.Prelude.{◌≡◌};
+    ghost use Rattle.wac_wit_syntax.specs.declared.error.SyntaxError.TheVariants.{Memory};
+
+    ghost from_gives = { λ _ e. e ≡ Memory };
+
     fn from(_error: AllocError) -> SyntaxError {
         SyntaxError::Memory
     }
@@ -56,12 +61,22 @@ pub(crate) enum Fault {
 }
 
 impl From<AllocError> for Fault {
+    ghost use Rattle.std.specs.Prelude.{◌≡◌};
+    ghost use Rattle.wac_wit_syntax.specs.declared.error.Fault.TheVariants.{Memory};
+
+    ghost from_gives = { λ _ e. e ≡ Memory };
+
     fn from(_error: AllocError) -> Fault {
         Fault::Memory
     }
 }
 
 impl<T: Drop> From<AllocFailed<T>> for Fault {
+    ghost use Rattle.std.specs.Prelude.{◌≡◌};
+    ghost use Rattle.wac_wit_syntax.specs.declared.error.Fault.TheVariants.{Memory};
+
+    ghost from_gives = { λ _ e. e ≡ Memory };
+
     fn from(_error: AllocFailed<T>) -> Fault {
         Fault::Memory
     }

@@ -1,9 +1,11 @@
 //! Reads functions.
 
-ghost use Rattle.std.specs.Prelude.{◌≡◌, IfOk};
-ghost use Rattle.wac_wit_syntax.specs.Behind.{ReadsSignature};
-ghost use Rattle.wac_wit_syntax.specs.Cursors.{Reads};
+ghost use Rattle.std.specs.Prelude.{◌≡◌, ◌⊎◌, true, codes, IfOk};
+ghost use Rattle.wac_wit_syntax.specs.Behind.{IsSignatureRest, ReadsSignature};
+ghost use Rattle.wac_wit_syntax.specs.Completing.{AnyOf, Before, Completes, IsReadable};
+ghost use Rattle.wac_wit_syntax.specs.Cursors.{Reads, source};
 ghost use Rattle.wac_wit_syntax.specs.Functions.{IsFieldDecl, IsReturns, IsSignature};
+ghost use Rattle.wac_wit_syntax.specs.Productions.{SaysWord};
 
 use super::cursor::Cursor;
 use super::error::Fault;
@@ -22,13 +24,18 @@ const PARAMS: ListForm = ListForm {
 };
 
 /// Whether a function's type comes next.
-pub(crate) fn sees_func(cursor: &Cursor) -> bool {
+pub(crate) fn sees_func(cursor: &Cursor) -> bool
+    ensures seen { result ≡ true → SaysWord (source cursor.now) cursor.now.next (codes "func") ⊎ SaysWord (source cursor.now) cursor.now.next (codes "async") }
+    ensures func { IsReadable (source cursor.now) → SaysWord (source cursor.now) cursor.now.next (codes "func") → result ≡ true }
+    ensures is_async { IsReadable (source cursor.now) → SaysWord (source cursor.now) cursor.now.next (codes "async") → result ≡ true }
+{
     matches!(cursor.word(), "func" | "async")
 }
 
 /// Reads `async? func(..) -> TYPE;`.
 pub(crate) fn read_signature(cursor: &mut Cursor) -> Result<Signature, Fault>
-    ensures { IfOk result (λ signature. Reads cursor.old cursor.new (IsSignature signature)) }
+    ensures read { IfOk result (λ signature. Reads cursor.old cursor.new (IsSignature signature)) }
+    ensures complete { Completes cursor.old cursor.new result (AnyOf IsSignature) }
 {
     let start = cursor.peek().span;
     let is_async = cursor.eat_word("async");
@@ -46,6 +53,7 @@ pub(crate) fn signature_after(
 ) -> Result<Signature, Fault>
     ensures read { IfOk result (λ signature. ReadsSignature start signature cursor.old cursor.new) }
     ensures kind { IfOk result (λ signature. signature.is_async ≡ is_async) }
+    ensures complete { Completes cursor.old cursor.new result IsSignatureRest }
 {
     let params = read_list(cursor, PARAMS)?;
     let returns = read_returns(cursor)?;
@@ -60,7 +68,8 @@ pub(crate) fn signature_after(
 
 // Reads `-> TYPE`, if that comes next.
 fn read_returns(cursor: &mut Cursor) -> Result<Option<TypeExpr>, Fault>
-    ensures { IfOk result (λ returns. Reads cursor.old cursor.new (IsReturns returns)) }
+    ensures read { IfOk result (λ returns. Reads cursor.old cursor.new (IsReturns returns)) }
+    ensures complete { Completes cursor.old cursor.new result (Before TokenKind.Semicolon (AnyOf IsReturns)) }
 {
     if !cursor.eat(TokenKind::Arrow) {
         return Ok(None);

@@ -1,9 +1,12 @@
 //! Reads attributes.
 
-ghost use Rattle.std.specs.Prelude.{◌≡◌, false, true, IfOk, OnOk};
-ghost use Rattle.wac_wit_syntax.specs.Cursors.{Reads, ReadsBehind};
+ghost use Rattle.std.specs.Prelude.{◌≡◌, ◌≢◌, false, true, IfOk, IsOk, OnOk};
+ghost use Rattle.wac_wit_syntax.specs.Behind.{HasNoGate};
+ghost use Rattle.wac_wit_syntax.specs.Completing.{AnyOf, Completes, NotBefore};
+ghost use Rattle.wac_wit_syntax.specs.Cursors.{Reads, ReadsBehind, source};
+ghost use Rattle.wac_wit_syntax.specs.GateParts.{TakesGate};
 ghost use Rattle.wac_wit_syntax.specs.Gates.{AreExclusive, AreGates, IsGateField, IsGates};
-ghost use Rattle.wac_wit_syntax.specs.Productions.{◌▸◌, IsKind};
+ghost use Rattle.wac_wit_syntax.specs.Productions.{◌▸◌, IsKind, token_at};
 ghost use Rattle.wac_wit_syntax.specs.declared.cursor.Cursor.{Cursor};
 ghost use Rattle.wac_wit_syntax.specs.declared.tree.Gate.{Gate};
 
@@ -16,7 +19,9 @@ use super::versions::read_version;
 
 /// Reads the attributes of an item.
 pub(crate) fn read_gates(cursor: &mut Cursor) -> Result<Gates, Fault>
-    ensures { IfOk result (λ gates. Reads cursor.old cursor.new (IsGates gates)) }
+    ensures read { IfOk result (λ gates. Reads cursor.old cursor.new (IsGates gates)) }
+    ensures complete { Completes cursor.old cursor.new result (NotBefore TokenKind.At (AnyOf IsGates)) }
+    ensures none { (token_at (source cursor.old) cursor.old.next).kind ≢ TokenKind.At → IfOk result HasNoGate }
 {
     let mut gates = Gates {
         docs: cursor.peek().docs,
@@ -39,6 +44,7 @@ pub(crate) fn read_gates(cursor: &mut Cursor) -> Result<Gates, Fault>
 pub(crate) fn refuse_gates(cursor: &mut Cursor, gates: &Gates) -> Result<(), Fault>
     ensures none { OnOk result ((gates.now.since ≡ None) × (gates.now.unstable ≡ None) × (gates.now.deprecated ≡ None)) }
     ensures rest { OnOk result (cursor.new ≡ cursor.old) }
+    ensures complete { gates.now.since ≡ None → gates.now.unstable ≡ None → gates.now.deprecated ≡ None → IsOk result }
 {
     if gates.since.is_some() || gates.unstable.is_some() || gates.deprecated.is_some() {
         return Err(cursor.refuse("`interface` or `world` behind an attribute"));
@@ -49,6 +55,7 @@ pub(crate) fn refuse_gates(cursor: &mut Cursor, gates: &Gates) -> Result<(), Fau
 // Refuses two attributes that don't go together, the second of which stands at a place.
 fn refuse_both(cursor: &mut Cursor, gates: &Gates, span: Span) -> Result<(), Fault>
     ensures none { OnOk result (AreExclusive gates.now) }
+    ensures complete { AreExclusive gates.now → IsOk result }
     ensures rest { OnOk result (cursor.new ≡ cursor.old) }
 {
     if gates.since.is_some() && gates.unstable.is_some() {
@@ -61,6 +68,7 @@ fn refuse_both(cursor: &mut Cursor, gates: &Gates, span: Span) -> Result<(), Fau
 fn read_gate(cursor: &mut Cursor, gates: &mut Gates) -> Result<(), Fault>
     ensures read { OnOk result ((first at : Cursor) → Reads first at (λ s i j. AreGates s gates.old.since gates.old.unstable gates.old.deprecated i j) → Reads at cursor.old (IsKind TokenKind.At) → Reads first cursor.new (λ s i j. AreGates s gates.new.since gates.new.unstable gates.new.deprecated i j)) }
     ensures docs { OnOk result (gates.new.docs ≡ gates.old.docs) }
+    ensures complete { TakesGate cursor.old cursor.new gates.old gates.new result }
 {
     match cursor.word() {
         "since" => {
@@ -83,6 +91,7 @@ fn read_gate(cursor: &mut Cursor, gates: &mut Gates) -> Result<(), Fault>
 fn put_gate(cursor: &mut Cursor, gate: &mut Option<Gate>, is_feature: bool) -> Result<(), Fault>
     ensures none { OnOk result (gate.old ≡ None) }
     ensures put { OnOk result ((g : Gate) × (gate.new ≡ Some g) × ReadsBehind cursor.old cursor.new (IsKind TokenKind.OpenParen ▸ IsGateField is_feature g ▸ IsKind TokenKind.CloseParen)) }
+    ensures complete { gate.old ≡ None → Completes cursor.old cursor.new result (IsKind TokenKind.Word ▸ IsKind TokenKind.OpenParen ▸ AnyOf (IsGateField is_feature) ▸ IsKind TokenKind.CloseParen) }
 {
     let span = cursor.peek().span;
     if gate.is_some() {
@@ -98,7 +107,8 @@ fn put_gate(cursor: &mut Cursor, gate: &mut Option<Gate>, is_feature: bool) -> R
 
 // Reads `version = VERSION` or `feature = NAME`.
 fn read_field(cursor: &mut Cursor, is_feature: bool) -> Result<Gate, Fault>
-    ensures { IfOk result (λ field. Reads cursor.old cursor.new (IsGateField is_feature field)) }
+    ensures read { IfOk result (λ field. Reads cursor.old cursor.new (IsGateField is_feature field)) }
+    ensures complete { Completes cursor.old cursor.new result (AnyOf (IsGateField is_feature)) }
 {
     if is_feature {
         read_feature(cursor)
@@ -109,7 +119,8 @@ fn read_field(cursor: &mut Cursor, is_feature: bool) -> Result<Gate, Fault>
 
 // Reads `version = VERSION`.
 fn read_since(cursor: &mut Cursor) -> Result<Gate, Fault>
-    ensures { IfOk result (λ version. Reads cursor.old cursor.new (IsGateField false version)) }
+    ensures read { IfOk result (λ version. Reads cursor.old cursor.new (IsGateField false version)) }
+    ensures complete { Completes cursor.old cursor.new result (AnyOf (IsGateField false)) }
 {
     if !cursor.eat_word("version") {
         return Err(cursor.refuse("`version = VERSION`"));
@@ -120,7 +131,8 @@ fn read_since(cursor: &mut Cursor) -> Result<Gate, Fault>
 
 // Reads `feature = NAME`.
 fn read_feature(cursor: &mut Cursor) -> Result<Gate, Fault>
-    ensures { IfOk result (λ feature. Reads cursor.old cursor.new (IsGateField true feature)) }
+    ensures read { IfOk result (λ feature. Reads cursor.old cursor.new (IsGateField true feature)) }
+    ensures complete { Completes cursor.old cursor.new result (AnyOf (IsGateField true)) }
 {
     if !cursor.eat_word("feature") {
         return Err(cursor.refuse("`feature = NAME`"));

@@ -1,7 +1,8 @@
 //! Reads interfaces.
 
-ghost use Rattle.std.specs.Prelude.{false, codes, IfOk};
-ghost use Rattle.wac_wit_syntax.specs.Behind.{ReadsAfter, ReadsAfterWord};
+ghost use Rattle.std.specs.Prelude.{◌≡◌, false, codes, IfOk};
+ghost use Rattle.wac_wit_syntax.specs.Behind.{IsFuncRest, IsUseRest, ReadsAfter, ReadsAfterWord};
+ghost use Rattle.wac_wit_syntax.specs.Completing.{AnyOf, Completes, NotBeforeWord};
 ghost use Rattle.wac_wit_syntax.specs.Cursors.{Reads};
 ghost use Rattle.wac_wit_syntax.specs.Functions.{IsFunc};
 ghost use Rattle.wac_wit_syntax.specs.Gates.{IsGates};
@@ -41,7 +42,8 @@ impl Item for InterfaceItem {
 }
 
 fn read_func(cursor: &mut Cursor, gates: Gates) -> Result<FuncItem, Fault>
-    ensures { IfOk result (λ func. ReadsAfter (IsGates gates) cursor.old cursor.new (IsFunc func)) }
+    ensures read { IfOk result (λ func. ReadsAfter (IsGates gates) cursor.old cursor.new (IsFunc func)) }
+    ensures complete { Completes cursor.old cursor.new result IsFuncRest }
 {
     let name = cursor.label("a function, a type, `use` or `}`")?;
     let signature = read_signature(cursor)?;
@@ -56,7 +58,8 @@ fn read_func(cursor: &mut Cursor, gates: Gates) -> Result<FuncItem, Fault>
 
 /// Reads `use PATH.{..};`.
 pub(crate) fn read_use(cursor: &mut Cursor, gates: Gates) -> Result<UseItem, Fault>
-    ensures { IfOk result (λ item. ReadsAfterWord (IsGates gates) (codes "use") cursor.old cursor.new (IsUse item)) }
+    ensures read { IfOk result (λ item. ReadsAfterWord (IsGates gates) (codes "use") cursor.old cursor.new (IsUse item)) }
+    ensures complete { Completes cursor.old cursor.new result IsUseRest }
 {
     cursor.take();
     let path = read_path(cursor)?;
@@ -81,7 +84,9 @@ impl Member for Rename {
 
 /// Reads `as NAME`, if that comes next.
 pub(crate) fn read_alias(cursor: &mut Cursor) -> Result<Option<Ident>, Fault>
-    ensures { IfOk result (λ alias. Reads cursor.old cursor.new (IsAlias false alias)) }
+    ensures read { IfOk result (λ alias. Reads cursor.old cursor.new (IsAlias false alias)) }
+    ensures complete { Completes cursor.old cursor.new result (NotBeforeWord (codes "as") (AnyOf (IsAlias false))) }
+    ensures none { IfOk result (λ alias. alias ≡ None → cursor.new ≡ cursor.old) }
 {
     if !cursor.eat_word("as") {
         return Ok(None);

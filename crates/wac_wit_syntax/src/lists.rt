@@ -1,6 +1,7 @@
 //! Reads what stands one after another.
 
 ghost use Rattle.std.specs.Prelude.{◌≢◌, ℕ, Bool, IfOk};
+ghost use Rattle.wac_wit_syntax.specs.Completing.{AllBegin, AnyOf, BeforeEnd, Completes, IsCloser, IsListOf};
 ghost use Rattle.wac_wit_syntax.specs.Cursors.{Reads};
 ghost use Rattle.wac_wit_syntax.specs.Lists.{IsBlock, Separated};
 ghost use Rattle.wac_wit_syntax.specs.Productions.{◌▸◌, IsKind, Source};
@@ -16,12 +17,14 @@ pub(crate) trait Item: Drop {
 
     /// Reads one.
     fn read(cursor: &mut Cursor) -> Result<Self, Fault>
-        ensures { IfOk result (λ read. Reads cursor.old cursor.new (item read)) };
+        ensures read { IfOk result (λ read. Reads cursor.old cursor.new (item read)) }
+        ensures complete { Completes cursor.old cursor.new result (AnyOf item) };
 }
 
 /// Reads items between braces, and leaves out those that are refused.
 pub(crate) fn read_block<T: Item>(cursor: &mut Cursor) -> Result<Vec<T>, Fault>
-    ensures { IfOk result (λ items. Reads cursor.old cursor.new (IsBlock T.item items.items)) }
+    ensures read { IfOk result (λ items. Reads cursor.old cursor.new (IsBlock T.item items.items)) }
+    ensures complete { AllBegin T.item → Completes cursor.old cursor.new result (AnyOf (IsBlock T.item)) }
 {
     cursor.expect(TokenKind::OpenBrace)?;
     let mut items = Vec::new(cursor.alloc);
@@ -45,7 +48,8 @@ pub(crate) trait Member: Drop {
 
     /// Reads one of a list of a form.
     fn read(cursor: &mut Cursor, form: ListForm) -> Result<Self, Fault>
-        ensures { IfOk result (λ read. Reads cursor.old cursor.new (member form.needs_alias read)) };
+        ensures read { IfOk result (λ read. Reads cursor.old cursor.new (member form.needs_alias read)) }
+        ensures complete { Completes cursor.old cursor.new result (BeforeEnd (AnyOf (member form.needs_alias))) };
 }
 
 /// How a list with commas is written, one of which may stand behind the last member.
@@ -65,7 +69,8 @@ pub(crate) struct ListForm {
 
 /// Reads a list.
 pub(crate) fn read_list<T: Member>(cursor: &mut Cursor, form: ListForm) -> Result<Vec<T>, Fault>
-    ensures { IfOk result (λ members. form.open ≢ TokenKind.End → form.close ≢ TokenKind.End → Reads cursor.old cursor.new (IsKind form.open ▸ Separated (T.member form.needs_alias) members.items ▸ IsKind form.close)) }
+    ensures read { IfOk result (λ members. form.open ≢ TokenKind.End → form.close ≢ TokenKind.End → Reads cursor.old cursor.new (IsKind form.open ▸ Separated (T.member form.needs_alias) members.items ▸ IsKind form.close)) }
+    ensures complete { AllBegin (T.member form.needs_alias) → IsCloser form.close → form.open ≢ TokenKind.End → Completes cursor.old cursor.new result (IsListOf form.open (T.member form.needs_alias) form.close) }
 {
     cursor.expect(form.open)?;
     let mut members = Vec::new(cursor.alloc);

@@ -1,6 +1,7 @@
 //! Places in a text.
 
 ghost use Rattle.std.specs.Prelude.{◌≡◌};
+ghost use Rattle.wac_wit_syntax.specs.Faults.{IsPlaceIn};
 ghost use Rattle.wac_wit_syntax.specs.Positions.{IsPosition};
 
 /// Bytes of a text, from the first up to but without the last.
@@ -21,6 +22,18 @@ impl Span {
             start: self.start,
             end: last.end,
         }
+    }
+
+    /// This place if a text has it, and else the end of the text.
+    pub(crate) fn within(self, text: &str) -> Span
+        ensures { IsPlaceIn text.now result }
+    {
+        let Span { start, end } = self;
+        if start <= end && text.is_char_boundary(start) && text.is_char_boundary(end) {
+            return self;
+        }
+        let end = text.len();
+        Span { start: end, end }
     }
 }
 

@@ -1,6 +1,7 @@
 //! What is refused of a text so far.
 
 ghost use Rattle.std.specs.Prelude.{◌≡◌, ◌<◌, ◌==◌, false, IsNone, OnOk, nat_le, vec_len};
+ghost use Rattle.wac_wit_syntax.specs.Faults.{ArePlacesIn, LiesIn};
 
 use super::error::{MAX_REFUSALS, Refusal, SyntaxError};
 use super::positions::Span;
@@ -88,9 +89,22 @@ impl Refusals {
         Ok(())
     }
 
-    /// The error of the text.
-    pub(crate) fn into_error(self) -> SyntaxError {
-        let Refusals { found } = self;
+    /// The error of a text.
+    pub(crate) fn into_error(self, text: &str) -> SyntaxError
+        ensures { LiesIn text.now result }
+    {
+        let Refusals { mut found } = self;
+        place_within(&mut found, text);
         SyntaxError::Refused(found)
+    }
+}
+
+// Moves the places that a text doesn't have to its end. Those that are noted it has.
+fn place_within(found: &mut Vec<Refusal>, text: &str)
+    ensures { ArePlacesIn text.now found.new.items }
+{
+    for index in 0..found.len() {
+        let refusal = &mut found[index];
+        refusal.span = refusal.span.within(text);
     }
 }

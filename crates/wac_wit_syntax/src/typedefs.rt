@@ -1,11 +1,14 @@
 //! Reads types that have names.
 
-ghost use Rattle.std.specs.Prelude.{◌≡◌, IfOk, IfSome, codes};
-ghost use Rattle.wac_wit_syntax.specs.Behind.{ReadsAfter, ReadsAfterWord, def_text};
+ghost use Rattle.std.specs.Prelude.{◌≡◌, ◌≢◌, ◌+◌, IfOk, IfSome, IsSome, codes};
+ghost use Rattle.wac_wit_syntax.specs.Behind.{IsBodyOf, IsNamedMethod, IsSignatureRest, ReadsAfter, ReadsAfterWord, TellsDef, def_text};
+ghost use Rattle.wac_wit_syntax.specs.Completing.{AnyOf, BeforeEnd, Completes};
 ghost use Rattle.wac_wit_syntax.specs.Cursors.{Reads, source};
 ghost use Rattle.wac_wit_syntax.specs.Gates.{IsGates};
-ghost use Rattle.wac_wit_syntax.specs.Productions.{IsName, SaysWord};
+ghost use Rattle.wac_wit_syntax.specs.Productions.{◌▸◌, IsKind, IsName, SaysWord, token_at};
 ghost use Rattle.wac_wit_syntax.specs.Typedefs.{AreMethods, IsBody, IsCaseDecl, IsMethod, IsPayloadDecl, IsTypeItem, word_of};
+ghost use Rattle.wac_wit_syntax.specs.Types.{IsTypeOf};
+ghost use Rattle.wac_wit_syntax.specs.declared.typedefs.DefWord.{DefWord};
 
 use super::cursor::Cursor;
 use super::error::Fault;
@@ -62,7 +65,9 @@ pub(crate) enum DefWord {
 
 /// The word that comes next, if a type with a name begins with it.
 pub(crate) fn def_word(cursor: &Cursor) -> Option<DefWord>
-    ensures { IfSome result (λ word. SaysWord (source cursor.now) cursor.now.next (def_text word)) }
+    ensures word { IfSome result (λ word. SaysWord (source cursor.now) cursor.now.next (def_text word)) }
+    ensures name { IsSome result → (token_at (source cursor.now) (cursor.now.next + 1)).kind ≢ TokenKind.Colon }
+    ensures complete { TellsDef cursor.now result }
 {
     if cursor.ahead(1).kind == TokenKind::Colon {
         return None;
@@ -84,7 +89,8 @@ pub(crate) fn read_typedef(
     gates: Gates,
     word: DefWord,
 ) -> Result<TypeItem, Fault>
-    ensures { IfOk result (λ item. ReadsAfterWord (IsGates gates) (def_text word) cursor.old cursor.new (IsTypeItem item)) }
+    ensures read { IfOk result (λ item. ReadsAfterWord (IsGates gates) (def_text word) cursor.old cursor.new (IsTypeItem item)) }
+    ensures complete { Completes cursor.old cursor.new result (IsKind TokenKind.Word ▸ AnyOf IsName ▸ IsBodyOf word) }
 {
     let start = cursor.take().span;
     let name = cursor.ident("the name of the type")?;
@@ -102,6 +108,7 @@ pub(crate) fn read_typedef(
 fn read_def(cursor: &mut Cursor, word: DefWord) -> Result<TypeDef, Fault>
     ensures read { IfOk result (λ def. Reads cursor.old cursor.new (IsBody def)) }
     ensures word { IfOk result (λ def. word_of def ≡ def_text word) }
+    ensures complete { Completes cursor.old cursor.new result (IsBodyOf word) }
 {
     match word {
         DefWord::Alias => read_alias(cursor),
@@ -116,6 +123,7 @@ fn read_def(cursor: &mut Cursor, word: DefWord) -> Result<TypeDef, Fault>
 fn read_alias(cursor: &mut Cursor) -> Result<TypeDef, Fault>
     ensures read { IfOk result (λ def. Reads cursor.old cursor.new (IsBody def)) }
     ensures word { IfOk result (λ def. word_of def ≡ def_text DefWord.Alias) }
+    ensures complete { Completes cursor.old cursor.new result (IsKind TokenKind.Equals ▸ AnyOf IsTypeOf ▸ IsKind TokenKind.Semicolon) }
 {
     cursor.expect(TokenKind::Equals)?;
     let ty = read_type(cursor)?;
@@ -136,7 +144,8 @@ impl Member for Case {
 
 // Reads `(TYPE)`, if that comes next.
 fn read_payload(cursor: &mut Cursor) -> Result<Option<TypeExpr>, Fault>
-    ensures { IfOk result (λ ty. Reads cursor.old cursor.new (IsPayloadDecl ty)) }
+    ensures read { IfOk result (λ ty. Reads cursor.old cursor.new (IsPayloadDecl ty)) }
+    ensures complete { Completes cursor.old cursor.new result (BeforeEnd (AnyOf IsPayloadDecl)) }
 {
     if !cursor.eat(TokenKind::OpenParen) {
         return Ok(None);
@@ -156,7 +165,8 @@ impl Member for Ident {
 
 // Reads `;` or the functions of a resource.
 fn read_methods(cursor: &mut Cursor) -> Result<Vec<Method>, Fault>
-    ensures { IfOk result (λ methods. Reads cursor.old cursor.new (AreMethods methods.items)) }
+    ensures read { IfOk result (λ methods. Reads cursor.old cursor.new (AreMethods methods.items)) }
+    ensures complete { Completes cursor.old cursor.new result (AnyOf AreMethods) }
 {
     if cursor.eat(TokenKind::Semicolon) {
         return Ok(Vec::new(cursor.alloc));
@@ -181,7 +191,8 @@ impl Item for Method {
 }
 
 fn read_constructor(cursor: &mut Cursor, gates: Gates) -> Result<Method, Fault>
-    ensures { IfOk result (λ method. ReadsAfterWord (IsGates gates) (codes "constructor") cursor.old cursor.new (IsMethod method)) }
+    ensures read { IfOk result (λ method. ReadsAfterWord (IsGates gates) (codes "constructor") cursor.old cursor.new (IsMethod method)) }
+    ensures complete { Completes cursor.old cursor.new result (IsKind TokenKind.Word ▸ IsSignatureRest) }
 {
     let start = cursor.take().span;
     let signature = signature_after(cursor, start, false)?;
@@ -197,7 +208,8 @@ fn read_constructor(cursor: &mut Cursor, gates: Gates) -> Result<Method, Fault>
 }
 
 fn read_named_method(cursor: &mut Cursor, gates: Gates) -> Result<Method, Fault>
-    ensures { IfOk result (λ method. ReadsAfter (IsGates gates) cursor.old cursor.new (IsMethod method)) }
+    ensures read { IfOk result (λ method. ReadsAfter (IsGates gates) cursor.old cursor.new (IsMethod method)) }
+    ensures complete { Completes cursor.old cursor.new result IsNamedMethod }
 {
     let name = cursor.label("the name of a method, `constructor` or `}`")?;
     let kind = if cursor.eat_word("static") {

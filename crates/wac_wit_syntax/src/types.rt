@@ -1,12 +1,15 @@
 //! Reads types.
 
-ghost use Rattle.std.specs.Prelude.{◌≡◌, true, false, [], ◌∷◌, ◌++◌, IfOk, IfSome, IsOk};
+ghost use Rattle.std.specs.Prelude.{◌≡◌, ◌≢◌, ℕ, ◌+◌, ◌<◌, true, false, [], ◌∷◌, ◌++◌, length, IfErr, IfOk, IfSome, IsNone, IsOk, IsSome};
 ghost use Rattle.wac_model.specs.Desc.{primitive_desc};
+ghost use Rattle.wac_model.specs.declared.primitive.PrimitiveType.{PrimitiveType};
+ghost use Rattle.wac_wit_syntax.specs.Completing.{AnyOf, Completes, Eats, ComesTo, IsReadable, NotBefore};
 ghost use Rattle.wac_wit_syntax.specs.Cursors.{Reads, ReadsBehind, source};
-ghost use Rattle.wac_wit_syntax.specs.Productions.{◌▸◌, IsKind, IsName, SaysWord};
-ghost use Rattle.wac_wit_syntax.specs.TypeParts.{Begun, IsTypeMade, Parted, HasMapKey, Stage, TakesLast, is_empty, is_first, may_end, may_go_on, next_is_type, word_text};
+ghost use Rattle.wac_wit_syntax.specs.Productions.{◌▸◌, IsKind, IsName, SaysWord, token_at};
+ghost use Rattle.wac_wit_syntax.specs.TypeParts.{AreEnough, BeginsPlain, Begun, EndsPart, HasMapKey, IsPlainType, IsTypeAhead, IsTypeMade, KeepsKey, OpensParts, Parted, ReadsOther, Stage, TakesLast, is_empty, is_first, may_end, may_go_on, next_is_type, stands_alone, word_text};
 ghost use Rattle.wac_wit_syntax.specs.Types.{IsLength, IsTypeOf, SaysLength, is_key};
 ghost use Rattle.wac_wit_syntax.specs.declared.cursor.Cursor.{Cursor};
+ghost use Rattle.wac_wit_syntax.specs.declared.error.Fault.TheVariants.{Memory};
 ghost use Rattle.wac_wit_syntax.specs.declared.positions.Span.{Span};
 
 use super::cursor::Cursor;
@@ -81,7 +84,8 @@ impl Parts {
 
 /// Reads a type.
 pub(crate) fn read_type(cursor: &mut Cursor) -> Result<TypeExpr, Fault>
-    ensures { IfOk result (λ t. Reads cursor.old cursor.new (IsTypeOf t)) }
+    ensures read { IfOk result (λ t. Reads cursor.old cursor.new (IsTypeOf t)) }
+    ensures complete { Completes cursor.old cursor.new result (NotBefore TokenKind.OpenAngle (AnyOf IsTypeOf)) }
 {
     type_within(cursor, MAX_DEPTH)
 }
@@ -89,7 +93,9 @@ pub(crate) fn read_type(cursor: &mut Cursor) -> Result<TypeExpr, Fault>
 // Reads a type in which at most so many nest. This is the one function that calls itself, so the
 // stack is bounded by that number.
 fn type_within(cursor: &mut Cursor, depth: usize) -> Result<TypeExpr, Fault>
-    ensures { IfOk result (λ t. Reads cursor.old cursor.new (IsTypeOf t)) }
+    ensures read { IfOk result (λ t. Reads cursor.old cursor.new (IsTypeOf t)) }
+    ensures complete { (j : ℕ) → IsTypeAhead cursor.old depth j → ComesTo j cursor.old cursor.new result }
+    ensures key { IfOk result (λ t. KeepsKey cursor.old t) }
 {
     let start = cursor.peek().span;
     let Some(word) = type_word(cursor) else {
@@ -123,7 +129,9 @@ fn type_within(cursor: &mut Cursor, depth: usize) -> Result<TypeExpr, Fault>
 
 // The word that comes next, if it makes types. `map` may be a name too.
 fn type_word(cursor: &Cursor) -> Option<TypeWord>
-    ensures { IfSome result (λ word. SaysWord (source cursor.now) cursor.now.next (word_text word)) }
+    ensures word { IfSome result (λ word. SaysWord (source cursor.now) cursor.now.next (word_text word)) }
+    ensures map { IfSome result (λ word. word ≡ TypeWord.Map → (token_at (source cursor.now) (cursor.now.next + 1)).kind ≡ TokenKind.OpenAngle) }
+    ensures complete { IsReadable (source cursor.now) → IsNone result → BeginsPlain (source cursor.now) cursor.now.next }
 {
     Some(match cursor.word() {
         "list" => TypeWord::List,
@@ -132,14 +140,29 @@ fn type_word(cursor: &Cursor) -> Option<TypeWord>
         "tuple" => TypeWord::Tuple,
         "future" => TypeWord::Future,
         "stream" => TypeWord::Stream,
-        "map" if cursor.ahead(1).kind == TokenKind::OpenAngle => TypeWord::Map,
+        "map" => map_word(cursor)?,
         _ => return None,
     })
 }
 
+// `map`, if it makes a type: before `<` alone.
+fn map_word(cursor: &Cursor) -> Option<TypeWord>
+    ensures map { IfSome result (λ word. word ≡ TypeWord.Map) }
+    ensures angle { IsSome result → (token_at (source cursor.now) (cursor.now.next + 1)).kind ≡ TokenKind.OpenAngle }
+    ensures complete { IsNone result → (token_at (source cursor.now) (cursor.now.next + 1)).kind ≢ TokenKind.OpenAngle }
+{
+    if cursor.ahead(1).kind == TokenKind::OpenAngle {
+        Some(TypeWord::Map)
+    } else {
+        None
+    }
+}
+
 // Reads a type that is one word, or a handle.
 fn read_plain(cursor: &mut Cursor) -> Result<TypeExpr, Fault>
-    ensures { IfOk result (λ t. Reads cursor.old cursor.new (IsTypeOf t)) }
+    ensures read { IfOk result (λ t. Reads cursor.old cursor.new (IsTypeOf t)) }
+    ensures complete { Completes cursor.old cursor.new result IsPlainType }
+    ensures key { IfOk result (λ t. KeepsKey cursor.old t) }
 {
     match cursor.word() {
         "own" => Ok(TypeExpr::Own(read_resource(cursor)?)),
@@ -153,7 +176,8 @@ fn read_plain(cursor: &mut Cursor) -> Result<TypeExpr, Fault>
 
 // Reads the name of the resource of a handle, from the word of the handle on.
 fn read_resource(cursor: &mut Cursor) -> Result<Ident, Fault>
-    ensures { IfOk result (λ id. ReadsBehind cursor.old cursor.new (IsKind TokenKind.OpenAngle ▸ IsName id ▸ IsKind TokenKind.CloseAngle)) }
+    ensures read { IfOk result (λ id. ReadsBehind cursor.old cursor.new (IsKind TokenKind.OpenAngle ▸ IsName id ▸ IsKind TokenKind.CloseAngle)) }
+    ensures complete { Completes cursor.old cursor.new result (IsKind TokenKind.Word ▸ IsKind TokenKind.OpenAngle ▸ AnyOf IsName ▸ IsKind TokenKind.CloseAngle) }
 {
     cursor.take();
     cursor.expect(TokenKind::OpenAngle)?;
@@ -161,44 +185,47 @@ fn read_resource(cursor: &mut Cursor) -> Result<Ident, Fault>
     cursor.before(resource, TokenKind::CloseAngle)
 }
 
-static PRIMITIVES: [(&str, PrimitiveType); 14] = [
-    ("u8", PrimitiveType::U8),
-    ("s8", PrimitiveType::S8),
-    ("u16", PrimitiveType::U16),
-    ("s16", PrimitiveType::S16),
-    ("u32", PrimitiveType::U32),
-    ("s32", PrimitiveType::S32),
-    ("u64", PrimitiveType::U64),
-    ("s64", PrimitiveType::S64),
-    ("f32", PrimitiveType::F32),
-    ("f64", PrimitiveType::F64),
-    ("char", PrimitiveType::Char),
-    ("bool", PrimitiveType::Bool),
-    ("string", PrimitiveType::String),
-    ("error-context", PrimitiveType::ErrorContext),
-];
-
 // The primitive type of a name.
 fn primitive_of(word: &str) -> Option<PrimitiveType>
-    ensures { IfSome result (λ primitive. word.now ≡ primitive_desc primitive) }
+    ensures primitive { IfSome result (λ primitive. word.now ≡ primitive_desc primitive) }
+    ensures complete { (primitive : PrimitiveType) → word.now ≡ primitive_desc primitive → IsSome result }
 {
-    for (name, primitive) in &PRIMITIVES {
-        if *name == word {
-            return Some(*primitive);
-        }
-    }
-    None
+    Some(match word {
+        "u8" => PrimitiveType::U8,
+        "s8" => PrimitiveType::S8,
+        "u16" => PrimitiveType::U16,
+        "s16" => PrimitiveType::S16,
+        "u32" => PrimitiveType::U32,
+        "s32" => PrimitiveType::S32,
+        "u64" => PrimitiveType::U64,
+        "s64" => PrimitiveType::S64,
+        "f32" => PrimitiveType::F32,
+        "f64" => PrimitiveType::F64,
+        "char" => PrimitiveType::Char,
+        "bool" => PrimitiveType::Bool,
+        "string" => PrimitiveType::String,
+        "error-context" => PrimitiveType::ErrorContext,
+        _ => return None,
+    })
 }
 
 // Takes the angle behind a word, which some words stand without.
 fn opens(cursor: &mut Cursor, word: TypeWord) -> Result<bool, Fault>
-    ensures { IfOk result (λ is_open. Reads cursor.old cursor.new (Stage is_open word [] false None)) }
+    ensures read { IfOk result (λ is_open. Reads cursor.old cursor.new (Stage is_open word [] false None)) }
+    ensures complete { OpensParts cursor.old cursor.new word result }
 {
-    if matches!(word, TypeWord::Result | TypeWord::Future | TypeWord::Stream) {
+    if stands_alone(word) {
         return Ok(cursor.eat(TokenKind::OpenAngle));
     }
     cursor.expect(TokenKind::OpenAngle)?;
     Ok(true)
+}
+
+// Whether a word may be a type by itself.
+fn stands_alone(word: TypeWord) -> bool
+    ensures { result ≡ stands_alone word }
+{
+    matches!(word, TypeWord::Result | TypeWord::Future | TypeWord::Stream)
 }
 
 // Reads the next part, if it is none of the types: the `_` of a result, the length of a list.
@@ -206,9 +233,9 @@ fn read_other(cursor: &mut Cursor, word: TypeWord, parts: &mut Parts) -> Result<
     ensures other { IfOk result (λ is_other. is_other ≡ true → (before : Cursor) → Reads before cursor.old (Begun word parts.old.types.items parts.old.lacks_first parts.old.length) → Reads before cursor.new (Parted word parts.new.types.items parts.new.lacks_first parts.new.length)) }
     ensures left { IfOk result (λ is_other. is_other ≡ false → (cursor.new ≡ cursor.old) × (parts.new ≡ parts.old)) }
     ensures ty { IfOk result (λ is_other. is_other ≡ false → next_is_type word parts.old.types.items parts.old.lacks_first ≡ true) }
+    ensures complete { ReadsOther cursor.old cursor.new word parts.old parts.new result }
 {
-    let may_lack = matches!(word, TypeWord::Result) && parts.is_empty();
-    if may_lack && cursor.eat(TokenKind::Underscore) {
+    if eats_lack(cursor, word, parts) {
         parts.lacks_first = true;
         return Ok(true);
     }
@@ -217,6 +244,20 @@ fn read_other(cursor: &mut Cursor, word: TypeWord, parts: &mut Parts) -> Result<
         return Ok(true);
     }
     Ok(false)
+}
+
+// Takes the `_` of a result, where it may stand.
+fn eats_lack(cursor: &mut Cursor, word: TypeWord, parts: &Parts) -> bool
+    ensures eaten { result ≡ true → Reads cursor.old cursor.new (IsKind TokenKind.Underscore) }
+    ensures seen { result ≡ true → (token_at (source cursor.old) cursor.old.next).kind ≡ TokenKind.Underscore }
+    ensures may { result ≡ true → (word ≡ TypeWord.Result) × (is_empty parts.now.types.items parts.now.lacks_first ≡ true) }
+    ensures left { result ≡ false → cursor.new ≡ cursor.old }
+    ensures complete { word ≡ TypeWord.Result → is_empty parts.now.types.items parts.now.lacks_first ≡ true → Eats cursor.old cursor.new result (IsKind TokenKind.Underscore) }
+{
+    match word {
+        TypeWord::Result => parts.is_empty() && cursor.eat(TokenKind::Underscore),
+        _ => false,
+    }
 }
 
 // Whether the next part is a type or `_`.
@@ -231,7 +272,8 @@ fn takes_type(word: TypeWord, parts: &Parts) -> bool
 
 // Reads a number below 2^32.
 fn read_length(cursor: &mut Cursor) -> Result<u32, Fault>
-    ensures { IfOk result (λ length. Reads cursor.old cursor.new (IsLength length)) }
+    ensures read { IfOk result (λ length. Reads cursor.old cursor.new (IsLength length)) }
+    ensures complete { Completes cursor.old cursor.new result (AnyOf IsLength) }
 {
     match length_of(cursor) {
         Some(length) => {
@@ -244,7 +286,8 @@ fn read_length(cursor: &mut Cursor) -> Result<u32, Fault>
 
 // The number below 2^32 that comes next.
 fn length_of(cursor: &Cursor) -> Option<u32>
-    ensures { IfSome result (λ length. SaysLength (source cursor.now) cursor.now.next length) }
+    ensures length { IfSome result (λ length. SaysLength (source cursor.now) cursor.now.next length) }
+    ensures complete { IsReadable (source cursor.now) → (length : ℕ) → SaysLength (source cursor.now) cursor.now.next length → IsSome result }
 {
     let token = cursor.peek();
     if token.kind != TokenKind::Integer {
@@ -258,7 +301,8 @@ fn length_of(cursor: &Cursor) -> Option<u32>
 
 // Takes the comma or the angle behind a part; whether another part follows.
 fn goes_on(cursor: &mut Cursor, word: TypeWord, parts: &Parts) -> Result<bool, Fault>
-    ensures { IfOk result (λ is_open. (before : Cursor) → Reads before cursor.old (Parted word parts.now.types.items parts.now.lacks_first parts.now.length) → Reads before cursor.new (Stage is_open word parts.now.types.items parts.now.lacks_first parts.now.length)) }
+    ensures read { IfOk result (λ is_open. (before : Cursor) → Reads before cursor.old (Parted word parts.now.types.items parts.now.lacks_first parts.now.length) → Reads before cursor.new (Stage is_open word parts.now.types.items parts.now.lacks_first parts.now.length)) }
+    ensures complete { EndsPart cursor.old cursor.new word parts.now result }
 {
     if eats_comma(cursor, word, parts) {
         if ends_tuple(cursor, word) {
@@ -280,8 +324,10 @@ fn goes_on(cursor: &mut Cursor, word: TypeWord, parts: &Parts) -> Result<bool, F
 // Takes a comma, if another part may follow.
 fn eats_comma(cursor: &mut Cursor, word: TypeWord, parts: &Parts) -> bool
     ensures eaten { result ≡ true → Reads cursor.old cursor.new (IsKind TokenKind.Comma) }
+    ensures seen { result ≡ true → (token_at (source cursor.old) cursor.old.next).kind ≡ TokenKind.Comma }
     ensures may { result ≡ true → may_go_on word parts.now.types.items parts.now.lacks_first parts.now.length ≡ true }
     ensures left { result ≡ false → cursor.new ≡ cursor.old }
+    ensures complete { may_go_on word parts.now.types.items parts.now.lacks_first parts.now.length ≡ true → Eats cursor.old cursor.new result (IsKind TokenKind.Comma) }
 {
     may_go_on(word, parts) && cursor.eat(TokenKind::Comma)
 }
@@ -289,8 +335,10 @@ fn eats_comma(cursor: &mut Cursor, word: TypeWord, parts: &Parts) -> bool
 // Takes the angle that closes a tuple, behind a comma.
 fn ends_tuple(cursor: &mut Cursor, word: TypeWord) -> bool
     ensures eaten { result ≡ true → Reads cursor.old cursor.new (IsKind TokenKind.CloseAngle) }
+    ensures seen { result ≡ true → (token_at (source cursor.old) cursor.old.next).kind ≡ TokenKind.CloseAngle }
     ensures tuple { result ≡ true → word ≡ TypeWord.Tuple }
     ensures left { result ≡ false → cursor.new ≡ cursor.old }
+    ensures complete { word ≡ TypeWord.Tuple → Eats cursor.old cursor.new result (IsKind TokenKind.CloseAngle) }
 {
     match word {
         TypeWord::Tuple => cursor.eat(TokenKind::CloseAngle),
@@ -301,8 +349,10 @@ fn ends_tuple(cursor: &mut Cursor, word: TypeWord) -> bool
 // Takes the angle behind the parts, if no other needs to follow.
 fn eats_end(cursor: &mut Cursor, word: TypeWord, parts: &Parts) -> bool
     ensures eaten { result ≡ true → Reads cursor.old cursor.new (IsKind TokenKind.CloseAngle) }
+    ensures seen { result ≡ true → (token_at (source cursor.old) cursor.old.next).kind ≡ TokenKind.CloseAngle }
     ensures may { result ≡ true → may_end word parts.now.types.items parts.now.lacks_first parts.now.length ≡ true }
     ensures left { result ≡ false → cursor.new ≡ cursor.old }
+    ensures complete { may_end word parts.now.types.items parts.now.lacks_first parts.now.length ≡ true → Eats cursor.old cursor.new result (IsKind TokenKind.CloseAngle) }
 {
     may_end(word, parts) && cursor.eat(TokenKind::CloseAngle)
 }
@@ -339,6 +389,7 @@ fn build(
 ) -> Result<TypeExpr, Fault>
     ensures made { IfOk result (λ t. IsTypeMade word parts.old.types.items parts.old.lacks_first parts.old.length span t) }
     ensures rest { IsOk result → cursor.new ≡ cursor.old }
+    ensures complete { AreEnough word parts.old.types.items → IfErr result (λ fault. fault ≡ Memory) }
 {
     let alloc = cursor.alloc;
     match word {
@@ -358,6 +409,7 @@ fn build(
 fn build_list(cursor: &mut Cursor, parts: &mut Parts, span: Span) -> Result<TypeExpr, Fault>
     ensures made { IfOk result (λ t. IsTypeMade TypeWord.List parts.old.types.items parts.old.lacks_first parts.old.length span t) }
     ensures rest { IsOk result → cursor.new ≡ cursor.old }
+    ensures complete { AreEnough TypeWord.List parts.old.types.items → IfErr result (λ fault. fault ≡ Memory) }
 {
     let element = needed(cursor, parts, span)?;
     match parts.length {
@@ -368,7 +420,8 @@ fn build_list(cursor: &mut Cursor, parts: &mut Parts, span: Span) -> Result<Type
 
 // A result, of which an only type is that of an error where `_` stands before it.
 fn build_result(alloc: Global, parts: &mut Parts) -> Result<TypeExpr, Fault>
-    ensures { IfOk result (λ t. (span : Span) → IsTypeMade TypeWord.Result parts.old.types.items parts.old.lacks_first parts.old.length span t) }
+    ensures complete { IfErr result (λ fault. fault ≡ Memory) }
+    ensures made { IfOk result (λ t. (span : Span) → IsTypeMade TypeWord.Result parts.old.types.items parts.old.lacks_first parts.old.length span t) }
 {
     if parts.types.len() == 1 && !parts.lacks_first {
         return Ok(TypeExpr::Result(parts.take_last(alloc)?, None));
@@ -381,6 +434,7 @@ fn build_result(alloc: Global, parts: &mut Parts) -> Result<TypeExpr, Fault>
 fn build_map(cursor: &mut Cursor, parts: &mut Parts, span: Span) -> Result<TypeExpr, Fault>
     ensures made { IfOk result (λ t. IsTypeMade TypeWord.Map parts.old.types.items parts.old.lacks_first parts.old.length span t) }
     ensures rest { IsOk result → cursor.new ≡ cursor.old }
+    ensures complete { AreEnough TypeWord.Map parts.old.types.items → IfErr result (λ fault. fault ≡ Memory) }
 {
     if !has_key(parts) {
         return Err(cursor.refuse_at(
@@ -398,6 +452,7 @@ fn needed(cursor: &mut Cursor, parts: &mut Parts, span: Span) -> Result<Box<Type
     ensures last { IfOk result (λ last. parts.old.types.items ≡ parts.new.types.items ++ last.value ∷ []) }
     ensures parts { parts.new ≡ record parts.old { types = parts.new.types } }
     ensures rest { IsOk result → cursor.new ≡ cursor.old }
+    ensures complete { 0 < length parts.old.types.items → IfErr result (λ fault. fault ≡ Memory) }
 {
     match parts.take_last(cursor.alloc)? {
         Some(ty) => Ok(ty),
@@ -407,7 +462,8 @@ fn needed(cursor: &mut Cursor, parts: &mut Parts, span: Span) -> Result<Box<Type
 
 // Whether the first type can be the key of a map.
 fn has_key(parts: &Parts) -> bool
-    ensures { result ≡ true → HasMapKey parts.now.types.items }
+    ensures key { result ≡ true → HasMapKey parts.now.types.items }
+    ensures complete { HasMapKey parts.now.types.items → result ≡ true }
 {
     match parts.types.first() {
         Some(TypeExpr::Primitive(primitive, _)) => is_key(*primitive),

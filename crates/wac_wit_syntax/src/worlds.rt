@@ -1,11 +1,12 @@
 //! Reads worlds.
 
-ghost use Rattle.std.specs.Prelude.{true, codes, IfOk};
+ghost use Rattle.std.specs.Prelude.{◌≡◌, ◌≢◌, ◌⊎◌, ◌+◌, false, true, codes, IfOk};
 ghost use Rattle.wac_model.specs.Text.{Text};
-ghost use Rattle.wac_wit_syntax.specs.Behind.{ReadsAfter, ReadsAfterWord};
-ghost use Rattle.wac_wit_syntax.specs.Cursors.{Reads};
+ghost use Rattle.wac_wit_syntax.specs.Behind.{IsIncludeRest, IsNamedRest, ReadsAfter, ReadsAfterWord};
+ghost use Rattle.wac_wit_syntax.specs.Completing.{AnyOf, Completes};
+ghost use Rattle.wac_wit_syntax.specs.Cursors.{Reads, source};
 ghost use Rattle.wac_wit_syntax.specs.Gates.{IsGates};
-ghost use Rattle.wac_wit_syntax.specs.Productions.{◌▸◌, IsKind, IsName};
+ghost use Rattle.wac_wit_syntax.specs.Productions.{◌▸◌, IsKind, IsName, token_at};
 ghost use Rattle.wac_wit_syntax.specs.Worlds.{AreRenames, IsExtern, IsExternItem, IsInclude, IsWorldItem};
 
 use super::cursor::Cursor;
@@ -13,7 +14,6 @@ use super::error::Fault;
 use super::functions::{read_signature, sees_func};
 use super::gates::read_gates;
 use super::interfaces::read_use;
-use super::keywords::is_keyword;
 use super::lists::{Item, ListForm, read_block, read_list};
 use super::paths::{path_after, read_path};
 use super::token::TokenKind;
@@ -47,7 +47,8 @@ impl Item for WorldItem {
 }
 
 fn read_include(cursor: &mut Cursor, gates: Gates) -> Result<IncludeItem, Fault>
-    ensures { IfOk result (λ item. ReadsAfterWord (IsGates gates) (codes "include") cursor.old cursor.new (IsInclude item)) }
+    ensures read { IfOk result (λ item. ReadsAfterWord (IsGates gates) (codes "include") cursor.old cursor.new (IsInclude item)) }
+    ensures complete { Completes cursor.old cursor.new result IsIncludeRest }
 {
     cursor.take();
     let path = read_path(cursor)?;
@@ -61,7 +62,8 @@ fn read_include(cursor: &mut Cursor, gates: Gates) -> Result<IncludeItem, Fault>
 
 // Reads `with { .. }` or `;`.
 fn read_renames(cursor: &mut Cursor) -> Result<Vec<Rename>, Fault>
-    ensures { IfOk result (λ renames. Reads cursor.old cursor.new (AreRenames renames.items)) }
+    ensures read { IfOk result (λ renames. Reads cursor.old cursor.new (AreRenames renames.items)) }
+    ensures complete { Completes cursor.old cursor.new result (AnyOf AreRenames) }
 {
     if cursor.eat_word("with") {
         return read_list(cursor, RENAMED);
@@ -71,7 +73,8 @@ fn read_renames(cursor: &mut Cursor) -> Result<Vec<Rename>, Fault>
 
 // Reads an import or an export from its first word on.
 fn read_extern_item(cursor: &mut Cursor, gates: Gates) -> Result<ExternItem, Fault>
-    ensures { IfOk result (λ item. (word : Text) → ReadsAfterWord (IsGates gates) word cursor.old cursor.new (IsExternItem word item)) }
+    ensures read { IfOk result (λ item. (word : Text) → ReadsAfterWord (IsGates gates) word cursor.old cursor.new (IsExternItem word item)) }
+    ensures complete { Completes cursor.old cursor.new result (IsKind TokenKind.Word ▸ AnyOf IsExtern) }
 {
     cursor.take();
     let start = cursor.peek().span;
@@ -81,7 +84,8 @@ fn read_extern_item(cursor: &mut Cursor, gates: Gates) -> Result<ExternItem, Fau
 }
 
 fn read_extern(cursor: &mut Cursor) -> Result<Extern, Fault>
-    ensures { IfOk result (λ what. Reads cursor.old cursor.new (IsExtern what)) }
+    ensures read { IfOk result (λ what. Reads cursor.old cursor.new (IsExtern what)) }
+    ensures complete { Completes cursor.old cursor.new result (AnyOf IsExtern) }
 {
     let first = cursor.ident("a name or the path of an interface")?;
     if is_path_ahead(cursor) {
@@ -94,7 +98,8 @@ fn read_extern(cursor: &mut Cursor) -> Result<Extern, Fault>
 
 // Reads what is imported or exported under a name, behind its colon.
 fn read_named_extern(cursor: &mut Cursor, name: Ident) -> Result<Extern, Fault>
-    ensures { IfOk result (λ what. ReadsAfter (IsName name ▸ IsKind TokenKind.Colon) cursor.old cursor.new (IsExtern what)) }
+    ensures read { IfOk result (λ what. ReadsAfter (IsName name ▸ IsKind TokenKind.Colon) cursor.old cursor.new (IsExtern what)) }
+    ensures complete { Completes cursor.old cursor.new result IsNamedRest }
 {
     if sees_func(cursor) {
         return Ok(Extern::Func(name, read_signature(cursor)?));
@@ -102,7 +107,7 @@ fn read_named_extern(cursor: &mut Cursor, name: Ident) -> Result<Extern, Fault>
     if cursor.eat_word("interface") {
         return Ok(Extern::Inline(name, read_block(cursor)?));
     }
-    if is_keyword(cursor.word()) || cursor.word().is_empty() {
+    if !cursor.sees_name() {
         return Err(cursor.refuse("`func`, `async func`, `interface` or the path of an interface"));
     }
     let path = read_path(cursor)?;
@@ -110,6 +115,9 @@ fn read_named_extern(cursor: &mut Cursor, name: Ident) -> Result<Extern, Fault>
 }
 
 // Whether what follows a first name makes it a path: no colon, or a colon, a name and a slash.
-fn is_path_ahead(cursor: &Cursor) -> bool {
+fn is_path_ahead(cursor: &Cursor) -> bool
+    ensures path { result ≡ true → ((token_at (source cursor.now) cursor.now.next).kind ≢ TokenKind.Colon) ⊎ ((token_at (source cursor.now) (cursor.now.next + 2)).kind ≡ TokenKind.Slash) }
+    ensures colon { result ≡ false → ((token_at (source cursor.now) cursor.now.next).kind ≡ TokenKind.Colon) × ((token_at (source cursor.now) (cursor.now.next + 2)).kind ≢ TokenKind.Slash) }
+{
     !cursor.sees(TokenKind::Colon) || cursor.ahead(2).kind == TokenKind::Slash
 }

@@ -22,7 +22,7 @@ returns-in-Tuple-clause-made c =
 pub returns-in-Result-clause-made : goal.returns-in-Result-clause-made
 returns-in-Result-clause-made c =
     let p = c.args.parts.now in
-    if_ok_more c.build_result.result _ (λ t. IsTypeMade c.args.word p.types.items p.lacks_first p.length c.args.span t) c.build_result.ensures (λ t h. subst (λ w. IsTypeMade w p.types.items p.lacks_first p.length c.args.span t) (sym c.in-Result.is) (h c.args.span))
+    if_ok_more c.build_result.result _ (λ t. IsTypeMade c.args.word p.types.items p.lacks_first p.length c.args.span t) c.build_result.ensures.made (λ t h. subst (λ w. IsTypeMade w p.types.items p.lacks_first p.length c.args.span t) (sym c.in-Result.is) (h c.args.span))
 
 pub returns-in_ok-take_last-in-Future-clause-made : goal.returns-in_ok-take_last-in-Future-clause-made
 returns-in_ok-take_last-in-Future-clause-made c =
