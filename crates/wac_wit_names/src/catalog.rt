@@ -38,6 +38,15 @@ impl Drop for Package<'_> {
     }
 }
 
+/// What a `use` outside of interfaces and worlds gives a name to.
+#[derive(Clone, Copy)]
+pub struct UsedName<'a> {
+    /// The `use`.
+    pub used: &'a TopUse,
+    /// Its index among the items of its scope.
+    pub item: usize,
+}
+
 /// The names that the items of one file of a package share.
 pub struct Scope<'a> {
     /// The index of the package.
@@ -45,7 +54,7 @@ pub struct Scope<'a> {
     /// The index of the file.
     pub file: usize,
     /// What `use` outside of interfaces and worlds gives a name to.
-    pub uses: IndexMap<String, &'a TopUse>,
+    pub uses: IndexMap<String, UsedName<'a>>,
 }
 
 impl Drop for Scope<'_> {
@@ -67,12 +76,30 @@ pub enum Decl<'a> {
     World(&'a WorldDecl),
 }
 
+impl<'a> Decl<'a> {
+    fn name(&self) -> &'a Ident {
+        match self {
+            Decl::Interface(it) => &it.name,
+            Decl::World(it) => &it.name,
+        }
+    }
+
+    fn gates(&self) -> &'a Gates {
+        match self {
+            Decl::Interface(it) => &it.gates,
+            Decl::World(it) => &it.gates,
+        }
+    }
+}
+
 /// An interface or a world.
 pub struct Node<'a> {
     /// Its own index.
     pub index: usize,
     /// The index of the scope.
     pub scope: usize,
+    /// Its index among the items of the scope.
+    pub item: usize,
     /// The index of the package.
     pub package: usize,
     /// The index of the file.
@@ -92,6 +119,7 @@ impl Drop for Node<'_> {
         let Node {
             index: _,
             scope: _,
+            item: _,
             package: _,
             file: _,
             id: _,
@@ -382,26 +410,30 @@ impl<'a> Catalog<'a> {
             file,
             uses,
         })?;
-        for item in items {
-            let done = self.add_item(scope, item);
+        for (index, item) in items.iter().enumerate() {
+            let done = self.add_item(scope, index, item);
             refusals.go_on(done)?;
         }
         Ok(())
     }
 
-    fn add_item(&mut self, scope: usize, item: &'a TopItem) -> Result<(), Fault> {
+    fn add_item(&mut self, scope: usize, index: usize, item: &'a TopItem) -> Result<(), Fault> {
         match item {
-            TopItem::Interface(it) => {
-                self.add_node(scope, &it.name, &it.gates, Decl::Interface(it))
+            TopItem::Interface(it) => self.add_node(scope, index, Decl::Interface(it)),
+            TopItem::World(it) => self.add_node(scope, index, Decl::World(it)),
+            TopItem::Use(it) => {
+                let used = UsedName {
+                    used: it,
+                    item: index,
+                };
+                self.add_top_use(scope, used)
             }
-            TopItem::World(it) => self.add_node(scope, &it.name, &it.gates, Decl::World(it)),
-            TopItem::Use(it) => self.add_top_use(scope, it),
         }
     }
 
     // Takes in another name of an interface or a world.
-    fn add_top_use(&mut self, scope: usize, used: &'a TopUse) -> Result<(), Fault> {
-        let name = used_name(used);
+    fn add_top_use(&mut self, scope: usize, used: UsedName<'a>) -> Result<(), Fault> {
+        let name = used_name(used.used);
         let Some(of) = self.scopes.get_mut(scope) else {
             return Err(Fault::Missing);
         };
@@ -423,7 +455,7 @@ impl<'a> Catalog<'a> {
     fn check_uses(&self, refusals: &mut Refusals) -> Result<(), Fault> {
         for scope in &self.scopes {
             for used in scope.uses.values() {
-                let done = self.check_use(scope, used);
+                let done = self.check_use(scope, used.used);
                 refusals.go_on(done)?;
             }
         }
@@ -455,39 +487,29 @@ impl<'a> Catalog<'a> {
     }
 
     // Takes in an interface or a world.
-    fn add_node(
-        &mut self,
-        scope: usize,
-        name: &'a Ident,
-        gates: &Gates,
-        decl: Decl<'a>,
-    ) -> Result<(), Fault> {
+    fn add_node(&mut self, scope: usize, item: usize, decl: Decl<'a>) -> Result<(), Fault> {
         let index = self.nodes.len();
-        let node = self.new_node(scope, name, gates, decl)?;
-        self.add_member(node.package, name, index)?;
+        let node = self.new_node(scope, item, decl)?;
+        self.add_member(node.package, node.name, index)?;
         self.nodes.push(node)?;
         Ok(())
     }
 
-    fn new_node(
-        &self,
-        scope: usize,
-        name: &'a Ident,
-        gates: &Gates,
-        decl: Decl<'a>,
-    ) -> Result<Node<'a>, Fault> {
+    fn new_node(&self, scope: usize, item: usize, decl: Decl<'a>) -> Result<Node<'a>, Fault> {
         let of = self.scope(scope)?;
         let package = self.package(of.package)?;
+        let name = decl.name();
         self.check_new(of.file, package, name)?;
         Ok(Node {
             index: self.nodes.len(),
             scope,
+            item,
             package: of.package,
             file: of.file,
             id: id_of(self.alloc, &package.name, &name.name, package.version)?,
             name,
             decl,
-            is_hidden: !self.is_there(gates),
+            is_hidden: !self.is_there(decl.gates()),
         })
     }
 

@@ -27,8 +27,8 @@ pub enum WitError {
     /// Files are refused: at least one refusal and at most [`MAX_REFUSALS`](super::MAX_REFUSALS),
     /// in the order of the files and of the places in them.
     Refused(Vec<WitRefusal>),
-    /// An id doesn't stand in the collection. No packages are known that lead to it, which isn't
-    /// proved.
+    /// An id doesn't stand in the collection, or an interface in it isn't what its text denotes. No
+    /// packages are known that lead to it, which isn't proved.
     Missing,
     /// An allocation failed.
     Memory,
@@ -68,7 +68,7 @@ pub enum Fault {
     Known,
     /// As many refusals were noted as are listed.
     Enough,
-    /// An id doesn't stand in the collection, as in [`WitError::Missing`].
+    /// The collection isn't as it should be, as in [`WitError::Missing`].
     Missing,
     /// An allocation failed.
     Memory,

@@ -1,5 +1,10 @@
 //! Which items are there, by their attributes.
 
+ghost use Rattle.std.specs.Prelude.{◌≡◌};
+ghost use Rattle.std.specs.List.{list_any};
+ghost use Rattle.std.specs.Str.{bytes_eq};
+ghost use Rattle.wac_wit_names.specs.Features.{has_feature};
+
 use super::error::Fault;
 use semver::Version;
 use std::alloc::{AllocError, Global};
@@ -19,7 +24,9 @@ pub enum Features<'f> {
 
 impl Features<'_> {
     /// Whether a feature is on.
-    pub fn has(&self, name: &str) -> bool {
+    pub fn has(&self, name: &str) -> bool
+        ensures { result ≡ has_feature self.now name.now }
+    {
         match self {
             Features::Stable => false,
             Features::Named(names) => has_name(names, name),
@@ -28,13 +35,10 @@ impl Features<'_> {
     }
 }
 
-fn has_name(names: &[&str], name: &str) -> bool {
-    for it in names {
-        if *it == name {
-            return true;
-        }
-    }
-    false
+fn has_name(names: &[&str], name: &str) -> bool
+    ensures { result ≡ list_any (λ on. bytes_eq on.now name.now) names.now }
+{
+    names.iter().any(|on| *on == name)
 }
 
 /// Whether an item is there.

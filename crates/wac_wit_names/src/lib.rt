@@ -11,15 +11,17 @@ mod names;
 mod nearest;
 mod nodes;
 mod ordering;
+mod places;
 mod refusals;
 mod sources;
 mod taken;
 mod texts;
 
-pub use catalog::{Catalog, Decl, Node, Package, Scope};
+pub use catalog::{Catalog, Decl, Node, Package, Scope, UsedName};
 pub use error::{Fault, WitError, WitRefusal};
 pub use features::Features;
 pub use nearest::Nearest;
+pub use places::FoundPlace;
 pub use refusals::{MAX_REFUSALS, Refusals};
 pub use sources::SourceFile;
 pub use taken::Taken;

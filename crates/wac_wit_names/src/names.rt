@@ -1,6 +1,6 @@
 //! Looks up paths.
 
-use super::catalog::{Catalog, Decl, Node, Package, Scope};
+use super::catalog::{Catalog, Decl, Node, Package, Scope, UsedName};
 use super::error::Fault;
 use super::nearest::Nearest;
 use super::texts::{joined, key_of, name_of};
@@ -33,7 +33,7 @@ impl<'a> Catalog<'a> {
     // The interface or the world that a path leads to.
     fn find(&self, scope: &Scope<'a>, path: &Path) -> Result<&Node<'a>, Fault> {
         let node = match used_as(scope, path) {
-            Some(used) => self.find_used(scope, path, used)?,
+            Some(used) => self.find_used(scope, path, used.used)?,
             None => self.look_up(scope, path)?,
         };
         if node.is_hidden {
@@ -133,9 +133,9 @@ impl<'a> Catalog<'a> {
         }
     }
 
-    // Where a package stands. One that is named without a version is the one without a version, or
-    // else the only one of that name.
-    fn package_index(&self, name: &PackageName, key: &str) -> Option<usize> {
+    /// Where a package stands. One that is named without a version is the one without a version, or
+    /// else the only one of that name.
+    pub(crate) fn package_index(&self, name: &PackageName, key: &str) -> Option<usize> {
         if let Some(index) = self.by_key.get(key) {
             return Some(*index);
         }
@@ -177,8 +177,8 @@ impl<'a> Catalog<'a> {
     }
 }
 
-// The `use` outside of interfaces and worlds that gives the name of a path.
-fn used_as<'a>(scope: &Scope<'a>, path: &Path) -> Option<&'a TopUse> {
+/// The `use` outside of interfaces and worlds that gives the name of a path.
+pub(crate) fn used_as<'a>(scope: &Scope<'a>, path: &Path) -> Option<UsedName<'a>> {
     if path.package.is_some() {
         return None;
     }
