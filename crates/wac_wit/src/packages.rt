@@ -1,5 +1,11 @@
 //! Reads packages.
 
+ghost use Rattle.std.specs.Prelude.{IfOk, IfSome, IsTrue};
+ghost use Rattle.wac_wit.specs.Parsed.{AreParsed};
+ghost use Rattle.wac_wit.specs.Read.{AreReadPackages, AreOfTexts, IsReadPackage, KeepsKnowing};
+ghost use Rattle.wac_wit_validation.specs.Checking.{Knows};
+ghost use Rattle.wac_wit_validation.specs.WitSources.{WitSources, sources_of};
+
 use super::builder::Site;
 use super::interfaces::make_interface;
 use super::made::{KnownEntries, MadeEntry};
@@ -11,6 +17,7 @@ use wac_wit_names::{
     Catalog, Decl, Fault, Features, Node, Package, Refusals, SourceFile, WitError,
 };
 use wac_wit_syntax::{Document, parse};
+use wac_wit_validation::{SourceTrees, Validator};
 
 /// A package.
 pub struct WitPackage {
@@ -64,11 +71,13 @@ pub fn read_packages(
     types: &mut Types,
     files: &[SourceFile],
     features: Features<'_>,
-) -> Result<Wit, WitError> {
+) -> Result<Wit, WitError>
+    ensures { IfOk result (AreOfTexts files.now features.entry types.new) }
+{
     let mut refusals = Refusals::new(alloc);
     match read(alloc, types, files, features, &mut refusals) {
-        Ok(wit) if refusals.is_empty() => Ok(wit),
-        Ok(_) | Err(Fault::Known | Fault::Enough) => Err(refusals.into_error()),
+        Ok(wit) => Ok(wit),
+        Err(Fault::Known | Fault::Enough) => Err(refusals.into_error()),
         Err(Fault::Missing | Fault::Refused(_)) => Err(WitError::Missing),
         Err(Fault::Memory) => Err(WitError::Memory),
     }
@@ -80,11 +89,12 @@ fn read(
     files: &[SourceFile],
     features: Features<'_>,
     refusals: &mut Refusals,
-) -> Result<Wit, Fault> {
-    let documents = parsed(alloc, files, refusals)?;
-    if !refusals.is_empty() {
+) -> Result<Wit, Fault>
+    ensures { IfOk result (AreOfTexts files.now features.entry types.new) }
+{
+    let Some(documents) = parsed(alloc, files, refusals)? else {
         return Err(Fault::Known);
-    }
+    };
     match resolve(alloc, types, files, &documents, features, refusals) {
         Ok(wit) => Ok(wit),
         Err(fault) => {
@@ -94,23 +104,29 @@ fn read(
     }
 }
 
-// The trees of the files whose syntax is right.
+// The trees of all files, if the syntax of all is right.
 fn parsed(
     alloc: Global,
     files: &[SourceFile],
     refusals: &mut Refusals,
-) -> Result<Vec<Document>, Fault> {
+) -> Result<Option<Vec<Document>>, Fault>
+    ensures { IfOk result (λ parsed. IfSome parsed (λ documents. AreParsed files.now documents.items)) }
+{
     let mut documents = Vec::new(alloc);
+    let mut is_right = true;
     for (index, file) in files.iter().enumerate() {
         match parse(alloc, &file.text) {
             Ok(document) => documents.push(document)?,
-            Err(error) => refusals.note_syntax(index, error)?,
+            Err(error) => {
+                refusals.note_syntax(index, error)?;
+                is_right = false;
+            }
         }
     }
-    Ok(documents)
+    Ok(is_right.then_some(documents))
 }
 
-// Resolves what was read.
+// Resolves what was read. Where something is refused, there is no answer.
 fn resolve(
     alloc: Global,
     types: &mut Types,
@@ -118,30 +134,138 @@ fn resolve(
     documents: &[Document],
     features: Features<'_>,
     refusals: &mut Refusals,
-) -> Result<Wit, Fault> {
+) -> Result<Wit, Fault>
+    ensures { IfOk result (AreReadPackages (sources_of files.now documents.now features.entry) types.new) }
+{
     let catalog = Catalog::new(alloc, files, documents, features, refusals)?;
-    let made = make_all(alloc, &catalog, types, refusals)?;
-    Ok(listed(alloc, &catalog, &made)?)
+    let order = catalog.order(refusals)?;
+    let made = make_all(alloc, &catalog, &order, types, refusals)?;
+    let wit = listed(alloc, &catalog, &made)?;
+    if !refusals.is_empty() {
+        return Err(Fault::Known);
+    }
+    let read = ReadPackages {
+        files,
+        documents,
+        features,
+        catalog: &catalog,
+        order: &order,
+        made: &made,
+    };
+    if !checked(alloc, &*types, &read, &wit)? {
+        return Err(Fault::Missing);
+    }
+    Ok(wit)
 }
 
-// Makes the interfaces and the worlds, each behind those that it needs.
+// What packages were read from, and what was made of it.
+#[derive(Clone, Copy)]
+struct ReadPackages<'r, 'a> {
+    files: &'r [SourceFile],
+    documents: &'r [Document],
+    features: Features<'a>,
+    catalog: &'r Catalog<'a>,
+    // the interfaces and the worlds, each behind those that it needs
+    order: &'r [usize],
+    made: &'r [MadeEntry],
+}
+
+// Whether the interfaces of packages are what their texts denote.
+fn checked(
+    alloc: Global,
+    types: &Types,
+    read: &ReadPackages<'_, '_>,
+    wit: &Wit,
+) -> Result<bool, AllocError>
+    ensures { IfOk result (λ is. IsTrue is → AreReadPackages (sources_of read.now.files.now read.now.documents.now read.now.features) types.now wit.now) }
+{
+    let sources = SourceTrees {
+        files: read.files,
+        documents: read.documents,
+        features: read.features,
+    };
+    let Some(mut validator) = Validator::new(alloc, types, read.catalog, &sources)? else {
+        return Ok(false);
+    };
+    if !are_added(&mut validator, read.order, read.made)? {
+        return Ok(false);
+    }
+    Ok(are_listed(&validator, wit))
+}
+
+// Takes in the interfaces that were made, in order, and says whether each is what its text denotes.
+fn are_added(
+    validator: &mut Validator<'_>,
+    order: &[usize],
+    made: &[MadeEntry],
+) -> Result<bool, AllocError>
+    ensures { KeepsKnowing validator.old validator.new }
+{
+    for index in order {
+        if !is_added(validator, *index, made)? {
+            return Ok(false);
+        }
+    }
+    Ok(true)
+}
+
+fn is_added(
+    validator: &mut Validator<'_>,
+    index: usize,
+    made: &[MadeEntry],
+) -> Result<bool, AllocError>
+    ensures { KeepsKnowing validator.old validator.new }
+{
+    match made.get(index) {
+        Some(MadeEntry::Interface(it)) => validator.add_interface(index, it.id),
+        _ => Ok(true),
+    }
+}
+
+// Whether all interfaces of packages are among those that were taken in.
+fn are_listed(validator: &Validator<'_>, wit: &Wit) -> bool
+    ensures { IsTrue result → (of : WitSources) → Knows of validator.now → AreReadPackages of validator.now.types.now wit.now }
+{
+    for package in &wit.packages {
+        if !is_listed(validator, package) {
+            return false;
+        }
+    }
+    true
+}
+
+fn is_listed(validator: &Validator<'_>, package: &WitPackage) -> bool
+    ensures { IsTrue result → (of : WitSources) → Knows of validator.now → IsReadPackage of validator.now.types.now «package».now }
+{
+    for index in 0..package.interfaces.len() {
+        let Some((name, id)) = package.interfaces.get_index(index) else {
+            return false;
+        };
+        if !validator.is_interface_of(&package.name, &package.version, name, *id) {
+            return false;
+        }
+    }
+    true
+}
+
+// Makes the interfaces and the worlds, in an order in which each stands behind those that it needs.
 fn make_all(
     alloc: Global,
     catalog: &Catalog<'_>,
+    order: &[usize],
     types: &mut Types,
     refusals: &mut Refusals,
 ) -> Result<Vec<MadeEntry>, Fault> {
-    let order = catalog.order(refusals)?;
     let mut made = Vec::new(alloc);
     for _node in &catalog.nodes {
         made.push(MadeEntry::Nothing)?;
     }
     for index in order {
-        let node = catalog.node(index)?;
+        let node = catalog.node(*index)?;
         if !node.is_hidden {
             let site = site_of(alloc, &*catalog, &made, node)?;
             let done = make(&site, types, refusals);
-            put_made(&mut made, index, done, refusals)?;
+            put_made(&mut made, *index, done, refusals)?;
         }
     }
     Ok(made)

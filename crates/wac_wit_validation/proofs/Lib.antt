@@ -1,0 +1,11 @@
+pub mod Rows
+pub mod Fields
+pub mod Funcs
+pub mod Contents
+pub mod NameFacts
+pub mod ValueFacts
+pub mod MarkFacts
+pub mod ItemFacts
+pub mod PathFacts
+pub mod FoundFacts
+pub mod ScopeFacts

@@ -1,0 +1,9 @@
+use Rattle.std.proofs.Common.{nat_eq}
+use Rattle.indexmap.specs.IndexMap.{get}
+use Rattle.wac_wit_names.specs.declared.features.Features.{Features}
+use Rattle.wac_wit_validation.specs.Naming.{AreGroups}
+use Rattle.wac_wit_validation.specs.WitSources.{sources_of}
+use Rattle.wac_wit_validation.proofs.packages.groups_of.Given as goal
+
+abbrev pub invariant-loop-index : goal.invariant-loop-index
+invariant-loop-index l = (features : Features) → AreGroups (sources_of l.files l.documents features) (get nat_eq l.groups)

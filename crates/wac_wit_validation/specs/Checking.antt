@@ -1,0 +1,171 @@
+-- What is known of exports while they are compared with what is written.
+use Rattle.std.specs.Prelude.{◌≡◌, ◌⊎◌, ℕ, true, List, Contains, Some, slice_get, length, Vec}
+use Rattle.std.specs.declared.alloc.Global.{Global}
+use Rattle.wac_model.specs.ItemTree.{ItemTree}
+use Rattle.wac_model.specs.Text.{Text}
+use Rattle.wac_model.specs.ValueTree.{FuncTree}
+use Rattle.wac_component.specs.Collection.{Collection, InterfaceContent}
+use Rattle.wac_component.specs.Content.{named}
+use Rattle.wac_component.specs.Key.{Stands, interface_key}
+use Rattle.wac_component.specs.Id.{Id}
+use Rattle.wac_component.specs.Tree.{func_tree, item_tree, root_name}
+use Rattle.wac_component.specs.declared.items.ItemKind.{ItemKind}
+use Rattle.wac_component.specs.declared.items.ItemKind.TheVariants.{Func, Instance}
+use Rattle.wac_wit_names.specs.Features.{has_feature}
+use Rattle.wac_wit_validation.specs.WitSources.{WitSources, ScopeSyntax, IsOnlyVersion, IsScopeOf, IsEnabled, HasInterface, PathLeadsTo, ident_text, given_name, interface_identifier, package_id}
+use Rattle.wac_wit_validation.specs.Denoted.{Denoted, Setting, NamesType, interface_setting}
+use Rattle.wac_wit_validation.specs.Functions.{IsMethodOf, HasMethod, method_name}
+use Rattle.wac_wit_validation.specs.Interfaces.{HasExportOf, IsInterfaceTree}
+use Rattle.wac_wit_validation.specs.Reading.{TypesAreNamed, IsItemNamed}
+use Rattle.wac_wit_validation.specs.declared.progress.ExportMarks.{ExportMarks}
+use Rattle.wac_wit_validation.specs.declared.names.NamedTypes.{NamedTypes}
+use Rattle.wac_wit_validation.specs.declared.sources.ScopeItems.{ScopeItems}
+use Rattle.wac_wit_validation.specs.declared.validator.FoundInterface.{FoundInterface}
+use Rattle.wac_wit_validation.specs.declared.validator.Validator.{Validator}
+use Rattle.wac_wit_syntax.specs.declared.tree.InterfaceDecl.{InterfaceDecl}
+use Rattle.wac_wit_syntax.specs.declared.tree.InterfaceItem.{InterfaceItem}
+use Rattle.wac_wit_syntax.specs.declared.tree.InterfaceItem.TheVariants as inside
+use Rattle.wac_wit_syntax.specs.declared.tree.Method.{Method}
+use Rattle.wac_wit_syntax.specs.declared.tree.Path.{Path}
+use Rattle.wac_wit_syntax.specs.declared.tree.Rename.{Rename}
+use Rattle.wac_wit_syntax.specs.declared.tree.TopItem.TheVariants as top
+use Rattle.wac_wit_syntax.specs.declared.tree.TypeDef.TheVariants as def
+use Rattle.wac_wit_syntax.specs.declared.tree.TypeItem.{TypeItem}
+
+-- the names with their items
+abbrev pub named_items : NamedTypes → List (Text × ItemKind)
+named_items names = named (λ k. k) names.items.now.entries
+
+-- an item has this name
+pub record HasItem (es : List (Text × ItemKind)) (n : Text) : Type 0 where
+  pub kind : ItemKind
+  pub among : Contains es (n, kind)
+
+-- what stands at a place is exported under its name, if the names before it stand for what they do
+abbrev pub IsExportAt : Setting → Collection → List (Text × ItemKind) → ℕ → Type 0
+IsExportAt s c es i = (e : Text × ItemKind) → slice_get es i ≡ Some e → TypesAreNamed s c i es → HasExportOf s e.0 (item_tree c e.1) × IsItemNamed s e.0 c e.1
+
+-- only places of exports were marked
+pub record MarksExports (s : Setting) (names : NamedTypes) (old new : ExportMarks) : Type 0 where
+  pub even : length new.seen.items ≡ length old.seen.items
+  pub marked : (i : ℕ) → slice_get new.seen.items i ≡ Some true → (slice_get old.seen.items i ≡ Some true) ⊎ IsExportAt s names.types.now (named_items names) i
+
+-- a name that is used stands for what it does where it is used from
+abbrev pub Brings : Setting → Setting → Rename → Type 0
+Brings s from r = (m : Denoted) → NamesType from (ident_text r.name) m → NamesType s (given_name r.name r.alias) m
+
+-- a function of a resource is one of the setting
+abbrev pub Gives : Setting → Text → Method → Type 0
+Gives s r m = (f : FuncTree) → IsMethodOf s m r f → HasMethod s (method_name m.kind r (ident_text m.name)) f
+
+-- the functions of a resource have exports
+abbrev pub HasMethodItem : WitSources → List (Text × ItemKind) → Text → Method → Type 0
+HasMethodItem of es r m = IsEnabled of m.gates → HasItem es (method_name m.kind r (ident_text m.name))
+
+abbrev pub HasMethods : WitSources → List (Text × ItemKind) → Text → List Method → Type 0
+HasMethods of es r ms = (m : Method) → Contains ms m → HasMethodItem of es r m
+
+-- the functions of a resource have exports, if it is one
+abbrev pub HasAllMethods : WitSources → List (Text × ItemKind) → TypeItem → Type 0
+HasAllMethods of es t = (ms : Vec Method Global) → t.def ≡ def.Resource ms → HasMethods of es (ident_text t.name) ms.items
+
+-- each name of an item has an export
+abbrev pub IsRepresented : WitSources → List (Text × ItemKind) → InterfaceItem → Type 0
+IsRepresented of es (inside.Use u) = IsEnabled of u.gates → (r : Rename) → Contains u.names.items r → HasItem es (given_name r.name r.alias)
+IsRepresented of es (inside.Type t) = IsEnabled of t.gates → HasItem es (ident_text t.name) × HasAllMethods of es t
+IsRepresented of es (inside.Func f) = IsEnabled of f.gates → HasItem es (ident_text f.name)
+
+-- exports are those that the setting has
+pub record AreExportsOf (s : Setting) (c : Collection) (es : List (Text × ItemKind)) : Type 0 where
+  pub named : TypesAreNamed s c (length es) es
+  pub each : (e : Text × ItemKind) → Contains es e → HasExportOf s e.0 (item_tree c e.1)
+  pub all : (n : Text) (x : ItemTree) → HasExportOf s n x → HasItem es n
+
+abbrev pub scope_syntax : ScopeItems → ScopeSyntax
+scope_syntax w = record { «package» = package_id w.package.now; items = w.items.now }
+
+-- where the items of a scope of what is read stand, and whether it is said that no other version is there, which is so
+pub record IsKnownScope (of : WitSources) (w : ScopeItems) : Type 0 where
+  pub is_scope : IsScopeOf of (scope_syntax w)
+  pub alone : w.is_alone ≡ true → IsOnlyVersion of (package_id w.package.now)
+
+-- an interface that was found to be as it is written
+pub record IsValidated (of : WitSources) (v : Validator) (f : FoundInterface) : Type 0 where
+  pub scope : ScopeItems
+  pub decl : InterfaceDecl
+  pub at_scope : slice_get v.scopes.items f.place.scope ≡ Some scope
+  pub at_item : slice_get scope.items.now f.place.item ≡ Some (top.Interface decl)
+  pub there : IsEnabled of decl.gates
+  pub stands : Stands v.types.now (interface_key f.id)
+  pub identified : (content : InterfaceContent) → slice_get v.types.now.interfaces f.id.index ≡ Some content → content.id ≡ Some (interface_identifier (package_id scope.package.now) (ident_text decl.name))
+  pub exports : (content : InterfaceContent) → slice_get v.types.now.interfaces f.id.index ≡ Some content → AreExportsOf (interface_setting of (scope_syntax scope) decl.items.items) v.types.now content.exports
+  pub tree : IsInterfaceTree of (scope_syntax scope) decl.items.items (item_tree v.types.now (Instance f.id))
+
+-- what is known is so of what is read
+pub record Knows (of : WitSources) (v : Validator) : Type 0 where
+  pub features : (n : Text) → of.is_on n ≡ has_feature v.features n
+  pub scopes : (i : ℕ) (w : ScopeItems) → slice_get v.scopes.items i ≡ Some w → IsKnownScope of w
+  pub found : (f : FoundInterface) → Contains v.found.items f → IsValidated of v f
+
+-- the names are those of an interface that a path leads to
+pub record AreNamesAt (s : Setting) (path : Path) (names : NamedTypes) : Type 0 where
+  pub scope : ScopeSyntax
+  pub name : Text
+  pub decl : InterfaceDecl
+  pub leads : PathLeadsTo s.sources s.scope path scope name
+  pub has : HasInterface s.sources scope name decl
+  pub named : TypesAreNamed (interface_setting s.sources scope decl.items.items) names.types.now names.limit (named_items names)
+
+-- the setting is that of a scope
+pub record IsSettingAt (v : Validator) (scope : ℕ) (s : Setting) : Type 0 where
+  pub knows : Knows s.sources v
+  pub at : (w : ScopeItems) → slice_get v.scopes.items scope ≡ Some w → s.scope ≡ scope_syntax w
+
+-- the item is one of the setting's
+abbrev pub Offers : Setting → InterfaceItem → Type 0
+Offers s (inside.Use u) = Contains s.uses u
+Offers s (inside.Type t) = Contains s.types t
+Offers s (inside.Func f) = Contains s.funcs f
+
+-- the functions of a resource are the setting's
+abbrev pub OffersMethod : Setting → Text → Method → Type 0
+OffersMethod s r m = IsEnabled s.sources m.gates → Gives s r m
+
+abbrev pub OffersMethods : Setting → Text → List Method → Type 0
+OffersMethods s r ms = (m : Method) → Contains ms m → OffersMethod s r m
+
+-- the item is a function of which this holds
+pub record IsFuncItem (c : Collection) (kind : ItemKind) (P : FuncTree → Type 0) : Type 0 where
+  pub id : Id
+  pub is : kind ≡ Func id
+  pub holds : P (func_tree c id)
+
+-- ---- facts of clauses
+
+-- the items are those that an interface of a scope exports
+abbrev pub AreExportsAt : Validator → ℕ → List InterfaceItem → List (Text × ItemKind) → Type 0
+AreExportsAt v scope is es = (of : WitSources) → Knows of v → (w : ScopeItems) → slice_get v.scopes.items scope ≡ Some w → AreExportsOf (interface_setting of (scope_syntax w) is) v.types.now es
+
+-- in each setting of a scope that has something, exports alone were marked
+abbrev pub MarksAt : Validator → ℕ → (Setting → Type 0) → NamedTypes → ExportMarks → ExportMarks → Type 0
+MarksAt v scope Has names old new = names.types.now ≡ v.types.now → (s : Setting) → IsSettingAt v scope s → Has s → MarksExports s names old new
+
+-- in each setting of known sources that has something, exports alone were marked
+abbrev pub MarksIn : Validator → (Setting → Type 0) → NamedTypes → ExportMarks → ExportMarks → Type 0
+MarksIn v Has names old new = (s : Setting) → Knows s.sources v → Has s → MarksExports s names old new
+
+-- the name at the root of a resource
+abbrev pub HasRootName : NamedTypes → Id → Text → Type 0
+HasRootName names r n = root_name names.types.now r ≡ n
+
+-- both names are those of one collection
+abbrev pub HaveOneCollection : NamedTypes → NamedTypes → Type 0
+HaveOneCollection names others = names.types.now ≡ others.types.now
+
+-- all of the names bring what they stand for where they are used from
+abbrev pub BringsAll : Setting → Setting → List Rename → Type 0
+BringsAll s from rs = (r : Rename) → Contains rs r → Brings s from r
+
+-- an item is a function of which this holds, if the names before it stand for what they do
+abbrev pub IsFuncBehind : Setting → NamedTypes → ℕ → ItemKind → (FuncTree → Type 0) → Type 0
+IsFuncBehind s names i kind P = TypesAreNamed s names.types.now i (named_items names) → IsFuncItem names.types.now kind P

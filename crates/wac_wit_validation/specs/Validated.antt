@@ -1,0 +1,27 @@
+-- What the validator says of an entry: it is an interface of the packages that were read.
+use Rattle.std.specs.Prelude.{◌≡◌, ◌++◌, Option, Some, codes, slice_get}
+use Rattle.wac_model.specs.Text.{Text}
+use Rattle.wac_component.specs.Collection.{Collection, InterfaceContent}
+use Rattle.wac_component.specs.Id.{Id}
+use Rattle.wac_component.specs.Key.{Stands, interface_key}
+use Rattle.wac_component.specs.Tree.{item_tree}
+use Rattle.wac_component.specs.declared.items.ItemKind.TheVariants.{Instance}
+use Rattle.wac_wit_syntax.specs.declared.tree.InterfaceDecl.{InterfaceDecl}
+use Rattle.wac_wit_validation.specs.Interfaces.{IsInterfaceTree}
+use Rattle.wac_wit_validation.specs.WitSources.{HasInterface, PackageId, ScopeSyntax, WitSources, interface_identifier}
+
+-- the name of a package without its version, as `wasi:http`
+abbrev pub package_text : PackageId → Text
+package_text p = p.namespace ++ codes ":" ++ p.name
+
+-- the entry is that of the interface of this name, in a package of this name and version: it has the interface's
+-- identifier, and its tree is what the interface's text denotes
+pub record IsInterfaceOf (of : WitSources) (c : Collection) («package» : Text) (version : Option Text) (name : Text) (id : Id) : Type 0 where
+  pub scope : ScopeSyntax
+  pub decl : InterfaceDecl
+  pub has : HasInterface of scope name decl
+  pub of_package : package_text scope.package ≡ «package»
+  pub of_version : scope.package.version ≡ version
+  pub stands : Stands c (interface_key id)
+  pub identified : (content : InterfaceContent) → slice_get c.interfaces id.index ≡ Some content → content.id ≡ Some (interface_identifier scope.package name)
+  pub tree : IsInterfaceTree of scope decl.items.items (item_tree c (Instance id))

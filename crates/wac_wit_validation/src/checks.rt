@@ -1,0 +1,145 @@
+//! Takes in the interfaces of packages.
+
+ghost use Rattle.std.specs.Prelude.{◌≡◌, Contains, IfOk, IfSome, IsTrue, Some, slice_get, string_bytes};
+ghost use Rattle.std.specs.Option.{option_map};
+ghost use Rattle.wac_wit_syntax.specs.declared.tree.TopItem.TheVariants.{Interface};
+ghost use Rattle.wac_wit_validation.specs.Checking.{IsValidated, Knows};
+ghost use Rattle.wac_wit_validation.specs.WitSources.{WitSources, sources_of};
+ghost use Rattle.wac_wit_validation.specs.Validated.{IsInterfaceOf};
+
+use super::sources::{ScopeItems, scopes_of};
+use super::texts::{is_identifier_of, is_package_text, is_version_text, is_word};
+use super::validator::{FoundInterface, ItemPlace, Validator};
+use indexmap::IndexMap;
+use std::alloc::{AllocError, Global};
+use wac_component::{InterfaceId, Type, Types};
+use wac_wit_names::{Catalog, Features, SourceFile};
+use wac_wit_syntax::{Document, InterfaceDecl, TopItem};
+
+/// The files of packages, with their trees and the features that are on.
+#[derive(Clone, Copy)]
+pub struct SourceTrees<'s> {
+    /// The files.
+    pub files: &'s [SourceFile],
+    /// Their trees, in the same order.
+    pub documents: &'s [Document],
+    /// The features that are on.
+    pub features: Features<'s>,
+}
+
+impl<'v> Validator<'v> {
+    /// Begins with no interface. `None` is answered where no file of a package names it, or two
+    /// name different ones.
+    pub fn new(
+        alloc: Global,
+        types: &'v Types,
+        catalog: &'v Catalog<'v>,
+        sources: &SourceTrees<'v>,
+    ) -> Result<Option<Validator<'v>>, AllocError>
+        ensures types { IfOk result (λ o. IfSome o (λ v. v.types.now ≡ types.now)) }
+        ensures knows { IfOk result (λ o. IfSome o (Knows (sources_of sources.now.files.now sources.now.documents.now sources.now.features))) }
+    {
+        let Some(scopes) = scopes_of(alloc, sources.files, sources.documents)? else {
+            return Ok(None);
+        };
+        Ok(Some(Validator {
+            alloc,
+            types,
+            catalog,
+            features: sources.features,
+            scopes,
+            found: Vec::new(alloc),
+            positions: IndexMap::new(alloc),
+            by_id: IndexMap::new(alloc),
+        }))
+    }
+
+    /// Takes in an interface, if its entry is as it is written: the one at an index of the catalog.
+    /// Those that it uses have to be taken in before.
+    pub fn add_interface(&mut self, node: usize, id: InterfaceId) -> Result<bool, AllocError>
+        ensures types { self.new.types.now ≡ self.old.types.now }
+        ensures knows { (of : WitSources) → Knows of self.old → Knows of self.new }
+    {
+        let Some(place) = self.place_of(node) else {
+            return Ok(false);
+        };
+        let found = FoundInterface { place, id };
+        if !self.is_found(&found)? {
+            return Ok(false);
+        }
+        self.positions.insert(node, self.found.len())?;
+        self.by_id.insert(id, self.found.len())?;
+        self.found.push(found)?;
+        Ok(true)
+    }
+
+    // Where the catalog has an interface or a world.
+    fn place_of(&self, node: usize) -> Option<ItemPlace> {
+        let of = self.catalog.nodes.get(node)?;
+        Some(ItemPlace {
+            scope: of.scope,
+            item: of.item,
+        })
+    }
+
+    // The interface at a place.
+    fn interface_at(&self, place: &ItemPlace) -> Option<(&ScopeItems<'v>, &'v InterfaceDecl)>
+        ensures scope { IfSome result (λ p. slice_get self.now.scopes.items place.now.scope ≡ Some p.0.now) }
+        ensures item { IfSome result (λ p. slice_get p.0.now.items.now place.now.item ≡ Some (Interface p.1.now)) }
+    {
+        let scope = self.scopes.get(place.scope)?;
+        match scope.items.get(place.item)? {
+            TopItem::Interface(decl) => Some((scope, decl)),
+            _ => None,
+        }
+    }
+
+    // Whether an interface is there, and its entry is as it is written.
+    fn is_found(&self, found: &FoundInterface) -> Result<bool, AllocError>
+        ensures { IfOk result (λ is. IsTrue is → (of : WitSources) → Knows of self.now → IsValidated of self.now found.now) }
+    {
+        let Some((scope, decl)) = self.interface_at(&found.place) else {
+            return Ok(false);
+        };
+        if !self.is_there(&decl.gates) || !self.types.contains(Type::Interface(found.id)) {
+            return Ok(false);
+        }
+        let entry = &self.types[found.id];
+        if !is_identifier_of(scope.package, &decl.name.name, &entry.id) {
+            return Ok(false);
+        }
+        self.is_interface(found.place.scope, &decl.items, entry)
+    }
+
+    /// Whether an entry that was taken in is that of the interface of a name, in the package of a
+    /// name and a version.
+    pub fn is_interface_of(
+        &self,
+        package: &str,
+        version: &Option<String>,
+        name: &str,
+        id: InterfaceId,
+    ) -> bool
+        ensures { IsTrue result → (of : WitSources) → Knows of self.now → IsInterfaceOf of self.now.types.now «package».now (option_map string_bytes version.now) name.now id }
+    {
+        let Some(found) = self.found_as(id) else {
+            return false;
+        };
+        let Some((scope, decl)) = self.interface_at(&found.place) else {
+            return false;
+        };
+        if !is_word(&decl.name.name, name) {
+            return false;
+        }
+        is_package_text(scope.package, package) && is_version_text(scope.package, version)
+    }
+
+    // An interface that was taken in, by its entry.
+    fn found_as(&self, id: InterfaceId) -> Option<&FoundInterface>
+        ensures among { IfSome result (λ f. Contains self.now.found.items f.now) }
+        ensures id { IfSome result (λ f. f.now.id ≡ id) }
+    {
+        let found = self.found.get(*self.by_id.get(&id)?)?;
+        if found.id == id { Some(found) } else { None }
+    }
+}

@@ -1,0 +1,253 @@
+//! Interfaces.
+
+ghost use Rattle.std.specs.Prelude.{◌≡◌, [], Contains, IfOk, IfSome, IsTrue, Some, Vec, slice_get};
+ghost use Rattle.std.specs.declared.alloc.Global.{Global};
+ghost use Rattle.wac_component.specs.Content.{interface_content};
+ghost use Rattle.wac_component.specs.Tree.{root_name};
+ghost use Rattle.wac_wit_syntax.specs.declared.tree.InterfaceItem.TheVariants.{«Type» as TypeOf, Use as UseOf};
+ghost use Rattle.wac_wit_syntax.specs.declared.tree.Method.{Method};
+ghost use Rattle.wac_wit_syntax.specs.declared.tree.Rename.{Rename as Renamed};
+ghost use Rattle.wac_wit_syntax.specs.declared.tree.TypeDef.TheVariants.{Resource};
+ghost use Rattle.wac_wit_validation.specs.Checking.{AreExportsAt, Brings, BringsAll, HasAllMethods, HasItem, HasMethodItem, HasMethods, HasRootName, HaveOneCollection, IsFuncBehind, IsRepresented, Knows, MarksAt, MarksExports, MarksIn, Offers, OffersMethod, OffersMethods, named_items};
+ghost use Rattle.wac_wit_validation.specs.Denoted.{Setting, interface_setting};
+ghost use Rattle.wac_wit_validation.specs.Functions.{IsFuncOf};
+ghost use Rattle.wac_wit_validation.specs.Reading.{StandForTypes};
+ghost use Rattle.wac_wit_validation.specs.WitSources.{IsEnabled, WitSources, given_name, ident_text};
+ghost use Rattle.wac_wit_validation.specs.declared.sources.ScopeItems.{ScopeItems};
+
+use super::methods::is_next_method;
+use super::names::NamedTypes;
+use super::progress::ExportMarks;
+use super::typedefs::{is_same_type, is_spelled};
+use super::validator::Validator;
+use std::alloc::AllocError;
+use wac_component::{Interface, ItemKind, ResourceId, Type};
+use wac_wit_syntax::{FuncItem, Ident, InterfaceItem, Method, Rename, TypeDef, TypeItem, UseItem};
+
+impl<'v> Validator<'v> {
+    /// Whether an interface exports what is written.
+    pub(crate) fn is_interface(
+        &self,
+        scope: usize,
+        items: &[InterfaceItem],
+        entry: &Interface,
+    ) -> Result<bool, AllocError>
+        ensures { IfOk result (λ is. IsTrue is → AreExportsAt self.now scope items.now (interface_content entry.now).exports) }
+    {
+        let names = self.names_of(entry);
+        let mut progress = ExportMarks::new(self.alloc, &names)?;
+        for item in items {
+            if !self.is_item(scope, &names, &mut progress, item)? {
+                return Ok(false);
+            }
+        }
+        Ok(progress.is_done())
+    }
+
+    fn is_item(
+        &self,
+        scope: usize,
+        names: &NamedTypes<'_>,
+        progress: &mut ExportMarks,
+        item: &InterfaceItem,
+    ) -> Result<bool, AllocError>
+        ensures marks { IfOk result (λ is. IsTrue is → MarksAt self.now scope (λ s. Offers s item.now) names.now progress.old progress.new) }
+        ensures covers { IfOk result (λ is. IsTrue is → (of : WitSources) → Knows of self.now → IsRepresented of (named_items names.now) item.now) }
+    {
+        match item {
+            InterfaceItem::Use(it) => self.is_use(scope, names, progress, it),
+            InterfaceItem::Type(it) => Ok(self.is_type(names, progress, it)),
+            InterfaceItem::Func(it) => Ok(self.is_func(names, progress, it)),
+        }
+    }
+
+    /// Whether types are those that are used.
+    pub(crate) fn is_use(
+        &self,
+        scope: usize,
+        names: &NamedTypes<'_>,
+        progress: &mut ExportMarks,
+        item: &UseItem,
+    ) -> Result<bool, AllocError>
+        ensures marks { IfOk result (λ is. IsTrue is → MarksAt self.now scope (λ s. Contains s.uses item.now) names.now progress.old progress.new) }
+        ensures covers { IfOk result (λ is. IsTrue is → (of : WitSources) → Knows of self.now → IsRepresented of (named_items names.now) (UseOf item.now)) }
+    {
+        if !self.is_there(&item.gates) || item.names.is_empty() {
+            return Ok(true);
+        }
+        match self.names_at(scope, &item.path)? {
+            Some(from) => Ok(are_used(names, progress, &from, &item.names)),
+            None => Ok(false),
+        }
+    }
+
+    /// Whether a type is as it is defined, and its functions too.
+    pub(crate) fn is_type(
+        &self,
+        names: &NamedTypes<'_>,
+        progress: &mut ExportMarks,
+        item: &TypeItem,
+    ) -> bool
+        ensures marks { IsTrue result → (s : Setting) → Knows s.sources self.now → Contains s.types item.now → MarksExports s names.now progress.old progress.new }
+        ensures covers { IsTrue result → (of : WitSources) → Knows of self.now → IsRepresented of (named_items names.now) (TypeOf item.now) }
+    {
+        if !self.is_there(&item.gates) {
+            return true;
+        }
+        match is_typedef(names, progress, item) {
+            Some(of) => self.are_methods(names, progress, item, of),
+            None => false,
+        }
+    }
+
+    // Whether the next functions are those of a resource, if it is one.
+    fn are_methods(
+        &self,
+        names: &NamedTypes<'_>,
+        progress: &mut ExportMarks,
+        item: &TypeItem,
+        of: &Type,
+    ) -> bool
+        ensures marks { IsTrue result → (s : Setting) → Knows s.sources self.now → Contains s.types item.now → IsEnabled s.sources item.now.gates → MarksExports s names.now progress.old progress.new }
+        ensures covers { IsTrue result → (of : WitSources) → Knows of self.now → HasAllMethods of (named_items names.now) item.now }
+    {
+        match (&item.def, of) {
+            (TypeDef::Resource(methods), Type::Resource(id)) => {
+                names.is_own_resource(&item.name, id)
+                    && self.are_resource_methods(names, progress, &item.name, methods, id)
+            }
+            (TypeDef::Resource(_), _) => false,
+            _ => true,
+        }
+    }
+
+    fn are_resource_methods(
+        &self,
+        names: &NamedTypes<'_>,
+        progress: &mut ExportMarks,
+        name: &Ident,
+        methods: &[Method],
+        id: &ResourceId,
+    ) -> bool
+        ensures marks { let n = ident_text name.now in IsTrue result → HasRootName names.now id.now n → MarksIn self.now (λ s. OffersMethods s n methods.now) names.now progress.old progress.new }
+        ensures covers { IsTrue result → (of : WitSources) → Knows of self.now → HasMethods of (named_items names.now) (ident_text name.now) methods.now }
+    {
+        for method in methods {
+            if !self.is_method(names, progress, name, id, method) {
+                return false;
+            }
+        }
+        true
+    }
+
+    // Whether the next function is the one that is written of a resource, if it is there.
+    fn is_method(
+        &self,
+        names: &NamedTypes<'_>,
+        progress: &mut ExportMarks,
+        name: &Ident,
+        id: &ResourceId,
+        method: &Method,
+    ) -> bool
+        ensures marks { let n = ident_text name.now in IsTrue result → HasRootName names.now id.now n → MarksIn self.now (λ s. OffersMethod s n method.now) names.now progress.old progress.new }
+        ensures covers { IsTrue result → (of : WitSources) → Knows of self.now → HasMethodItem of (named_items names.now) (ident_text name.now) method.now }
+    {
+        !self.is_there(&method.gates) || is_next_method(names, progress, name, id, method)
+    }
+
+    // Whether the next function is the one that is written.
+    fn is_func(&self, names: &NamedTypes<'_>, progress: &mut ExportMarks, item: &FuncItem) -> bool
+        ensures marks { IsTrue result → (s : Setting) → Knows s.sources self.now → Contains s.funcs item.now → MarksExports s names.now progress.old progress.new }
+        ensures covers { IsTrue result → (of : WitSources) → Knows of self.now → IsEnabled of item.now.gates → HasItem (named_items names.now) (ident_text item.now.name) }
+    {
+        !self.is_there(&item.gates) || is_next_func(names, progress, item)
+    }
+}
+
+// The type that is defined, if it is as it is written.
+fn is_typedef<'n>(
+    names: &NamedTypes<'n>,
+    progress: &mut ExportMarks,
+    item: &TypeItem,
+) -> Option<&'n Type>
+    ensures marks { IfSome result (λ of. (s : Setting) → Contains s.types item.now → IsEnabled s.sources item.now.gates → MarksExports s names.now progress.old progress.new) }
+    ensures named { IfSome result (λ of. HasItem (named_items names.now) (ident_text item.now.name)) }
+{
+    let (index, of) = names.type_at(&item.name)?;
+    progress.mark(index);
+    if !names.up_to(index).is_defined(item, of) {
+        return None;
+    }
+    Some(of)
+}
+
+fn is_next_func(names: &NamedTypes<'_>, progress: &mut ExportMarks, item: &FuncItem) -> bool
+    ensures marks { IsTrue result → (s : Setting) → Contains s.funcs item.now → IsEnabled s.sources item.now.gates → MarksExports s names.now progress.old progress.new }
+    ensures covers { IsTrue result → HasItem (named_items names.now) (ident_text item.now.name) }
+{
+    let index = progress.next_func;
+    progress.next_func = index.saturating_add(1);
+    progress.mark(index);
+    let Some((name, of)) = names.items.get_index(index) else {
+        return false;
+    };
+    is_spelled(&item.name, name) && is_func_item(names, index, of, item)
+}
+
+// Whether an item is the function that is written, by the names before it.
+fn is_func_item(names: &NamedTypes<'_>, index: usize, of: &ItemKind, item: &FuncItem) -> bool
+    ensures { IsTrue result → (s : Setting) → IsFuncBehind s names.now index of.now (IsFuncOf s item.now.signature [] (λ r. r)) }
+{
+    match of {
+        ItemKind::Func(id) => names.up_to(index).is_func(&item.signature, id),
+        _ => false,
+    }
+}
+
+// Whether types are those that are used.
+fn are_used(
+    names: &NamedTypes<'_>,
+    progress: &mut ExportMarks,
+    from: &NamedTypes<'_>,
+    renames: &[Rename],
+) -> bool
+    ensures marks { IsTrue result → HaveOneCollection names.now from.now → (s f : Setting) → StandForTypes from.now f → BringsAll s f renames.now → MarksExports s names.now progress.old progress.new }
+    ensures covers { IsTrue result → (r : Renamed) → Contains renames.now r → HasItem (named_items names.now) (given_name r.name r.alias) }
+{
+    for rename in renames {
+        if !is_used(names, progress, from, rename) {
+            return false;
+        }
+    }
+    true
+}
+
+// Whether a type is the one that is used.
+fn is_used(
+    names: &NamedTypes<'_>,
+    progress: &mut ExportMarks,
+    from: &NamedTypes<'_>,
+    rename: &Rename,
+) -> bool
+    ensures marks { IsTrue result → names.now.types.now ≡ from.now.types.now → (s f : Setting) → StandForTypes from.now f → Brings s f rename.now → MarksExports s names.now progress.old progress.new }
+    ensures covers { IsTrue result → HasItem (named_items names.now) (given_name rename.now.name rename.now.alias) }
+{
+    let Some((index, of)) = names.type_at(local_name(rename)) else {
+        return false;
+    };
+    progress.mark(index);
+    match from.named(&rename.name) {
+        Some(used) => is_same_type(names.types, used, of),
+        None => false,
+    }
+}
+
+// The name that a used type gets.
+fn local_name(rename: &Rename) -> &Ident
+    ensures { ident_text result.now ≡ given_name rename.now.name rename.now.alias }
+{
+    match &rename.alias {
+        Some(alias) => alias,
+        None => &rename.name,
+    }
+}

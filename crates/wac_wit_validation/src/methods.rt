@@ -1,0 +1,86 @@
+//! Functions of resources.
+
+ghost use Rattle.std.specs.Prelude.{◌≡◌, ◌++◌, IsTrue, codes};
+ghost use Rattle.wac_component.specs.Tree.{root_name};
+ghost use Rattle.wac_wit_validation.specs.Checking.{Gives, HasItem, HasRootName, IsFuncBehind, MarksExports, named_items};
+ghost use Rattle.wac_wit_validation.specs.Denoted.{Setting};
+ghost use Rattle.wac_wit_validation.specs.Functions.{IsMethodOf, method_name};
+ghost use Rattle.wac_wit_validation.specs.WitSources.{ident_text};
+
+use super::names::NamedTypes;
+use super::progress::ExportMarks;
+use super::texts::behind;
+use wac_component::{ItemKind, ResourceId};
+use wac_wit_syntax::{Ident, Method, MethodKind};
+
+/// Whether the next function is the one that is written of a resource.
+pub(crate) fn is_next_method(
+    names: &NamedTypes<'_>,
+    progress: &mut ExportMarks,
+    resource: &Ident,
+    id: &ResourceId,
+    method: &Method,
+) -> bool
+    ensures marks { let n = ident_text resource.now in IsTrue result → HasRootName names.now id.now n → (s : Setting) → Gives s n method.now → MarksExports s names.now progress.old progress.new }
+    ensures covers { IsTrue result → HasItem (named_items names.now) (method_name method.now.kind (ident_text resource.now) (ident_text method.now.name)) }
+{
+    let index = progress.next_method;
+    progress.next_method = index.saturating_add(1);
+    progress.mark(index);
+    let Some((name, item)) = names.items.get_index(index) else {
+        return false;
+    };
+    is_method_name(name, &resource.name, method) && is_method_item(names, index, item, id, method)
+}
+
+// Whether an item is the function that is written of a resource, by the names before it.
+fn is_method_item(
+    names: &NamedTypes<'_>,
+    index: usize,
+    item: &ItemKind,
+    id: &ResourceId,
+    method: &Method,
+) -> bool
+    ensures { IsTrue result → (s : Setting) → IsFuncBehind s names.now index item.now (IsMethodOf s method.now (root_name names.now.types.now id.now)) }
+{
+    match item {
+        ItemKind::Func(func) => names.up_to(index).is_method(method, id, func),
+        _ => false,
+    }
+}
+
+// Whether a name is that of a function of a resource.
+fn is_method_name(name: &str, resource: &str, method: &Method) -> bool
+    ensures { IsTrue result → name.now ≡ method_name method.now.kind resource.now (ident_text method.now.name) }
+{
+    match method.kind {
+        MethodKind::Constructor => is_constructor_name(name, resource),
+        MethodKind::Method => is_name_behind("[method]", name, resource, &method.name.name),
+        MethodKind::Static => is_name_behind("[static]", name, resource, &method.name.name),
+    }
+}
+
+fn is_constructor_name(name: &str, resource: &str) -> bool
+    ensures { IsTrue result → name.now ≡ codes "[constructor]" ++ resource.now }
+{
+    match behind("[constructor]", name) {
+        Some(rest) => rest == resource,
+        None => false,
+    }
+}
+
+// Whether a text is a word, and the names of a resource and of a function with a dot between.
+fn is_name_behind(word: &str, text: &str, resource: &str, name: &str) -> bool
+    ensures { IsTrue result → text.now ≡ word.now ++ resource.now ++ codes "." ++ name.now }
+{
+    let Some(text) = behind(word, text) else {
+        return false;
+    };
+    let Some(text) = behind(resource, text) else {
+        return false;
+    };
+    match behind(".", text) {
+        Some(rest) => rest == name,
+        None => false,
+    }
+}

@@ -1,0 +1,104 @@
+//! What names stand for.
+
+ghost use Rattle.std.specs.Prelude.{◌≡◌, IfSome, IsSome, IsTrue, Some, slice_get};
+ghost use Rattle.wac_component.specs.declared.items.ItemKind.TheVariants.{«Type» as OfType};
+ghost use Rattle.wac_wit_validation.specs.Checking.{named_items};
+ghost use Rattle.wac_component.specs.Collection.{Collection};
+ghost use Rattle.wac_component.specs.Content.{defined_content};
+ghost use Rattle.wac_component.specs.Tree.{content_tree, root_name, value_tree};
+ghost use Rattle.wac_wit_validation.specs.Denoted.{NamesType, Setting, resource_type, value_type};
+ghost use Rattle.wac_wit_validation.specs.Reading.{StandForTypes, IsTypeNamed, type_meaning};
+ghost use Rattle.wac_wit_validation.specs.WitSources.{ident_text};
+
+use indexmap::IndexMap;
+use wac_component::{DefinedType, ItemKind, ResourceId, Type, Types, ValueType};
+use wac_wit_syntax::Ident;
+
+/// What names stand for: the types among exports or imports, of which the first so many are
+/// looked at.
+#[derive(Clone, Copy)]
+pub(crate) struct NamedTypes<'n> {
+    pub(crate) types: &'n Types,
+    pub(crate) items: &'n IndexMap<String, ItemKind>,
+    pub(crate) limit: usize,
+}
+
+impl<'n> NamedTypes<'n> {
+    /// The type that stands under a name, and its place.
+    pub(crate) fn type_at(&self, name: &Ident) -> Option<(usize, &'n Type)>
+        ensures at { IfSome result (λ p. slice_get (named_items self.now) p.0 ≡ Some (ident_text name.now, OfType p.1.now)) }
+        ensures meant { IfSome result (λ p. (c : Collection) → IsSome (type_meaning c p.1.now)) }
+    {
+        let (index, _, item) = self.items.get_full(name.name.as_str())?;
+        let ItemKind::Type(ty) = item else {
+            return None;
+        };
+        if has_meaning(ty) {
+            Some((index, ty))
+        } else {
+            None
+        }
+    }
+
+    /// The type of a name.
+    pub(crate) fn named(&self, name: &Ident) -> Option<&'n Type>
+        ensures { IfSome result (λ t. (s : Setting) → StandForTypes self.now s → IsTypeNamed s (ident_text name.now) self.now.types.now t.now) }
+    {
+        let (index, ty) = self.type_at(name)?;
+        if index >= self.limit {
+            return None;
+        }
+        Some(ty)
+    }
+
+    /// The value type of a name.
+    pub(crate) fn named_value(&self, name: &Ident) -> Option<&'n ValueType>
+        ensures { IfSome result (λ v. (s : Setting) → StandForTypes self.now s → NamesType s (ident_text name.now) (value_type (value_tree self.now.types.now v.now))) }
+    {
+        match self.named(name)? {
+            Type::Value(ty) => Some(ty),
+            _ => None,
+        }
+    }
+
+    /// The resource of a name.
+    pub(crate) fn named_resource(&self, name: &Ident) -> Option<&'n ResourceId>
+        ensures { IfSome result (λ r. (s : Setting) → StandForTypes self.now s → NamesType s (ident_text name.now) (resource_type (root_name self.now.types.now r.now))) }
+    {
+        match self.named(name)? {
+            Type::Resource(id) => Some(id),
+            _ => None,
+        }
+    }
+
+    /// Those before an index.
+    pub(crate) fn up_to(&self, limit: usize) -> NamedTypes<'n>
+        ensures { result ≡ record self.now { limit = limit } }
+    {
+        NamedTypes {
+            types: self.types,
+            items: self.items,
+            limit,
+        }
+    }
+
+    /// What a defined type says.
+    pub(crate) fn defined(&self, ty: &ValueType) -> Option<&'n DefinedType>
+        ensures { IfSome result (λ of. value_tree self.now.types.now ty.now ≡ content_tree (value_tree self.now.types.now) (defined_content of.now)) }
+    {
+        let ValueType::Defined(id) = ty else {
+            return None;
+        };
+        if !self.types.contains(Type::Value(ValueType::Defined(*id))) {
+            return None;
+        }
+        Some(&self.types[*id])
+    }
+}
+
+// Whether a name of WIT can stand for a type.
+fn has_meaning(ty: &Type) -> bool
+    ensures { IsTrue result → (c : Collection) → IsSome (type_meaning c ty.now) }
+{
+    matches!(ty, Type::Value(_) | Type::Resource(_))
+}

@@ -1,0 +1,112 @@
+//! Where the items of packages stand.
+
+ghost use Rattle.std.specs.Prelude.{◌≡◌, ℕ, IfOk, IfSome, OnOk, Some, nat_eq, slice_get};
+ghost use Rattle.indexmap.specs.IndexMap.{get, get_by_text};
+ghost use Rattle.wac_wit_names.specs.declared.features.Features.{Features};
+ghost use Rattle.wac_wit_validation.specs.Checking.{IsKnownScope};
+ghost use Rattle.wac_wit_validation.specs.Naming.{AddsScopes, AreScopes, HasFile, HasNested, NamesGroup, scope_in};
+ghost use Rattle.wac_wit_validation.specs.WitSources.{IsScopeOf, WitSources, sources_of};
+ghost use Rattle.wac_wit_validation.specs.declared.sources.ScopeItems.{ScopeItems as Scopes};
+
+use super::packages::{Versions, groups_of, is_alone, versions_in};
+use indexmap::IndexMap;
+use std::alloc::{AllocError, Global};
+use wac_wit_names::SourceFile;
+use wac_wit_syntax::{Document, NestedPackage, PackageName, TopItem};
+
+/// The items of a file, or of a package that is written inside one.
+#[derive(Clone, Copy)]
+pub(crate) struct ScopeItems<'s> {
+    /// The package that they are in.
+    pub(crate) package: &'s PackageName,
+    pub(crate) items: &'s [TopItem],
+    /// Whether no other version of the package is there.
+    pub(crate) is_alone: bool,
+}
+
+/// The items of each file, and behind them those of the packages inside it. Nothing where no file
+/// of a group names the package, or two name different ones.
+pub(crate) fn scopes_of<'s>(
+    alloc: Global,
+    files: &[SourceFile],
+    documents: &'s [Document],
+) -> Result<Option<Vec<ScopeItems<'s>>>, AllocError>
+    ensures { IfOk result (λ o. IfSome o (λ ws. (features : Features) (i : ℕ) (w : Scopes) → slice_get ws.items i ≡ Some w → IsKnownScope (sources_of files.now documents.now features) w)) }
+{
+    if files.len() != documents.len() {
+        return Ok(None);
+    }
+    let Some(groups) = groups_of(alloc, files, documents)? else {
+        return Ok(None);
+    };
+    let versions = versions_in(alloc, documents)?;
+    scopes_in(alloc, files, documents, &groups, &versions)
+}
+
+fn scopes_in<'s>(
+    alloc: Global,
+    files: &[SourceFile],
+    documents: &'s [Document],
+    groups: &IndexMap<usize, &'s PackageName>,
+    versions: &IndexMap<String, Versions<'s>>,
+) -> Result<Option<Vec<ScopeItems<'s>>>, AllocError>
+    ensures { IfOk result (λ o. IfSome o (λ ws. (features : Features) → AreScopes (sources_of files.now documents.now features) (get nat_eq groups.now) (get_by_text versions.now) ws.items)) }
+{
+    let mut scopes = Vec::new(alloc);
+    for (index, document) in documents.iter().enumerate() {
+        let Some(file) = files.get(index) else {
+            return Ok(None);
+        };
+        let Some(package) = groups.get(&file.group) else {
+            return Ok(None);
+        };
+        push_document(alloc, &mut scopes, versions, package, document)?;
+    }
+    Ok(Some(scopes))
+}
+
+// Puts the items of a file of a package last, and then those of the packages inside it.
+fn push_document<'s>(
+    alloc: Global,
+    scopes: &mut Vec<ScopeItems<'s>>,
+    versions: &IndexMap<String, Versions<'s>>,
+    package: &'s PackageName,
+    document: &'s Document,
+) -> Result<(), AllocError>
+    ensures { OnOk result ((of : WitSources) (g : ℕ) → HasFile of g document.now → NamesGroup of g «package».now → AddsScopes of (get_by_text versions.now) scopes.old.items scopes.new.items) }
+{
+    push_scope(alloc, scopes, versions, package, &document.items)?;
+    push_nested(alloc, scopes, versions, &document.packages)
+}
+
+fn push_nested<'s>(
+    alloc: Global,
+    scopes: &mut Vec<ScopeItems<'s>>,
+    versions: &IndexMap<String, Versions<'s>>,
+    packages: &'s [NestedPackage],
+) -> Result<(), AllocError>
+    ensures { OnOk result ((of : WitSources) → HasNested of packages.now → AddsScopes of (get_by_text versions.now) scopes.old.items scopes.new.items) }
+{
+    for nested in packages {
+        push_scope(alloc, scopes, versions, &nested.name, &nested.items)?;
+    }
+    Ok(())
+}
+
+fn push_scope<'s>(
+    alloc: Global,
+    scopes: &mut Vec<ScopeItems<'s>>,
+    versions: &IndexMap<String, Versions<'s>>,
+    package: &'s PackageName,
+    items: &'s [TopItem],
+) -> Result<(), AllocError>
+    ensures { OnOk result ((of : WitSources) → IsScopeOf of (scope_in «package».now items.now) → AddsScopes of (get_by_text versions.now) scopes.old.items scopes.new.items) }
+{
+    let is_alone = is_alone(alloc, versions, package)?;
+    scopes.push(ScopeItems {
+        package,
+        items,
+        is_alone,
+    })?;
+    Ok(())
+}

@@ -1,0 +1,191 @@
+//! What is known while interfaces are checked.
+
+ghost use Rattle.std.specs.Prelude.{◌≡◌, ◌↔◌, IfOk, IfSome, IsTrue, Some, length, slice_get};
+ghost use Rattle.wac_component.specs.Collection.{InterfaceContent};
+ghost use Rattle.wac_wit_validation.specs.Checking.{AreNamesAt, IsKnownScope, IsSettingAt, Knows, named_items, scope_syntax};
+ghost use Rattle.wac_wit_validation.specs.Denoted.{Setting};
+ghost use Rattle.wac_wit_validation.specs.WitSources.{IsNamedPackage, IsPackageOf, IsEnabled, PathLeadsTo, WitSources, given_name, ident_text};
+
+use super::names::NamedTypes;
+use super::packages::{have_one_name, is_same_package};
+use super::sources::ScopeItems;
+use indexmap::IndexMap;
+use std::alloc::{AllocError, Global};
+use wac_component::{Interface, InterfaceId, Type, Types};
+use wac_wit_names::{Catalog, Features, FoundPlace};
+use wac_wit_syntax::{Gates, Ident, PackageName, Path, TopItem, TopUse};
+
+/// Where an interface or a world is written: the index of what it stands in, and its own there.
+#[derive(Clone, Copy)]
+pub struct ItemPlace {
+    /// Of the items of files and of the packages inside them.
+    pub scope: usize,
+    /// Of the item among these.
+    pub item: usize,
+}
+
+/// An interface that is as it is written.
+#[derive(Clone, Copy)]
+pub struct FoundInterface {
+    /// Where it is written.
+    pub place: ItemPlace,
+    /// Its entry.
+    pub id: InterfaceId,
+}
+
+/// Checks interfaces.
+pub struct Validator<'v> {
+    pub(crate) alloc: Global,
+    pub(crate) types: &'v Types,
+    pub(crate) catalog: &'v Catalog<'v>,
+    pub(crate) features: Features<'v>,
+    pub(crate) scopes: Vec<ScopeItems<'v>>,
+    pub(crate) found: Vec<FoundInterface>,
+    // where among these an interface of the catalog stands
+    pub(crate) positions: IndexMap<usize, usize>,
+    // where among these an entry stands
+    pub(crate) by_id: IndexMap<InterfaceId, usize>,
+}
+
+impl Drop for Validator<'_> {
+    fn drop(self) {
+        let Validator {
+            alloc: _,
+            types: _,
+            catalog: _,
+            features: _,
+            scopes: _,
+            found: _,
+            positions: _,
+            by_id: _,
+        } = self;
+    }
+}
+
+impl<'v> Validator<'v> {
+    /// Whether an item is there.
+    pub(crate) fn is_there(&self, gates: &Gates) -> bool
+        ensures { (of : WitSources) → Knows of self.now → IsTrue result ↔ IsEnabled of gates.now }
+    {
+        match &gates.unstable {
+            Some(feature) => self.features.has(&feature.text),
+            None => true,
+        }
+    }
+
+    /// The names of an interface that was found to be as it is written, if a path leads to one.
+    pub(crate) fn names_at(
+        &self,
+        scope: usize,
+        path: &Path,
+    ) -> Result<Option<NamedTypes<'v>>, AllocError>
+        ensures types { IfOk result (λ o. IfSome o (λ n. n.types.now ≡ self.now.types.now)) }
+        ensures named { IfOk result (λ o. IfSome o (λ n. (s : Setting) → IsSettingAt self.now scope s → AreNamesAt s path.now n)) }
+    {
+        match self.catalog.find_place(scope, path)? {
+            Some(place) => Ok(self.names_from(scope, path, &place)),
+            None => Ok(None),
+        }
+    }
+
+    // The names of the interface at a place, if the path leads to it.
+    fn names_from(&self, scope: usize, path: &Path, place: &FoundPlace) -> Option<NamedTypes<'v>>
+        ensures types { IfSome result (λ n. n.types.now ≡ self.now.types.now) }
+        ensures named { IfSome result (λ n. (s : Setting) → IsSettingAt self.now scope s → AreNamesAt s path.now n) }
+    {
+        let from = self.scopes.get(scope)?;
+        let found = self.found.get(*self.positions.get(&place.node)?)?;
+        let to = self.scopes.get(found.place.scope)?;
+        let TopItem::Interface(decl) = to.items.get(found.place.item)? else {
+            return None;
+        };
+        if !leads(from, path, place.via, to, &decl.name) {
+            return None;
+        }
+        self.names_with(found.id)
+    }
+
+    // The names of the entry of an interface.
+    fn names_with(&self, id: InterfaceId) -> Option<NamedTypes<'v>>
+        ensures types { IfSome result (λ n. n.types.now ≡ self.now.types.now) }
+        ensures entry { IfSome result (λ n. (e : InterfaceContent) × (slice_get self.now.types.now.interfaces id.index ≡ Some e) × (e.exports ≡ named_items n)) }
+        ensures limit { IfSome result (λ n. n.limit ≡ length (named_items n)) }
+    {
+        if !self.types.contains(Type::Interface(id)) {
+            return None;
+        }
+        Some(self.names_of(&self.types[id]))
+    }
+
+    /// The names of an interface.
+    pub(crate) fn names_of<'n>(&self, of: &'n Interface) -> NamedTypes<'n>
+    where
+        'v: 'n,
+        ensures types { result.types.now ≡ self.now.types.now }
+        ensures items { result.items.now ≡ of.now.exports }
+        ensures limit { result.limit ≡ length of.now.exports.entries }
+    {
+        NamedTypes {
+            types: self.types,
+            items: &of.exports,
+            limit: of.exports.len(),
+        }
+    }
+}
+
+// Whether a path leads to a name, by way of a `use` outside of interfaces and worlds if there is
+// one.
+fn leads(
+    from: &ScopeItems<'_>,
+    path: &Path,
+    via: Option<usize>,
+    to: &ScopeItems<'_>,
+    name: &Ident,
+) -> bool
+    ensures { IsTrue result → (of : WitSources) → IsKnownScope of to.now → PathLeadsTo of (scope_syntax from.now) path.now (scope_syntax to.now) (ident_text name.now) }
+{
+    let Some(item) = via else {
+        return leads_directly(from, path, to, name);
+    };
+    let Some(TopItem::Use(used)) = from.items.get(item) else {
+        return false;
+    };
+    path.package.is_none()
+        && used_name(used).name == path.name.name
+        && leads_directly(from, &used.path, to, name)
+}
+
+// The name that a `use` outside of interfaces and worlds gives.
+fn used_name(used: &TopUse) -> &Ident
+    ensures { ident_text result.now ≡ given_name used.now.path.name used.now.alias }
+{
+    match &used.alias {
+        Some(alias) => alias,
+        None => &used.path.name,
+    }
+}
+
+fn leads_directly(from: &ScopeItems<'_>, path: &Path, to: &ScopeItems<'_>, name: &Ident) -> bool
+    ensures name { IsTrue result → ident_text path.now.name ≡ ident_text name.now }
+    ensures package { IsTrue result → (of : WitSources) → IsKnownScope of to.now → IsPackageOf of (scope_syntax from.now) path.now.package (scope_syntax to.now).package }
+{
+    path.name.name == name.name && is_package_of(from, &path.package, to)
+}
+
+// Whether it is the package that a path names.
+fn is_package_of(from: &ScopeItems<'_>, package: &Option<PackageName>, to: &ScopeItems<'_>) -> bool
+    ensures { IsTrue result → (of : WitSources) → IsKnownScope of to.now → IsPackageOf of (scope_syntax from.now) «package».now (scope_syntax to.now).package }
+{
+    match package {
+        Some(named) => is_named(named, to),
+        None => is_same_package(from.package, to.package),
+    }
+}
+
+// Whether it is the package of a name, or the only one where that has no version.
+fn is_named(named: &PackageName, to: &ScopeItems<'_>) -> bool
+    ensures { IsTrue result → (of : WitSources) → IsKnownScope of to.now → IsNamedPackage of named.now (scope_syntax to.now).package }
+{
+    is_same_package(named, to.package)
+        || named.version.is_none() && to.is_alone && have_one_name(to.package, named)
+}
