@@ -1,5 +1,9 @@
 //! Asks the library, of items that may not stand.
 
+ghost use Rattle.std.specs.Prelude.{◌↔◌, IfOk, IsNone};
+ghost use Rattle.wac_component.specs.Tree.{item_tree};
+ghost use Rattle.wac_types.specs.Order.{Fits};
+
 use std::alloc::Global;
 use std::collections::HashSet;
 use wac_component::{ItemKind, TargetError, Type, Types, WorldId};
@@ -12,7 +16,9 @@ pub(crate) fn misfit(
     types: &Types,
     given: &ItemKind,
     wanted: &ItemKind,
-) -> Result<Option<SubtypeError>, EntryError> {
+) -> Result<Option<SubtypeError>, EntryError>
+    ensures { IfOk result (λ o. IsNone o ↔ Fits (item_tree types.now given.now) (item_tree types.now wanted.now)) }
+{
     if !types.contains_item(*given) || !types.contains_item(*wanted) {
         return Err(EntryError::Missing);
     }

@@ -1,12 +1,16 @@
 //! Compares interfaces, worlds and their members, and finds where they stand.
 
+ghost use Rattle.std.specs.Prelude.{◌≡◌, ◌↔◌, ◌≤◌, [], length, IfOk, OnOk, IsNone};
+ghost use Rattle.wac_wit_changes.specs.Comparing.{InterfaceFits};
+ghost use Rattle.wac_wit_changes.specs.Sides.{FitsOn};
+
 use super::checking::{fits_target, misfit};
 use super::problem::{Problem, fault_text, steps_of};
 use super::tracks::{by_tracks, on_track};
 use indexmap::IndexMap;
 use std::alloc::{AllocError, Global};
 use wac_component::{ExternKind, InterfaceId, ItemKind, Types, WorldId};
-use wac_types::{SubtypeError, TargetValidationReport};
+use wac_types::{NameMap, SubtypeError, TargetValidationReport};
 use wac_wit_entries::{EntryError, interface, sort_of, world};
 use wac_wit_places::{FilePlace, Map, SourceSide, places_of};
 
@@ -82,8 +86,8 @@ pub(crate) struct ComparedWorlds {
 
 // What the component's world and the other one import or export, by the tracks of the names.
 struct Tracks {
-    old: IndexMap<String, ItemKind>,
-    new: IndexMap<String, ItemKind>,
+    old: NameMap<String, ItemKind>,
+    new: NameMap<String, ItemKind>,
 }
 
 impl Drop for Tracks {
@@ -98,7 +102,9 @@ impl<'s, 'd> ComparedPair<'s, 'd> {
         &self,
         before: InterfaceId,
         after: InterfaceId,
-    ) -> Result<Vec<Problem>, EntryError> {
+    ) -> Result<Vec<Problem>, EntryError>
+        ensures { IfOk result (λ ps. (ps.items ≡ []) ↔ InterfaceFits self.now.types.now after before) }
+    {
         let both = Both {
             old: ItemKind::Instance(before),
             new: ItemKind::Instance(after),
@@ -122,7 +128,10 @@ impl<'s, 'd> ComparedPair<'s, 'd> {
         problems: &mut Vec<Problem>,
         both: &Both<'s, 'd>,
         direction: Direction,
-    ) -> Result<(), EntryError> {
+    ) -> Result<(), EntryError>
+        ensures grows { OnOk result (length problems.old.items ≤ length problems.new.items) }
+        ensures none { OnOk result ((length problems.new.items ≡ length problems.old.items) ↔ FitsOn self.now.types.now direction both.now.old both.now.new) }
+    {
         let count = problems.len();
         let Some(problem) = self.misfit(both, direction)? else {
             return Ok(());
@@ -140,7 +149,9 @@ impl<'s, 'd> ComparedPair<'s, 'd> {
         &self,
         both: &Both<'s, 'd>,
         direction: Direction,
-    ) -> Result<Option<Problem>, EntryError> {
+    ) -> Result<Option<Problem>, EntryError>
+        ensures { IfOk result (λ o. IsNone o ↔ FitsOn self.now.types.now direction both.now.old both.now.new) }
+    {
         let outcome = match direction {
             Direction::NewForOld => misfit(self.alloc, self.types, &both.new, &both.old)?,
             Direction::OldForNew => misfit(self.alloc, self.types, &both.old, &both.new)?,
@@ -157,7 +168,9 @@ impl<'s, 'd> ComparedPair<'s, 'd> {
         problems: &mut Vec<Problem>,
         both: &Both<'s, 'd>,
         direction: Direction,
-    ) -> Result<(), EntryError> {
+    ) -> Result<(), EntryError>
+        ensures { OnOk result (length problems.old.items ≤ length problems.new.items) }
+    {
         let (ItemKind::Instance(before), ItemKind::Instance(after)) = (&both.old, &both.new) else {
             return Ok(());
         };
@@ -191,7 +204,9 @@ impl<'s, 'd> ComparedPair<'s, 'd> {
         name: &str,
         items: (&ItemKind, &ItemKind),
         direction: Direction,
-    ) -> Result<(), EntryError> {
+    ) -> Result<(), EntryError>
+        ensures { OnOk result (length problems.old.items ≤ length problems.new.items) }
+    {
         let member = Both {
             old: *items.0,
             new: *items.1,
@@ -285,8 +300,8 @@ impl<'s, 'd> ComparedPair<'s, 'd> {
         name: &str,
         tracks: &Tracks,
     ) -> Result<(), EntryError> {
-        let old = self.extern_of(worlds.component, kind, name, &tracks.old)?;
-        let new = self.extern_of(worlds.after, kind, name, &tracks.new)?;
+        let old = extern_of(&tracks.old, name)?;
+        let new = extern_of(&tracks.new, name)?;
         let both = Both {
             old,
             new,
@@ -311,20 +326,6 @@ impl<'s, 'd> ComparedPair<'s, 'd> {
         Ok(())
     }
 
-    // What a world imports or exports under a name, or else under one on the track of the name.
-    fn extern_of(
-        &self,
-        id: WorldId,
-        kind: ExternKind,
-        name: &str,
-        tracks: &IndexMap<String, ItemKind>,
-    ) -> Result<ItemKind, EntryError> {
-        match on_track(self.alloc, self.externs(id, kind)?, tracks, name)? {
-            Some(item) => Ok(item),
-            None => Err(EntryError::Missing),
-        }
-    }
-
     // What a world imports or exports.
     fn externs(
         &self,
@@ -347,6 +348,14 @@ impl<'s, 'd> ComparedPair<'s, 'd> {
             ExternKind::Export => "export",
         };
         problem.under(format!(in self.alloc; "{word} `{name}`")?)
+    }
+}
+
+// What is imported or exported under a name, or else under the greatest version on its track.
+fn extern_of(tracks: &NameMap<String, ItemKind>, name: &str) -> Result<ItemKind, EntryError> {
+    match on_track(tracks, name)? {
+        Some(item) => Ok(*item),
+        None => Err(EntryError::Missing),
     }
 }
 

@@ -1,5 +1,13 @@
 //! Compares packages with older ones.
 
+ghost use Rattle.std.specs.Prelude.{◌≡◌, ◌≢◌, ◌⊎◌, List, [], Contains, IfOk, OnOk, option_map, string_bytes};
+ghost use Rattle.std.specs.List.{AllZip};
+ghost use Rattle.wac_component.specs.Collection.{Collection};
+ghost use Rattle.wac_component.specs.Growth.{Extends, BeginsWith};
+ghost use Rattle.wac_wit.specs.declared.packages.WitPackage.{WitPackage};
+ghost use Rattle.wac_wit_changes.specs.Comparing.{IsItemAbout, BeginWithItems, IsReportOfBoth, IsReportOn};
+ghost use Rattle.wac_wit_changes.specs.Sides.{olds_of};
+
 use super::comparing::{ComparedPair, ComparedWorlds, Question};
 use super::problem::Problem;
 use super::report::{Added, ComparedItem, PackageReport, Promise, ReportSort};
@@ -33,9 +41,12 @@ pub fn compare(
     types: &mut Types,
     old: Read<'_>,
     new: Read<'_>,
-) -> Result<Vec<PackageReport>, EntryError> {
+) -> Result<Vec<PackageReport>, EntryError>
+    ensures grows { Extends types.old types.new }
+    ensures reports { IfOk result (λ rs. AllZip (IsReportOn types.new new.entry.wit.now.packages.items) old.entry.wit.now.packages.items rs.items) }
+{
     let moves = moves_of(alloc, types, old.wit, new.wit)?;
-    compared(alloc, types, old, new, &moves)
+    compared(alloc, types, old.files, new, &moves)
 }
 
 /// Says why a component that imports and exports all of a world doesn't run where another one is
@@ -79,7 +90,9 @@ fn pair_of<'s, 'd>(
     types: &'s Types,
     before: &'s PackageSources<'d>,
     after: &'s PackageSources<'d>,
-) -> ComparedPair<'s, 'd> {
+) -> ComparedPair<'s, 'd>
+    ensures { result.types.now ≡ types.now }
+{
     ComparedPair {
         alloc,
         types,
@@ -95,98 +108,138 @@ fn pair_of<'s, 'd>(
 }
 
 // What belongs to an old package.
-struct Move {
+struct Move<'o> {
+    old: &'o WitPackage,
     new: Option<Counterpart>,
     // the worlds that the library is asked about, one for each of the package
     worlds: Vec<WorldId>,
 }
 
-impl Drop for Move {
+impl Drop for Move<'_> {
     fn drop(self) {
-        let Move { new: _, worlds: _ } = self;
+        let Move {
+            old: _,
+            new: _,
+            worlds: _,
+        } = self;
     }
 }
 
 // What belongs to the old packages, in their order.
-fn moves_of(
+fn moves_of<'o>(
     alloc: Global,
     types: &mut Types,
-    old: &Wit,
+    old: &'o Wit,
     new: &Wit,
-) -> Result<Vec<Move>, EntryError> {
+) -> Result<Vec<Move<'o>>, EntryError>
+    ensures grows { Extends types.old types.new }
+    ensures olds { IfOk result (λ ms. olds_of ms.items ≡ old.now.packages.items) }
+{
     let packages = NewPackages::new(alloc, &new.packages)?;
     let mut moves = Vec::new(alloc);
     for package in &old.packages {
-        let found = packages.counterpart(alloc, package)?;
-        let is_moved = match found {
-            Some(it) => !it.is_on_track,
-            None => false,
-        };
-        let mut worlds = Vec::new(alloc);
-        for id in package.worlds.values() {
-            worlds.push(if is_moved {
-                moved_world(alloc, types, *id, new, &packages)?
-            } else {
-                *id
-            })?;
-        }
-        moves.push(Move { new: found, worlds })?;
+        moves.push(move_of(alloc, types, package, new, &packages)?)?;
     }
     Ok(moves)
+}
+
+// What belongs to an old package.
+fn move_of<'o>(
+    alloc: Global,
+    types: &mut Types,
+    old: &'o WitPackage,
+    new: &Wit,
+    packages: &NewPackages,
+) -> Result<Move<'o>, EntryError>
+    ensures grows { Extends types.old types.new }
+    ensures old { IfOk result (λ m. m.old.now ≡ old.now) }
+{
+    let found = packages.counterpart(alloc, old)?;
+    let is_moved = match found {
+        Some(it) => !it.is_on_track,
+        None => false,
+    };
+    let worlds = if is_moved {
+        moved_worlds(alloc, types, old, new, packages)?
+    } else {
+        worlds_in(alloc, old)?
+    };
+    Ok(Move {
+        old,
+        new: found,
+        worlds,
+    })
+}
+
+// The worlds of a package.
+fn worlds_in(alloc: Global, package: &WitPackage) -> Result<Vec<WorldId>, AllocError> {
+    let mut worlds = Vec::new(alloc);
+    for id in package.worlds.values() {
+        worlds.push(*id)?;
+    }
+    Ok(worlds)
+}
+
+// The worlds of a package with the versions that new packages have.
+fn moved_worlds(
+    alloc: Global,
+    types: &mut Types,
+    package: &WitPackage,
+    new: &Wit,
+    packages: &NewPackages,
+) -> Result<Vec<WorldId>, EntryError>
+    ensures { Extends types.old types.new }
+{
+    let mut worlds = Vec::new(alloc);
+    for id in package.worlds.values() {
+        worlds.push(moved_world(alloc, types, *id, new, packages)?)?;
+    }
+    Ok(worlds)
 }
 
 // Compares all packages.
 fn compared(
     alloc: Global,
     types: &Types,
-    old: Read<'_>,
+    old: &[SourceFile],
     new: Read<'_>,
-    moves: &[Move],
-) -> Result<Vec<PackageReport>, EntryError> {
-    let Read {
-        files: old_files,
-        wit: old_wit,
-    } = old;
-    let Read {
-        files: new_files,
-        wit: new_wit,
-    } = new;
-    let old_syntax = syntax_of(alloc, old_files)?;
-    let new_syntax = syntax_of(alloc, new_files)?;
-    let before = PackageSources::new(alloc, old_files, &old_syntax)?;
-    let after = (new_wit, new_files, new_syntax.as_slice());
-    compared_with(alloc, types, (old_wit, &before), after, moves)
+    moves: &[Move<'_>],
+) -> Result<Vec<PackageReport>, EntryError>
+    ensures { IfOk result (λ rs. AllZip (IsReportOn types.now new.entry.wit.now.packages.items) (olds_of moves.now) rs.items) }
+{
+    let Read { files, wit } = new;
+    let old_syntax = syntax_of(alloc, old)?;
+    let new_syntax = syntax_of(alloc, files)?;
+    let before = PackageSources::new(alloc, old, &old_syntax)?;
+    compared_with(alloc, types, &before, (wit, files, &new_syntax), moves)
 }
 
 // Compares all packages, where the files of the old ones are looked through.
 fn compared_with(
     alloc: Global,
     types: &Types,
-    old: (&Wit, &PackageSources<'_>),
+    before: &PackageSources<'_>,
     new: (&Wit, &[SourceFile], &[Document]),
-    moves: &[Move],
-) -> Result<Vec<PackageReport>, EntryError> {
-    let (old_wit, before) = old;
-    let (new_wit, files, syntax) = new;
+    moves: &[Move<'_>],
+) -> Result<Vec<PackageReport>, EntryError>
+    ensures { IfOk result (λ rs. AllZip (IsReportOn types.now new.entry.0.now.packages.items) (olds_of moves.now) rs.items) }
+{
+    let (wit, files, syntax) = new;
     let after = PackageSources::new(alloc, files, syntax)?;
-    package_reports(
-        &pair_of(alloc, types, before, &after),
-        old_wit,
-        new_wit,
-        moves,
-    )
+    package_reports(&pair_of(alloc, types, before, &after), moves, wit)
 }
 
 // Compares all packages of a pair.
 fn package_reports(
     pair: &ComparedPair<'_, '_>,
-    old: &Wit,
+    moves: &[Move<'_>],
     new: &Wit,
-    moves: &[Move],
-) -> Result<Vec<PackageReport>, EntryError> {
+) -> Result<Vec<PackageReport>, EntryError>
+    ensures { IfOk result (λ rs. AllZip (IsReportOn pair.now.types.now new.now.packages.items) (olds_of moves.now) rs.items) }
+{
     let mut reports = Vec::new(pair.alloc);
-    for (package, of) in old.packages.iter().zip(moves) {
-        reports.push(package_report(pair, package, of, new)?)?;
+    for of in moves {
+        reports.push(package_report(pair, of, new)?)?;
     }
     Ok(reports)
 }
@@ -194,41 +247,37 @@ fn package_reports(
 // Compares a package.
 fn package_report(
     pair: &ComparedPair<'_, '_>,
-    old: &WitPackage,
-    of: &Move,
+    of: &Move<'_>,
     new: &Wit,
-) -> Result<PackageReport, EntryError> {
-    let mut report = report_of(pair.alloc, old)?;
+) -> Result<PackageReport, EntryError>
+    ensures { IfOk result (IsReportOn pair.now.types.now new.now.packages.items of.now.old.now) }
+{
     let Some(found) = of.new else {
-        return Ok(report);
+        return Ok(lost_report(pair.alloc, of.old)?);
     };
-    let Some(new) = new.packages.get(found.index) else {
-        return Err(EntryError::Missing);
-    };
-    report.new_version = new.version.clone()?;
-    report.promise = if found.is_on_track {
+    let new = named_at(new, found.index, &of.old.name)?;
+    let promise = if found.is_on_track {
         Promise::Same
     } else {
         Promise::Other
     };
-    for (name, id) in &old.interfaces {
-        let new = new.interfaces.get(name.as_str()).copied();
-        report
-            .compared
-            .push(compared_interface(pair, name, *id, new)?)?;
+    report_of_both(pair, of, new, promise)
+}
+
+// The package at an index, which has to be of this name.
+fn named_at<'w>(wit: &'w Wit, index: usize, name: &str) -> Result<&'w WitPackage, EntryError>
+    ensures { IfOk result (λ p. Contains wit.now.packages.items p.now × (string_bytes p.now.name ≡ name.now)) }
+{
+    match wit.packages.get(index) {
+        Some(package) if package.name.as_str() == name => Ok(package),
+        _ => Err(EntryError::Missing),
     }
-    for ((name, id), component) in old.worlds.iter().zip(&of.worlds) {
-        let new = new.worlds.get(name.as_str()).copied();
-        report
-            .compared
-            .push(compared_world(pair, name, (*id, *component), new)?)?;
-    }
-    push_added(&mut report, old, new)?;
-    Ok(report)
 }
 
 // What is said of a package that no new one belongs to.
-fn report_of(alloc: Global, old: &WitPackage) -> Result<PackageReport, AllocError> {
+fn lost_report(alloc: Global, old: &WitPackage) -> Result<PackageReport, AllocError>
+    ensures { (types : Collection) (news : List WitPackage) → IfOk result (IsReportOn types news old.now) }
+{
     Ok(PackageReport {
         name: old.name.clone()?,
         old_version: old.version.clone()?,
@@ -243,15 +292,44 @@ fn report_of(alloc: Global, old: &WitPackage) -> Result<PackageReport, AllocErro
     })
 }
 
-// Puts last which interfaces and worlds are new.
-fn push_added(
-    report: &mut PackageReport,
-    old: &WitPackage,
+// What is said of a package that a new one belongs to.
+fn report_of_both(
+    pair: &ComparedPair<'_, '_>,
+    of: &Move<'_>,
     new: &WitPackage,
-) -> Result<(), AllocError> {
+    promise: Promise,
+) -> Result<PackageReport, EntryError>
+    requires promise { (promise ≡ Promise.Same) ⊎ (promise ≡ Promise.Other) }
+    requires name { string_bytes new.now.name ≡ string_bytes of.now.old.now.name }
+    ensures { IfOk result (λ r. IsReportOfBoth pair.now.types.now of.now.old.now new.now r × (string_bytes r.name ≡ string_bytes of.now.old.now.name)) }
+{
+    let old = of.old;
+    Ok(PackageReport {
+        name: old.name.clone()?,
+        old_version: old.version.clone()?,
+        new_version: version_in(new)?,
+        promise,
+        compared: compared_items(pair, of, new)?,
+        added: added_in(pair.alloc, old, new)?,
+    })
+}
+
+// The version of a package, if it has one.
+fn version_in(of: &WitPackage) -> Result<Option<String>, AllocError>
+    ensures { IfOk result (λ v. option_map string_bytes v ≡ option_map string_bytes of.now.version) }
+{
+    match &of.version {
+        Some(version) => Ok(Some(version.clone()?)),
+        None => Ok(None),
+    }
+}
+
+// Which interfaces and worlds only the new package has.
+fn added_in(alloc: Global, old: &WitPackage, new: &WitPackage) -> Result<Vec<Added>, AllocError> {
+    let mut added = Vec::new(alloc);
     for name in new.interfaces.keys() {
         if old.interfaces.get(name.as_str()).is_none() {
-            report.added.push(Added {
+            added.push(Added {
                 sort: ReportSort::Interface,
                 name: name.clone()?,
             })?;
@@ -259,45 +337,116 @@ fn push_added(
     }
     for name in new.worlds.keys() {
         if old.worlds.get(name.as_str()).is_none() {
-            report.added.push(Added {
+            added.push(Added {
                 sort: ReportSort::World,
                 name: name.clone()?,
             })?;
         }
     }
+    Ok(added)
+}
+
+// What became of the interfaces and the worlds of an old package.
+fn compared_items(
+    pair: &ComparedPair<'_, '_>,
+    of: &Move<'_>,
+    new: &WitPackage,
+) -> Result<Vec<ComparedItem>, EntryError>
+    ensures { IfOk result (λ items. BeginWithItems pair.now.types.now new.now of.now.old.now.interfaces.entries items.items) }
+{
+    let mut items = compared_interfaces(pair, of.old, new)?;
+    push_worlds(&mut items, pair, of, new)?;
+    Ok(items)
+}
+
+// What became of the interfaces of an old package.
+fn compared_interfaces(
+    pair: &ComparedPair<'_, '_>,
+    old: &WitPackage,
+    new: &WitPackage,
+) -> Result<Vec<ComparedItem>, EntryError>
+    ensures { IfOk result (λ items. AllZip (IsItemAbout pair.now.types.now new.now) old.now.interfaces.entries items.items) }
+{
+    let mut items = Vec::new(pair.alloc);
+    for (name, id) in &old.interfaces {
+        items.push(compared_interface(pair, name, *id, new)?)?;
+    }
+    Ok(items)
+}
+
+// Puts last what became of the worlds of an old package.
+fn push_worlds(
+    items: &mut Vec<ComparedItem>,
+    pair: &ComparedPair<'_, '_>,
+    of: &Move<'_>,
+    new: &WitPackage,
+) -> Result<(), EntryError>
+    ensures { OnOk result (BeginsWith items.new.items items.old.items) }
+{
+    for ((name, id), component) in of.old.worlds.iter().zip(&of.worlds) {
+        let new = new.worlds.get(name.as_str()).copied();
+        items.push(compared_world(pair, name, (*id, *component), new)?)?;
+    }
     Ok(())
 }
 
+// What became of an old interface.
 fn compared_interface(
     pair: &ComparedPair<'_, '_>,
     name: &String,
     old: InterfaceId,
-    new: Option<InterfaceId>,
-) -> Result<ComparedItem, EntryError> {
-    let alloc = pair.alloc;
-    let mut compared = ComparedItem {
+    beside: &WitPackage,
+) -> Result<ComparedItem, EntryError>
+    ensures { IfOk result (IsItemAbout pair.now.types.now beside.now (name.now, old)) }
+{
+    match beside.interfaces.get(name.as_str()) {
+        Some(new) => Ok(ComparedItem {
+            sort: ReportSort::Interface,
+            name: name.clone()?,
+            problems: pair.interface_problems(old, *new)?,
+            added: added_exports(pair, old, *new)?,
+        }),
+        None => Ok(gone_interface(pair, name, old)?),
+    }
+}
+
+// What is said of an interface that the new package doesn't have.
+fn gone_interface(
+    pair: &ComparedPair<'_, '_>,
+    name: &String,
+    old: InterfaceId,
+) -> Result<ComparedItem, AllocError>
+    ensures sort { IfOk result (λ it. it.sort ≡ ReportSort.Interface) }
+    ensures name { IfOk result (λ it. string_bytes it.name ≡ string_bytes name.now) }
+    ensures problems { IfOk result (λ it. it.problems.items ≢ []) }
+{
+    let fault = String::from_str(pair.alloc, "the interface is gone");
+    let place = match pair.before.at_interface(old) {
+        Some(walk) => Some(walk.place),
+        None => None,
+    };
+    let mut problems = Vec::new(pair.alloc);
+    problems.push(Problem::new(pair.alloc, fault, place, None)?)?;
+    Ok(ComparedItem {
         sort: ReportSort::Interface,
         name: name.clone()?,
-        problems: Vec::new(alloc),
-        added: Vec::new(alloc),
-    };
-    let Some(new) = new else {
-        let fault = String::from_str(alloc, "the interface is gone");
-        let place = match pair.before.at_interface(old) {
-            Some(walk) => Some(walk.place),
-            None => None,
-        };
-        compared
-            .problems
-            .push(Problem::new(alloc, fault, place, None)?)?;
-        return Ok(compared);
-    };
-    compared.problems = pair.interface_problems(old, new)?;
+        problems,
+        added: Vec::new(pair.alloc),
+    })
+}
+
+// Which exports of an interface are new.
+fn added_exports(
+    pair: &ComparedPair<'_, '_>,
+    old: InterfaceId,
+    new: InterfaceId,
+) -> Result<Vec<String>, EntryError> {
     let (Some(old), Some(new)) = (interface(pair.types, old), interface(pair.types, new)) else {
         return Err(EntryError::Missing);
     };
-    push_new_items(alloc, &mut compared.added, "", &old.exports, &new.exports)?;
-    Ok(compared)
+    let mut added = Vec::new(pair.alloc);
+    push_new_items(pair.alloc, &mut added, "", &old.exports, &new.exports)?;
+    Ok(added)
 }
 
 fn compared_world(
@@ -347,7 +496,7 @@ fn push_new_items(
 ) -> Result<(), AllocError> {
     let tracks = by_tracks(alloc, old)?;
     for (name, item) in new {
-        if on_track(alloc, old, &tracks, name)?.is_none() {
+        if on_track(&tracks, name)?.is_none() {
             let sort = sort_of(*item);
             added.push(format!(in alloc; "{before}{sort} `{name}`")?)?;
         }

@@ -1,5 +1,8 @@
 //! What a comparison of two packages found.
 
+ghost use Rattle.std.specs.Prelude.{◌≡◌, ◌↔◌, IsTrue, count_by};
+ghost use Rattle.wac_wit_changes.specs.Comparing.{has_problems, KeepsPromise};
+
 use super::problem::Problem;
 
 /// Whether it is about an interface or a world.
@@ -102,7 +105,9 @@ impl Drop for PackageReport {
 
 impl PackageReport {
     /// How many interfaces and worlds break.
-    pub fn broken(&self) -> usize {
+    pub fn broken(&self) -> usize
+        ensures { result ≡ count_by has_problems self.now.compared.items }
+    {
         self.compared
             .iter()
             .filter(|it| !it.problems.is_empty())
@@ -110,9 +115,11 @@ impl PackageReport {
     }
 
     /// Whether the package keeps what the versions promise.
-    pub fn is_kept(&self) -> bool {
+    pub fn is_kept(&self) -> bool
+        ensures { IsTrue result ↔ KeepsPromise self.now }
+    {
         match self.promise {
-            Promise::Same => self.broken() == 0,
+            Promise::Same => self.compared.iter().all(|it| it.problems.is_empty()),
             Promise::Other | Promise::Dropped => true,
             Promise::Gone => false,
         }

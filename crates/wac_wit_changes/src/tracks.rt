@@ -1,9 +1,11 @@
 //! Which packages of two versions belong together, and what their versions promise.
 
+ghost use Rattle.wac_component.specs.Growth.{Extends};
+
 use indexmap::IndexMap;
 use std::alloc::{AllocError, Global};
 use wac_component::{ItemKind, Types, WorldId};
-use wac_types::track_of;
+use wac_types::{NameMap, NameMapNoIntern, track_of};
 use wac_wit::{Wit, WitPackage};
 use wac_wit_entries::{EntryError, parts_of, version_of, world};
 
@@ -112,7 +114,9 @@ pub(crate) fn moved_world(
     id: WorldId,
     new: &Wit,
     packages: &NewPackages,
-) -> Result<WorldId, EntryError> {
+) -> Result<WorldId, EntryError>
+    ensures { Extends types.old types.new }
+{
     let Some(old) = world(types, id) else {
         return Err(EntryError::Missing);
     };
@@ -166,34 +170,27 @@ fn last_named<'n>(new: &'n Wit, packages: &NewPackages, name: &str) -> Option<&'
     new.packages.get(*packages.names.get(name)?)
 }
 
-/// Items of a world by the tracks of their names, of several the first.
+/// Items by their names and the tracks of those, as the library looks names up.
 pub(crate) fn by_tracks(
     alloc: Global,
     items: &IndexMap<String, ItemKind>,
-) -> Result<IndexMap<String, ItemKind>, AllocError> {
-    let mut tracks = IndexMap::new(alloc);
+) -> Result<NameMap<String, ItemKind>, AllocError> {
+    let mut tracks = NameMap::new(alloc);
     for (name, item) in items {
-        if let Some(track) = track_of(alloc, name)?
-            && tracks.get(track).is_none()
+        if tracks
+            .insert(name, &mut NameMapNoIntern, true, *item)
+            .is_err()
         {
-            tracks.insert(String::from_str(alloc, track)?, *item)?;
+            return Err(AllocError);
         }
     }
     Ok(tracks)
 }
 
-/// The item under a name, or else the one on its track, of items and the same by their tracks.
-pub(crate) fn on_track(
-    alloc: Global,
-    items: &IndexMap<String, ItemKind>,
-    tracks: &IndexMap<String, ItemKind>,
+/// The item under a name, or else the one of the highest version on its track.
+pub(crate) fn on_track<'t>(
+    tracks: &'t NameMap<String, ItemKind>,
     name: &str,
-) -> Result<Option<ItemKind>, AllocError> {
-    if let Some(item) = items.get(name) {
-        return Ok(Some(*item));
-    }
-    match track_of(alloc, name)? {
-        Some(track) => Ok(tracks.get(track).copied()),
-        None => Ok(None),
-    }
+) -> Result<Option<&'t ItemKind>, AllocError> {
+    tracks.get(name, &NameMapNoIntern)
 }

@@ -1,0 +1,79 @@
+-- What a comparison of packages says of their interfaces.
+use Rattle.std.specs.Prelude.{◌≡◌, ◌↔◌, ◌⊎◌, ◌==◌, Bool, true, false, List, [], ◌∷◌, Some, None, All, Contains, if◌then◌else◌, option_map, string_bytes, String}
+use Rattle.std.specs.HashMap.{get_by_text}
+use Rattle.std.specs.List.{AllZip}
+use Rattle.std.specs.declared.alloc.Global.{Global}
+use Rattle.wac_component.specs.Collection.{Collection}
+use Rattle.wac_component.specs.Growth.{BeginsWith}
+use Rattle.wac_component.specs.Id.{Id}
+use Rattle.wac_component.specs.Tree.{item_tree}
+use Rattle.wac_component.specs.declared.items.ItemKind.TheVariants.{Instance}
+use Rattle.wac_types.specs.Order.{Fits}
+use Rattle.wac_types.specs.Text.{Text}
+use Rattle.wac_wit.specs.declared.packages.WitPackage.{WitPackage}
+use Rattle.wac_wit_changes.specs.declared.report.ComparedItem.{ComparedItem}
+use Rattle.wac_wit_changes.specs.declared.report.PackageReport.{PackageReport}
+use Rattle.wac_wit_changes.specs.declared.report.Promise.{Promise}
+use Rattle.wac_wit_changes.specs.declared.report.Promise.TheVariants.{Same, Other, Gone, Dropped}
+use Rattle.wac_wit_changes.specs.declared.report.ReportSort.TheVariants.{Interface}
+
+-- ---- interfaces
+
+-- of two interfaces of a collection, the first fits where the second is asked for
+abbrev pub InterfaceFits : Collection → Id → Id → Type 0
+InterfaceFits types given wanted = Fits (item_tree types (Instance given)) (item_tree types (Instance wanted))
+
+-- the package has an interface of this name that fits where the old one is asked for
+abbrev pub HasFitting : Collection → WitPackage → Text → Id → Type 0
+HasFitting types new name old = (id : Id) × (get_by_text new.interfaces name ≡ Some id) × InterfaceFits types id old
+
+-- the item is about an old interface: it has no problem exactly where the new package has an interface
+-- of its name that fits where the old one is asked for
+pub record IsItemAbout (types : Collection) (new : WitPackage) (old : String Global × Id) (item : ComparedItem) : Type 0 where
+  pub sort : item.sort ≡ Interface
+  pub name : string_bytes item.name ≡ string_bytes old.0
+  pub problems : (item.problems.items ≡ []) ↔ HasFitting types new (string_bytes old.0) old.1
+
+-- the items begin with one about each of the old interfaces, in their order
+abbrev pub BeginWithItems : Collection → WitPackage → List (String Global × Id) → List ComparedItem → Type 0
+BeginWithItems types new olds items = (firsts : List ComparedItem) × AllZip (IsItemAbout types new) olds firsts × BeginsWith items firsts
+
+-- ---- packages
+
+-- the report is about an old package that no new one belongs to: nothing is compared
+pub record IsReportOfOne (old : WitPackage) (r : PackageReport) : Type 0 where
+  pub version : r.new_version ≡ None
+  pub promise : r.promise ≡ (if old.group == 0 then Gone else Dropped)
+  pub compared : r.compared.items ≡ []
+
+-- the report is about an old package and this new one, which has its name
+pub record IsReportOfBoth (types : Collection) (old new : WitPackage) (r : PackageReport) : Type 0 where
+  pub same : string_bytes new.name ≡ string_bytes old.name
+  pub version : option_map string_bytes r.new_version ≡ option_map string_bytes new.version
+  pub promise : (r.promise ≡ Same) ⊎ (r.promise ≡ Other)
+  pub compared : BeginWithItems types new old.interfaces.entries r.compared.items
+
+-- the report is about an old package, alone or beside one of the new packages
+pub record IsReportOn (types : Collection) (news : List WitPackage) (old : WitPackage) (r : PackageReport) : Type 0 where
+  pub name : string_bytes r.name ≡ string_bytes old.name
+  pub about : IsReportOfOne old r ⊎ ((new : WitPackage) × Contains news new × IsReportOfBoth types old new r)
+
+-- ---- the whole answer
+
+abbrev pub has_problems : ComparedItem → Bool
+has_problems item = is_cons item.problems.items
+  where
+    is_cons : {A : Type 0} → List A → Bool
+    is_cons [] = false
+    is_cons (x ∷ xs) = true
+
+-- what a promise asks of what was compared
+abbrev pub IsKeptBy : Promise → List ComparedItem → Type 0
+IsKeptBy Same items = All (λ item. item.problems.items ≡ []) items
+IsKeptBy Other items = Unit {0}
+IsKeptBy Dropped items = Unit {0}
+IsKeptBy Gone items = ⊥
+
+-- the package keeps what the versions promise
+abbrev pub KeepsPromise : PackageReport → Type 0
+KeepsPromise r = IsKeptBy r.promise r.compared.items

@@ -1,0 +1,3 @@
+-- What a comparison of packages promises.
+pub mod Comparing
+pub mod Sides
