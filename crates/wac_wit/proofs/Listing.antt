@@ -1,6 +1,6 @@
 -- Elements of lists, as far as a loop has come.
-use Rattle.std.proofs.Common.{◌≡◌, ℕ, ◌+◌, ◌<◌, ◌≤◌, List, Contains, Option, Some, arith, get_or, length, refl, sym, ap, subst, ◌∙◌}
-use Rattle.std.specs.Prelude.{slice_get}
+use Rattle.std.proofs.Common.{◌≡◌, ℕ, ◌+◌, ◌<◌, ◌≤◌, List, Contains, Option, Some, arith, get_or, length, refl, sym, subst, ◌∙◌, IfOk, Result, Ok, Err}
+use Rattle.std.specs.Prelude.{IfSome, slice_get}
 use borrow.Author.Count.{below_more}
 use Rattle.std.proofs.lemmas.Option.{get_or_from_slice_get, slice_get-get_or, slice_get_within}
 use Rattle.wac_wit.specs.Read.{KeepsKnowing}
@@ -31,3 +31,11 @@ knowing_kept v = record { types = refl; knows = λ of h. h }
 
 pub knowing_then : (u v w : Validator) → KeepsKnowing u v → KeepsKnowing v w → KeepsKnowing u w
 knowing_then u v w x y = record { types = y.types ∙ x.types; knows = λ of h. y.knows of (x.knows of h) }
+
+-- what is told of a value that is there
+pub some_of : {A : Type 0} (o : Option A) (x : A) (P : A → Type 0) → o ≡ Some x → IfSome o P → P x
+some_of o x P is told = let both = subst (λ q. IfSome q P) is told in both
+
+pub told_of : {A E : Type 0} (r : Result A E) (P Q : A → Type 0) → IfOk r P → ((x : A) → P x → Q x) → IfOk r Q
+told_of (Ok x) P Q told f = f x told
+told_of (Err e) P Q told f = tt

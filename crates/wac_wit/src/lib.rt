@@ -13,6 +13,7 @@ mod interfaces;
 mod made;
 mod ordering;
 mod packages;
+mod reading;
 mod renaming;
 mod shapes;
 mod typedefs;
@@ -21,5 +22,6 @@ mod uses;
 mod values;
 mod worlds;
 
-pub use packages::{Wit, WitPackage, read_packages};
+pub use packages::{Wit, WitPackage};
+pub use reading::{PairError, WitPair, read_both, read_packages};
 pub use wac_wit_names::{Features, MAX_REFUSALS, SourceFile, WitError, WitRefusal};

@@ -1,10 +1,10 @@
-//! Reads packages.
+//! Makes packages of files, and says whether they are what the texts denote.
 
-ghost use Rattle.std.specs.Prelude.{IfOk, IfSome, IsTrue};
-ghost use Rattle.wac_wit.specs.Parsed.{AreParsed};
-ghost use Rattle.wac_wit.specs.Read.{AreReadPackages, AreOfTexts, IsReadPackage, KeepsKnowing};
-ghost use Rattle.wac_wit_validation.specs.Checking.{Knows};
-ghost use Rattle.wac_wit_validation.specs.WitSources.{WitSources, sources_of};
+ghost use Rattle.std.specs.Prelude.{◌≡◌, IfOk, IsTrue};
+ghost use Rattle.wac_wit.specs.Read.{AreReadInterfaces, AreReadPackages, AreReadWorlds, IsReadPackage, KeepsKnowing};
+ghost use Rattle.wac_wit.specs.Reading.{ResolvesSources};
+ghost use Rattle.wac_wit_validation.specs.WorldChecking.{KnowsWorlds};
+ghost use Rattle.wac_wit_validation.specs.WitSources.{WitSources};
 
 use super::builder::Site;
 use super::interfaces::make_interface;
@@ -13,10 +13,7 @@ use super::worlds::make_world;
 use indexmap::IndexMap;
 use std::alloc::{AllocError, Global};
 use wac_component::{InterfaceId, Types, WorldId};
-use wac_wit_names::{
-    Catalog, Decl, Fault, Features, Node, Package, Refusals, SourceFile, WitError,
-};
-use wac_wit_syntax::{Document, parse};
+use wac_wit_names::{Catalog, Decl, Fault, Node, Package, Refusals};
 use wac_wit_validation::{SourceTrees, Validator};
 
 /// A package.
@@ -57,143 +54,85 @@ impl Drop for Wit {
     }
 }
 
-/// Reads packages, and puts what they have into a collection.
-///
-/// Files of one group are one package; a package that is written inside a file is one too. All
-/// that is named has to be there. What stands under a feature that is off isn't.
-///
-/// Where files are refused, what else is wrong in them is looked for, and up to
-/// [`MAX_REFUSALS`](super::MAX_REFUSALS) refusals are answered: of the syntax of all files, and
-/// where that is right, of what they name. After a refusal the collection may have entries that
-/// nothing leads to.
-pub fn read_packages(
-    alloc: Global,
-    types: &mut Types,
-    files: &[SourceFile],
-    features: Features<'_>,
-) -> Result<Wit, WitError>
-    ensures { IfOk result (AreOfTexts files.now features.entry types.new) }
-{
-    let mut refusals = Refusals::new(alloc);
-    match read(alloc, types, files, features, &mut refusals) {
-        Ok(wit) => Ok(wit),
-        Err(Fault::Known | Fault::Enough) => Err(refusals.into_error()),
-        Err(Fault::Missing | Fault::Refused(_)) => Err(WitError::Missing),
-        Err(Fault::Memory) => Err(WitError::Memory),
-    }
-}
-
-fn read(
-    alloc: Global,
-    types: &mut Types,
-    files: &[SourceFile],
-    features: Features<'_>,
-    refusals: &mut Refusals,
-) -> Result<Wit, Fault>
-    ensures { IfOk result (AreOfTexts files.now features.entry types.new) }
-{
-    let Some(documents) = parsed(alloc, files, refusals)? else {
-        return Err(Fault::Known);
-    };
-    match resolve(alloc, types, files, &documents, features, refusals) {
-        Ok(wit) => Ok(wit),
-        Err(fault) => {
-            refusals.note(fault)?;
-            Err(Fault::Known)
-        }
-    }
-}
-
-// The trees of all files, if the syntax of all is right.
-fn parsed(
-    alloc: Global,
-    files: &[SourceFile],
-    refusals: &mut Refusals,
-) -> Result<Option<Vec<Document>>, Fault>
-    ensures { IfOk result (λ parsed. IfSome parsed (λ documents. AreParsed files.now documents.items)) }
-{
-    let mut documents = Vec::new(alloc);
-    let mut is_right = true;
-    for (index, file) in files.iter().enumerate() {
-        match parse(alloc, &file.text) {
-            Ok(document) => documents.push(document)?,
-            Err(error) => {
-                refusals.note_syntax(index, error)?;
-                is_right = false;
-            }
-        }
-    }
-    Ok(is_right.then_some(documents))
-}
-
-// Resolves what was read. Where something is refused, there is no answer.
-fn resolve(
-    alloc: Global,
-    types: &mut Types,
-    files: &[SourceFile],
-    documents: &[Document],
-    features: Features<'_>,
-    refusals: &mut Refusals,
-) -> Result<Wit, Fault>
-    ensures { IfOk result (AreReadPackages (sources_of files.now documents.now features.entry) types.new) }
-{
-    let catalog = Catalog::new(alloc, files, documents, features, refusals)?;
-    let order = catalog.order(refusals)?;
-    let made = make_all(alloc, &catalog, &order, types, refusals)?;
-    let wit = listed(alloc, &catalog, &made)?;
-    if !refusals.is_empty() {
-        return Err(Fault::Known);
-    }
-    let read = ReadPackages {
-        files,
-        documents,
-        features,
-        catalog: &catalog,
-        order: &order,
-        made: &made,
-    };
-    if !checked(alloc, &*types, &read, &wit)? {
-        return Err(Fault::Missing);
-    }
-    Ok(wit)
-}
-
-// What packages were read from, and what was made of it.
-#[derive(Clone, Copy)]
-struct ReadPackages<'r, 'a> {
-    files: &'r [SourceFile],
-    documents: &'r [Document],
-    features: Features<'a>,
-    catalog: &'r Catalog<'a>,
+/// What was made of files. Whether it is what the texts denote isn't known yet.
+pub(crate) struct Resolved<'a> {
+    sources: SourceTrees<'a>,
+    catalog: Catalog<'a>,
     // the interfaces and the worlds, each behind those that it needs
-    order: &'r [usize],
-    made: &'r [MadeEntry],
+    order: Vec<usize>,
+    made: Vec<MadeEntry>,
+    wit: Wit,
 }
 
-// Whether the interfaces of packages are what their texts denote.
-fn checked(
-    alloc: Global,
-    types: &Types,
-    read: &ReadPackages<'_, '_>,
-    wit: &Wit,
-) -> Result<bool, AllocError>
-    ensures { IfOk result (λ is. IsTrue is → AreReadPackages (sources_of read.now.files.now read.now.documents.now read.now.features) types.now wit.now) }
-{
-    let sources = SourceTrees {
-        files: read.files,
-        documents: read.documents,
-        features: read.features,
-    };
-    let Some(mut validator) = Validator::new(alloc, types, read.catalog, &sources)? else {
-        return Ok(false);
-    };
-    if !are_added(&mut validator, read.order, read.made)? {
-        return Ok(false);
+impl Drop for Resolved<'_> {
+    fn drop(self) {
+        let Resolved {
+            sources: _,
+            catalog: _,
+            order: _,
+            made: _,
+            wit: _,
+        } = self;
     }
-    Ok(are_listed(&validator, wit))
 }
 
-// Takes in the interfaces that were made, in order, and says whether each is what its text denotes.
+impl<'a> Resolved<'a> {
+    /// Puts what files say into a collection. Where something is refused, there is no answer.
+    pub(crate) fn new(
+        alloc: Global,
+        types: &mut Types,
+        sources: &SourceTrees<'a>,
+        refusals: &mut Refusals,
+    ) -> Result<Resolved<'a>, Fault>
+        ensures { IfOk result (λ r. r.sources ≡ sources.now) }
+    {
+        let (files, documents) = (sources.files, sources.documents);
+        let catalog = Catalog::new(alloc, files, documents, sources.features, refusals)?;
+        let order = catalog.order(refusals)?;
+        let made = make_all(alloc, &catalog, &order, types, refusals)?;
+        let wit = listed(alloc, &catalog, &made)?;
+        if !refusals.is_empty() {
+            return Err(Fault::Known);
+        }
+        Ok(Resolved {
+            sources: *sources,
+            catalog,
+            order,
+            made,
+            wit,
+        })
+    }
+
+    /// Whether the interfaces of the packages are what their texts denote.
+    pub(crate) fn is_denoted(&self, alloc: Global, types: &Types) -> Result<bool, AllocError>
+        ensures { IfOk result (λ is. IsTrue is → ResolvesSources types.now self.now) }
+    {
+        let Some(mut validator) = Validator::new(alloc, types, &self.catalog, &self.sources)? else {
+            return Ok(false);
+        };
+        if !are_added(&mut validator, &self.order, &self.made)? {
+            return Ok(false);
+        }
+        Ok(are_listed(&validator, &self.wit))
+    }
+
+    /// The packages.
+    pub(crate) fn into_wit(self) -> Wit
+        ensures { result ≡ self.entry.wit }
+    {
+        let Resolved {
+            sources: _,
+            catalog: _,
+            order: _,
+            made: _,
+            wit,
+        } = self;
+        wit
+    }
+}
+
+// Takes in what was made, in order, and says whether each interface and each world is what its
+// text denotes.
 fn are_added(
     validator: &mut Validator<'_>,
     order: &[usize],
@@ -218,13 +157,14 @@ fn is_added(
 {
     match made.get(index) {
         Some(MadeEntry::Interface(it)) => validator.add_interface(index, it.id),
+        Some(MadeEntry::World(it)) => validator.add_world(index, it.id),
         _ => Ok(true),
     }
 }
 
-// Whether all interfaces of packages are among those that were taken in.
+// Whether all interfaces and all worlds of packages are among those that were taken in.
 fn are_listed(validator: &Validator<'_>, wit: &Wit) -> bool
-    ensures { IsTrue result → (of : WitSources) → Knows of validator.now → AreReadPackages of validator.now.types.now wit.now }
+    ensures { IsTrue result → (of : WitSources) → KnowsWorlds of validator.now → AreReadPackages of validator.now.types.now wit.now }
 {
     for package in &wit.packages {
         if !is_listed(validator, package) {
@@ -235,7 +175,27 @@ fn are_listed(validator: &Validator<'_>, wit: &Wit) -> bool
 }
 
 fn is_listed(validator: &Validator<'_>, package: &WitPackage) -> bool
-    ensures { IsTrue result → (of : WitSources) → Knows of validator.now → IsReadPackage of validator.now.types.now «package».now }
+    ensures { IsTrue result → (of : WitSources) → KnowsWorlds of validator.now → IsReadPackage of validator.now.types.now «package».now }
+{
+    has_interfaces(validator, package) && has_worlds(validator, package)
+}
+
+fn has_worlds(validator: &Validator<'_>, package: &WitPackage) -> bool
+    ensures { IsTrue result → (of : WitSources) → KnowsWorlds of validator.now → AreReadWorlds of validator.now.types.now «package».now }
+{
+    for index in 0..package.worlds.len() {
+        let Some((name, id)) = package.worlds.get_index(index) else {
+            return false;
+        };
+        if !validator.is_world_of(&package.name, &package.version, name, *id) {
+            return false;
+        }
+    }
+    true
+}
+
+fn has_interfaces(validator: &Validator<'_>, package: &WitPackage) -> bool
+    ensures { IsTrue result → (of : WitSources) → KnowsWorlds of validator.now → AreReadInterfaces of validator.now.types.now «package».now }
 {
     for index in 0..package.interfaces.len() {
         let Some((name, id)) = package.interfaces.get_index(index) else {

@@ -45,6 +45,8 @@ knows_kept of v w features scopes types knows found = record {
   features = rw (← features) knows.features;
   scopes = rw (← scopes) knows.scopes;
   found = λ f among. elim (found f among) [ inl old ↦ found_kept of v w scopes types f (knows.found f old) | inr new ↦ found_kept of v w scopes types f new ];
+  unambiguous = knows.unambiguous;
+  one_meaning = knows.one_meaning;
 }
 
 -- what stands at a place is one of them
@@ -59,7 +61,7 @@ Contains-last (z ∷ xs) y x among = elim (Contains-cases x z (xs ++ y ∷ []) a
 -- items by their names
 
 module _ (f : ItemKind → ItemTree) where
-  item_of : (es : List (Text × ItemKind)) (n : Text) (x : ItemTree) → item_at (items_of f es) n ≡ Some x → (e : Text × ItemKind) × Contains es e × (e.0 ≡ n) × (f e.1 ≡ x)
+  pub item_of : (es : List (Text × ItemKind)) (n : Text) (x : ItemTree) → item_at (items_of f es) n ≡ Some x → (e : Text × ItemKind) × Contains es e × (e.0 ≡ n) × (f e.1 ≡ x)
   item_of [] n x at = absurd (cc)
   item_of (e ∷ es) n x at = by_test (bytes_eq n e.0) refl at (item_of es n x)
     where
@@ -67,7 +69,7 @@ module _ (f : ItemKind → ItemTree) where
       by_test true same is others = (e, Contains-first e es, sym ((bytes_eq-Decides n e.0).0 same), cc)
       by_test false other is others = let h = others is in (h.0, Contains-later h.0 e es h.1, h.2, h.3)
 
-  item_there : (es : List (Text × ItemKind)) (n : Text) → HasItem es n → IsSome (item_at (items_of f es) n)
+  pub item_there : (es : List (Text × ItemKind)) (n : Text) → HasItem es n → IsSome (item_at (items_of f es) n)
   item_there [] n has = absurd (omega (arith, has.among.1))
   item_there (e ∷ es) n has = by_test (bytes_eq n e.0) refl (Contains-cases (n, has.kind) e es has.among) (item_there es n)
     where

@@ -27,7 +27,7 @@ use Rattle.wac_wit_validation.specs.declared.progress.ExportMarks.{ExportMarks}
 
 -- what is among items is among what the setting takes from them, and the other way round
 
-use_kept : (u : UseItem) (is : List InterfaceItem) → Contains is (inside.Use u) → Contains (uses_in is) u
+pub use_kept : (u : UseItem) (is : List InterfaceItem) → Contains is (inside.Use u) → Contains (uses_in is) u
 use_kept u [] (k, h, e) = absurd (omega (arith, h))
 use_kept u (inside.Use v ∷ is) among = elim (Contains-cases (inside.Use u) (inside.Use v) is among) [ inl e ↦ subst (λ (w : UseItem). Contains (v ∷ uses_in is) w) (cc e) (Contains-first v (uses_in is)) | inr h ↦ Contains-later u v (uses_in is) (use_kept u is h) ]
 use_kept u (inside.Type t ∷ is) among = elim (Contains-cases (inside.Use u) (inside.Type t) is among) [ inl e ↦ absurd (cc e) | inr h ↦ use_kept u is h ]
@@ -50,7 +50,7 @@ items_offered of w is (inside.Use u) among = use_kept u is among
 items_offered of w is (inside.Type t) among = type_kept t is among
 items_offered of w is (inside.Func f) among = func_kept f is among
 
-use_back : (u : UseItem) (is : List InterfaceItem) → Contains (uses_in is) u → Contains is (inside.Use u)
+pub use_back : (u : UseItem) (is : List InterfaceItem) → Contains (uses_in is) u → Contains is (inside.Use u)
 use_back u [] (k, h, e) = absurd (omega (arith, h))
 use_back u (inside.Use v ∷ is) among = elim (Contains-cases u v (uses_in is) among) [ inl e ↦ subst (λ (w : UseItem). Contains (inside.Use v ∷ is) (inside.Use w)) e (Contains-first (inside.Use v) is) | inr h ↦ Contains-later (inside.Use u) (inside.Use v) is (use_back u is h) ]
 use_back u (inside.Type t ∷ is) among = Contains-later (inside.Use u) (inside.Type t) is (use_back u is among)

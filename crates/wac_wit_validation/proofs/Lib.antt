@@ -9,3 +9,8 @@ pub mod ItemFacts
 pub mod PathFacts
 pub mod FoundFacts
 pub mod ScopeFacts
+pub mod WorldFacts
+pub mod WorldWhole
+pub mod AmbiguityFacts
+pub mod OneMeaning
+pub mod OnceFacts

@@ -20,7 +20,7 @@ use Rattle.wac_wit_validation.specs.declared.sources.ScopeItems.{ScopeItems}
 use Rattle.wac_wit_validation.specs.declared.validator.FoundInterface.{FoundInterface}
 use Rattle.wac_wit_validation.specs.declared.validator.Validator.{Validator}
 
-no_value : {A : Type 0} (o : Option A) → is_some o ≡ false → o ≡ None
+pub no_value : {A : Type 0} (o : Option A) → is_some o ≡ false → o ≡ None
 no_value None h = refl
 no_value (Some x) h = absurd (cc)
 

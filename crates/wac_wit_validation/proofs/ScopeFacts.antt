@@ -39,7 +39,7 @@ slice_get-zip (a ∷ xs) [] i x y h k = absurd (cc)
 slice_get-zip (a ∷ xs) (b ∷ ys) zero x y h k = cc
 slice_get-zip (a ∷ xs) (b ∷ ys) (suc i) x y h k = slice_get-zip xs ys i x y h k
 
-abbrev file_syntax : SourceFile × Document → FileSyntax
+abbrev pub file_syntax : SourceFile × Document → FileSyntax
 file_syntax p = record { group = p.0.group; document = p.1 }
 
 zipped_document : (files : List SourceFile) (documents : List Document) (i : ℕ) (f : FileSyntax) → slice_get (map file_syntax (zip files documents)) i ≡ Some f → slice_get documents i ≡ Some f.document

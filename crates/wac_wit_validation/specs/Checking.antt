@@ -12,10 +12,12 @@ use Rattle.wac_component.specs.Tree.{func_tree, item_tree, root_name}
 use Rattle.wac_component.specs.declared.items.ItemKind.{ItemKind}
 use Rattle.wac_component.specs.declared.items.ItemKind.TheVariants.{Func, Instance}
 use Rattle.wac_wit_names.specs.Features.{has_feature}
+use Rattle.wac_wit_validation.specs.Placed.{IsUnambiguous}
 use Rattle.wac_wit_validation.specs.WitSources.{WitSources, ScopeSyntax, IsOnlyVersion, IsScopeOf, IsEnabled, HasInterface, PathLeadsTo, ident_text, given_name, interface_identifier, package_id}
 use Rattle.wac_wit_validation.specs.Denoted.{Denoted, Setting, NamesType, interface_setting}
 use Rattle.wac_wit_validation.specs.Functions.{IsMethodOf, HasMethod, method_name}
 use Rattle.wac_wit_validation.specs.Interfaces.{HasExportOf, IsInterfaceTree}
+use Rattle.wac_wit_validation.specs.OneMeaning.{HaveOneMeaning}
 use Rattle.wac_wit_validation.specs.Reading.{TypesAreNamed, IsItemNamed}
 use Rattle.wac_wit_validation.specs.declared.progress.ExportMarks.{ExportMarks}
 use Rattle.wac_wit_validation.specs.declared.names.NamedTypes.{NamedTypes}
@@ -104,8 +106,10 @@ pub record IsValidated (of : WitSources) (v : Validator) (f : FoundInterface) : 
 -- what is known is so of what is read
 pub record Knows (of : WitSources) (v : Validator) : Type 0 where
   pub features : (n : Text) → of.is_on n ≡ has_feature v.features n
+  pub unambiguous : IsUnambiguous of
   pub scopes : (i : ℕ) (w : ScopeItems) → slice_get v.scopes.items i ≡ Some w → IsKnownScope of w
   pub found : (f : FoundInterface) → Contains v.found.items f → IsValidated of v f
+  pub one_meaning : HaveOneMeaning of
 
 -- the names are those of an interface that a path leads to
 pub record AreNamesAt (s : Setting) (path : Path) (names : NamedTypes) : Type 0 where

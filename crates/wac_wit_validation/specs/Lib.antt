@@ -1,8 +1,14 @@
 pub mod WitSources
+pub mod Placed
 pub mod Denoted
 pub mod Functions
 pub mod Interfaces
+pub mod Worlds
 pub mod Reading
 pub mod Checking
+pub mod WorldChecking
 pub mod Validated
 pub mod Naming
+pub mod Ambiguity
+pub mod OneMeaning
+pub mod Once

@@ -1,13 +1,15 @@
 -- What the validator says of an entry: it is an interface of the packages that were read.
-use Rattle.std.specs.Prelude.{◌≡◌, ◌++◌, Option, Some, codes, slice_get}
+use Rattle.std.specs.Prelude.{◌≡◌, ◌⊎◌, ◌++◌, Option, Some, codes, slice_get}
 use Rattle.wac_model.specs.Text.{Text}
 use Rattle.wac_component.specs.Collection.{Collection, InterfaceContent}
 use Rattle.wac_component.specs.Id.{Id}
-use Rattle.wac_component.specs.Key.{Stands, interface_key}
+use Rattle.wac_component.specs.Key.{Stands, interface_key, world_key}
 use Rattle.wac_component.specs.Tree.{item_tree}
-use Rattle.wac_component.specs.declared.items.ItemKind.TheVariants.{Instance}
+use Rattle.wac_component.specs.declared.items.ItemKind.TheVariants.{Component, Instance}
 use Rattle.wac_wit_syntax.specs.declared.tree.InterfaceDecl.{InterfaceDecl}
 use Rattle.wac_wit_validation.specs.Interfaces.{IsInterfaceTree}
+use Rattle.wac_wit_validation.specs.Placed.{HasWorld, PlacedWorld}
+use Rattle.wac_wit_validation.specs.Worlds.{GivesNewNames, IsWorldTree}
 use Rattle.wac_wit_validation.specs.WitSources.{HasInterface, PackageId, ScopeSyntax, WitSources, interface_identifier}
 
 -- the name of a package without its version, as `wasi:http`
@@ -25,3 +27,27 @@ pub record IsInterfaceOf (of : WitSources) (c : Collection) («package» : Text)
   pub stands : Stands c (interface_key id)
   pub identified : (content : InterfaceContent) → slice_get c.interfaces id.index ≡ Some content → content.id ≡ Some (interface_identifier scope.package name)
   pub tree : IsInterfaceTree of scope decl.items.items (item_tree c (Instance id))
+
+-- the world of this name, in a package of this name and version
+pub record IsWorldNamed (of : WitSources) («package» : Text) (version : Option Text) (name : Text) (w : PlacedWorld) : Type 0 where
+  pub has : HasWorld of w.scope name w.decl
+  pub of_package : package_text w.scope.package ≡ «package»
+  pub of_version : w.scope.package.version ≡ version
+
+-- the entry is that of the world of this name, in a package of this name and version: its tree is what the world's text
+-- denotes
+pub record IsWorldOf (of : WitSources) (c : Collection) («package» : Text) (version : Option Text) (name : Text) (id : Id) : Type 0 where
+  pub written : PlacedWorld
+  pub is : IsWorldNamed of «package» version name written
+  pub stands : Stands c (world_key id)
+  pub tree : IsWorldTree of written (item_tree c (Component id))
+
+-- the world of this name includes another one under new names
+pub record IsRenamingWorld (of : WitSources) («package» : Text) (version : Option Text) (name : Text) : Type 0 where
+  pub written : PlacedWorld
+  pub is : IsWorldNamed of «package» version name written
+  pub renames : GivesNewNames of written
+
+-- the entry is that of the world of this name, unless that includes another one under new names
+abbrev pub IsListedWorld : WitSources → Collection → Text → Option Text → Text → Id → Type 0
+IsListedWorld of c p version name id = IsWorldOf of c p version name id ⊎ IsRenamingWorld of p version name

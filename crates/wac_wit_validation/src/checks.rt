@@ -4,9 +4,14 @@ ghost use Rattle.std.specs.Prelude.{◌≡◌, Contains, IfOk, IfSome, IsTrue, S
 ghost use Rattle.std.specs.Option.{option_map};
 ghost use Rattle.wac_wit_syntax.specs.declared.tree.TopItem.TheVariants.{Interface};
 ghost use Rattle.wac_wit_validation.specs.Checking.{IsValidated, Knows};
+ghost use Rattle.wac_wit_validation.specs.OneMeaning.{HaveOneMeaning};
+ghost use Rattle.wac_wit_validation.specs.Placed.{IsUnambiguous};
+ghost use Rattle.wac_wit_validation.specs.WorldChecking.{KnowsWorlds, StaysAs};
 ghost use Rattle.wac_wit_validation.specs.WitSources.{WitSources, sources_of};
 ghost use Rattle.wac_wit_validation.specs.Validated.{IsInterfaceOf};
 
+use super::ambiguity::give_names_once;
+use super::once::all_give_once;
 use super::sources::{ScopeItems, scopes_of};
 use super::texts::{is_identifier_of, is_package_text, is_version_text, is_word};
 use super::validator::{FoundInterface, ItemPlace, Validator};
@@ -29,7 +34,8 @@ pub struct SourceTrees<'s> {
 
 impl<'v> Validator<'v> {
     /// Begins with no interface. `None` is answered where no file of a package names it, or two
-    /// name different ones.
+    /// name different ones, where a path could lead to two interfaces or worlds, and where an
+    /// interface gives a name to two types.
     pub fn new(
         alloc: Global,
         types: &'v Types,
@@ -37,11 +43,19 @@ impl<'v> Validator<'v> {
         sources: &SourceTrees<'v>,
     ) -> Result<Option<Validator<'v>>, AllocError>
         ensures types { IfOk result (λ o. IfSome o (λ v. v.types.now ≡ types.now)) }
-        ensures knows { IfOk result (λ o. IfSome o (Knows (sources_of sources.now.files.now sources.now.documents.now sources.now.features))) }
+        ensures unambiguous { IfOk result (λ o. IfSome o (λ v. IsUnambiguous (sources_of sources.now.files.now sources.now.documents.now sources.now.features))) }
+        ensures one_meaning { IfOk result (λ o. IfSome o (λ v. HaveOneMeaning (sources_of sources.now.files.now sources.now.documents.now sources.now.features))) }
+        ensures knows { IfOk result (λ o. IfSome o (KnowsWorlds (sources_of sources.now.files.now sources.now.documents.now sources.now.features))) }
     {
         let Some(scopes) = scopes_of(alloc, sources.files, sources.documents)? else {
             return Ok(None);
         };
+        if !give_names_once(alloc, &scopes)? {
+            return Ok(None);
+        }
+        if !all_give_once(alloc, &sources.features, &scopes)? {
+            return Ok(None);
+        }
         Ok(Some(Validator {
             alloc,
             types,
@@ -51,6 +65,15 @@ impl<'v> Validator<'v> {
             found: Vec::new(alloc),
             positions: IndexMap::new(alloc),
             by_id: IndexMap::new(alloc),
+            identifiers: identifiers_of(alloc, catalog)?,
+            exported: IndexMap::new(alloc),
+            include_places: IndexMap::new(alloc),
+            worlds: Vec::new(alloc),
+            world_nodes: IndexMap::new(alloc),
+            world_ids: IndexMap::new(alloc),
+            renaming: Vec::new(alloc),
+            renaming_nodes: IndexMap::new(alloc),
+            renaming_ids: IndexMap::new(alloc),
         }))
     }
 
@@ -58,23 +81,40 @@ impl<'v> Validator<'v> {
     /// Those that it uses have to be taken in before.
     pub fn add_interface(&mut self, node: usize, id: InterfaceId) -> Result<bool, AllocError>
         ensures types { self.new.types.now ≡ self.old.types.now }
-        ensures knows { (of : WitSources) → Knows of self.old → Knows of self.new }
+        ensures knows { (of : WitSources) → KnowsWorlds of self.old → KnowsWorlds of self.new }
+    {
+        match self.take_in(node, id)? {
+            Some(position) => {
+                self.positions.insert(node, position)?;
+                Ok(true)
+            }
+            None => Ok(false),
+        }
+    }
+
+    // Takes in an interface, if its entry is as it is written, and says where it stands.
+    pub(crate) fn take_in(
+        &mut self,
+        node: usize,
+        id: InterfaceId,
+    ) -> Result<Option<usize>, AllocError>
+        ensures { StaysAs self.old self.new }
     {
         let Some(place) = self.place_of(node) else {
-            return Ok(false);
+            return Ok(None);
         };
         let found = FoundInterface { place, id };
         if !self.is_found(&found)? {
-            return Ok(false);
+            return Ok(None);
         }
-        self.positions.insert(node, self.found.len())?;
-        self.by_id.insert(id, self.found.len())?;
+        let position = self.found.len();
+        self.by_id.insert(id, position)?;
         self.found.push(found)?;
-        Ok(true)
+        Ok(Some(position))
     }
 
     // Where the catalog has an interface or a world.
-    fn place_of(&self, node: usize) -> Option<ItemPlace> {
+    pub(crate) fn place_of(&self, node: usize) -> Option<ItemPlace> {
         let of = self.catalog.nodes.get(node)?;
         Some(ItemPlace {
             scope: of.scope,
@@ -83,7 +123,10 @@ impl<'v> Validator<'v> {
     }
 
     // The interface at a place.
-    fn interface_at(&self, place: &ItemPlace) -> Option<(&ScopeItems<'v>, &'v InterfaceDecl)>
+    pub(crate) fn interface_at(
+        &self,
+        place: &ItemPlace,
+    ) -> Option<(&ScopeItems<'v>, &'v InterfaceDecl)>
         ensures scope { IfSome result (λ p. slice_get self.now.scopes.items place.now.scope ≡ Some p.0.now) }
         ensures item { IfSome result (λ p. slice_get p.0.now.items.now place.now.item ≡ Some (Interface p.1.now)) }
     {
@@ -120,7 +163,7 @@ impl<'v> Validator<'v> {
         name: &str,
         id: InterfaceId,
     ) -> bool
-        ensures { IsTrue result → (of : WitSources) → Knows of self.now → IsInterfaceOf of self.now.types.now «package».now (option_map string_bytes version.now) name.now id }
+        ensures { IsTrue result → (of : WitSources) → KnowsWorlds of self.now → IsInterfaceOf of self.now.types.now «package».now (option_map string_bytes version.now) name.now id }
     {
         let Some(found) = self.found_as(id) else {
             return false;
@@ -135,11 +178,23 @@ impl<'v> Validator<'v> {
     }
 
     // An interface that was taken in, by its entry.
-    fn found_as(&self, id: InterfaceId) -> Option<&FoundInterface>
+    pub(crate) fn found_as(&self, id: InterfaceId) -> Option<&FoundInterface>
         ensures among { IfSome result (λ f. Contains self.now.found.items f.now) }
         ensures id { IfSome result (λ f. f.now.id ≡ id) }
     {
         let found = self.found.get(*self.by_id.get(&id)?)?;
         if found.id == id { Some(found) } else { None }
     }
+}
+
+// The interfaces of a catalog, by their identifiers.
+fn identifiers_of<'v>(
+    alloc: Global,
+    catalog: &'v Catalog<'v>,
+) -> Result<IndexMap<&'v str, usize>, AllocError> {
+    let mut identifiers = IndexMap::new(alloc);
+    for (index, node) in catalog.nodes.iter().enumerate() {
+        identifiers.insert(node.id.as_str(), index)?;
+    }
+    Ok(identifiers)
 }

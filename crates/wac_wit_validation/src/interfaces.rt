@@ -242,8 +242,8 @@ fn is_used(
     }
 }
 
-// The name that a used type gets.
-fn local_name(rename: &Rename) -> &Ident
+/// The name that a used type gets.
+pub(crate) fn local_name(rename: &Rename) -> &Ident
     ensures { ident_text result.now ≡ given_name rename.now.name rename.now.alias }
 {
     match &rename.alias {

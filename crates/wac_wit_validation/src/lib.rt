@@ -1,11 +1,19 @@
 //! Checks that a collection of types has what WIT packages denote.
 #![tactic(auto)]
 
+mod ambiguity;
 mod checks;
+mod externs;
 mod functions;
+mod imports;
+mod includes;
 mod interfaces;
+mod marks;
 mod methods;
 mod names;
+mod needs;
+mod noting;
+mod once;
 mod packages;
 mod progress;
 mod sources;
@@ -13,6 +21,7 @@ mod texts;
 mod typedefs;
 mod validator;
 mod values;
+mod worlds;
 
 pub use checks::SourceTrees;
 pub use validator::Validator;

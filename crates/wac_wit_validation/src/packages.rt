@@ -1,11 +1,12 @@
 //! Names of packages: which one a group of files has, and how many versions there are.
 
-ghost use Rattle.std.specs.Prelude.{◌≡◌, Contains, IfOk, IfSome, IsTrue, OnOk, Some, nat_eq, string_bytes, true};
+ghost use Rattle.std.specs.Prelude.{◌≡◌, ℕ, Contains, IfOk, IfSome, IsTrue, OnOk, Some, nat_eq, string_bytes, true};
 ghost use Rattle.indexmap.specs.IndexMap.{get, get_by_text};
 ghost use Rattle.wac_wit_names.specs.declared.features.Features.{Features};
 ghost use Rattle.wac_wit_syntax.specs.declared.tree.Document.{Document as Documents};
 ghost use Rattle.wac_wit_syntax.specs.declared.tree.NestedPackage.{NestedPackage as Nested};
 ghost use Rattle.wac_wit_syntax.specs.declared.tree.PackageName.{PackageName as Named};
+ghost use Rattle.wac_wit_validation.specs.Ambiguity.{HasGroup, HasGroups};
 ghost use Rattle.wac_wit_validation.specs.Naming.{AreGroups, HasFile, IsKnownName, KnowsNamesOf, NamesGroup, common_name};
 ghost use Rattle.wac_wit_validation.specs.WitSources.{HaveOneName, WitSources, package_id, sources_of, version_text};
 
@@ -29,7 +30,8 @@ pub(crate) fn groups_of<'s>(
     files: &[SourceFile],
     documents: &'s [Document],
 ) -> Result<Option<IndexMap<usize, &'s PackageName>>, AllocError>
-    ensures { IfOk result (λ o. IfSome o (λ m. (features : Features) → AreGroups (sources_of files.now documents.now features) (get nat_eq m))) }
+    ensures named { IfOk result (λ o. IfSome o (λ m. (features : Features) → AreGroups (sources_of files.now documents.now features) (get nat_eq m))) }
+    ensures all { IfOk result (λ o. IfSome o (λ m. HasGroups (get nat_eq m) files.now documents.now)) }
 {
     let mut groups = IndexMap::new(alloc);
     for (index, document) in documents.iter().enumerate() {
@@ -49,7 +51,9 @@ fn add_file<'s>(
     group: usize,
     document: &'s Document,
 ) -> Result<bool, AllocError>
-    ensures { OnOk result ((of : WitSources) → HasFile of group document.now → AreGroups of (get nat_eq groups.old) → AreGroups of (get nat_eq groups.new)) }
+    ensures named { OnOk result ((of : WitSources) → HasFile of group document.now → AreGroups of (get nat_eq groups.old) → AreGroups of (get nat_eq groups.new)) }
+    ensures keeps { OnOk result ((g : ℕ) (n : Named) → HasGroup (get nat_eq groups.old) g n → HasGroup (get nat_eq groups.new) g n) }
+    ensures has { IfOk result (λ is. IsTrue is → (n : Named) → document.now.package ≡ Some n → HasGroup (get nat_eq groups.new) group n) }
 {
     match &document.package {
         Some(package) => add_group(groups, group, package),
@@ -63,7 +67,9 @@ fn add_group<'s>(
     group: usize,
     package: &'s PackageName,
 ) -> Result<bool, AllocError>
-    ensures { OnOk result ((of : WitSources) → NamesGroup of group «package».now → AreGroups of (get nat_eq groups.old) → AreGroups of (get nat_eq groups.new)) }
+    ensures named { OnOk result ((of : WitSources) → NamesGroup of group «package».now → AreGroups of (get nat_eq groups.old) → AreGroups of (get nat_eq groups.new)) }
+    ensures keeps { OnOk result ((g : ℕ) (n : Named) → HasGroup (get nat_eq groups.old) g n → HasGroup (get nat_eq groups.new) g n) }
+    ensures has { IfOk result (λ is. IsTrue is → HasGroup (get nat_eq groups.new) group «package».now) }
 {
     if let Some(known) = groups.get(&group) {
         return Ok(is_same_package(known, package));

@@ -3,9 +3,10 @@
 ghost use Rattle.std.specs.Prelude.{◌≡◌, ℕ, IfOk, IfSome, OnOk, Some, nat_eq, slice_get};
 ghost use Rattle.indexmap.specs.IndexMap.{get, get_by_text};
 ghost use Rattle.wac_wit_names.specs.declared.features.Features.{Features};
+ghost use Rattle.wac_wit_validation.specs.Ambiguity.{HasAllScopes, HasNestedScopes, HasScope, HasScopes};
 ghost use Rattle.wac_wit_validation.specs.Checking.{IsKnownScope};
 ghost use Rattle.wac_wit_validation.specs.Naming.{AddsScopes, AreScopes, HasFile, HasNested, NamesGroup, scope_in};
-ghost use Rattle.wac_wit_validation.specs.WitSources.{IsScopeOf, WitSources, sources_of};
+ghost use Rattle.wac_wit_validation.specs.WitSources.{IsScopeOf, ScopeSyntax, WitSources, sources_of};
 ghost use Rattle.wac_wit_validation.specs.declared.sources.ScopeItems.{ScopeItems as Scopes};
 
 use super::packages::{Versions, groups_of, is_alone, versions_in};
@@ -31,7 +32,8 @@ pub(crate) fn scopes_of<'s>(
     files: &[SourceFile],
     documents: &'s [Document],
 ) -> Result<Option<Vec<ScopeItems<'s>>>, AllocError>
-    ensures { IfOk result (λ o. IfSome o (λ ws. (features : Features) (i : ℕ) (w : Scopes) → slice_get ws.items i ≡ Some w → IsKnownScope (sources_of files.now documents.now features) w)) }
+    ensures known { IfOk result (λ o. IfSome o (λ ws. (features : Features) (i : ℕ) (w : Scopes) → slice_get ws.items i ≡ Some w → IsKnownScope (sources_of files.now documents.now features) w)) }
+    ensures all { IfOk result (λ o. IfSome o (λ ws. (features : Features) (w : ScopeSyntax) → IsScopeOf (sources_of files.now documents.now features) w → HasScope ws.items w)) }
 {
     if files.len() != documents.len() {
         return Ok(None);
@@ -50,7 +52,8 @@ fn scopes_in<'s>(
     groups: &IndexMap<usize, &'s PackageName>,
     versions: &IndexMap<String, Versions<'s>>,
 ) -> Result<Option<Vec<ScopeItems<'s>>>, AllocError>
-    ensures { IfOk result (λ o. IfSome o (λ ws. (features : Features) → AreScopes (sources_of files.now documents.now features) (get nat_eq groups.now) (get_by_text versions.now) ws.items)) }
+    ensures known { IfOk result (λ o. IfSome o (λ ws. (features : Features) → AreScopes (sources_of files.now documents.now features) (get nat_eq groups.now) (get_by_text versions.now) ws.items)) }
+    ensures all { IfOk result (λ o. IfSome o (λ ws. HasAllScopes ws.items (get nat_eq groups.now) files.now documents.now)) }
 {
     let mut scopes = Vec::new(alloc);
     for (index, document) in documents.iter().enumerate() {
@@ -73,7 +76,9 @@ fn push_document<'s>(
     package: &'s PackageName,
     document: &'s Document,
 ) -> Result<(), AllocError>
-    ensures { OnOk result ((of : WitSources) (g : ℕ) → HasFile of g document.now → NamesGroup of g «package».now → AddsScopes of (get_by_text versions.now) scopes.old.items scopes.new.items) }
+    ensures known { OnOk result ((of : WitSources) (g : ℕ) → HasFile of g document.now → NamesGroup of g «package».now → AddsScopes of (get_by_text versions.now) scopes.old.items scopes.new.items) }
+    ensures keeps { OnOk result ((w : ScopeSyntax) → HasScope scopes.old.items w → HasScope scopes.new.items w) }
+    ensures has { OnOk result (HasScopes scopes.new.items «package».now document.now) }
 {
     push_scope(alloc, scopes, versions, package, &document.items)?;
     push_nested(alloc, scopes, versions, &document.packages)
@@ -85,7 +90,9 @@ fn push_nested<'s>(
     versions: &IndexMap<String, Versions<'s>>,
     packages: &'s [NestedPackage],
 ) -> Result<(), AllocError>
-    ensures { OnOk result ((of : WitSources) → HasNested of packages.now → AddsScopes of (get_by_text versions.now) scopes.old.items scopes.new.items) }
+    ensures known { OnOk result ((of : WitSources) → HasNested of packages.now → AddsScopes of (get_by_text versions.now) scopes.old.items scopes.new.items) }
+    ensures keeps { OnOk result ((w : ScopeSyntax) → HasScope scopes.old.items w → HasScope scopes.new.items w) }
+    ensures has { OnOk result (HasNestedScopes scopes.new.items packages.now) }
 {
     for nested in packages {
         push_scope(alloc, scopes, versions, &nested.name, &nested.items)?;
@@ -100,7 +107,9 @@ fn push_scope<'s>(
     package: &'s PackageName,
     items: &'s [TopItem],
 ) -> Result<(), AllocError>
-    ensures { OnOk result ((of : WitSources) → IsScopeOf of (scope_in «package».now items.now) → AddsScopes of (get_by_text versions.now) scopes.old.items scopes.new.items) }
+    ensures known { OnOk result ((of : WitSources) → IsScopeOf of (scope_in «package».now items.now) → AddsScopes of (get_by_text versions.now) scopes.old.items scopes.new.items) }
+    ensures keeps { OnOk result ((w : ScopeSyntax) → HasScope scopes.old.items w → HasScope scopes.new.items w) }
+    ensures has { OnOk result (HasScope scopes.new.items (scope_in «package».now items.now)) }
 {
     let is_alone = is_alone(alloc, versions, package)?;
     scopes.push(ScopeItems {

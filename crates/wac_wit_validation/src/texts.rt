@@ -45,7 +45,7 @@ pub(crate) fn is_version_text(package: &PackageName, text: &Option<String>) -> b
     }
 }
 
-/// Whether a text is the identifier of an interface of a package.
+/// Whether there is a text, which is the identifier of an interface of a package.
 pub(crate) fn is_identifier_of(package: &PackageName, name: &str, text: &Option<String>) -> bool
     ensures { IsTrue result → option_map string_bytes text.now ≡ Some (interface_identifier (package_id «package».now) name.now) }
 {
@@ -55,7 +55,8 @@ pub(crate) fn is_identifier_of(package: &PackageName, name: &str, text: &Option<
     is_identifier_text(package, name, text)
 }
 
-fn is_identifier_text(package: &PackageName, name: &str, text: &str) -> bool
+/// Whether a text is the identifier of an interface of a package.
+pub(crate) fn is_identifier_text(package: &PackageName, name: &str, text: &str) -> bool
     ensures { IsTrue result → text.now ≡ interface_identifier (package_id «package».now) name.now }
 {
     let Some(rest) = behind(&package.namespace.name, text) else {

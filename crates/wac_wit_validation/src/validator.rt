@@ -6,14 +6,15 @@ ghost use Rattle.wac_wit_validation.specs.Checking.{AreNamesAt, IsKnownScope, Is
 ghost use Rattle.wac_wit_validation.specs.Denoted.{Setting};
 ghost use Rattle.wac_wit_validation.specs.WitSources.{IsNamedPackage, IsPackageOf, IsEnabled, PathLeadsTo, WitSources, given_name, ident_text};
 
+use super::marks::ExternMarks;
 use super::names::NamedTypes;
 use super::packages::{have_one_name, is_same_package};
 use super::sources::ScopeItems;
 use indexmap::IndexMap;
 use std::alloc::{AllocError, Global};
-use wac_component::{Interface, InterfaceId, Type, Types};
+use wac_component::{Interface, InterfaceId, Type, Types, World, WorldId};
 use wac_wit_names::{Catalog, Features, FoundPlace};
-use wac_wit_syntax::{Gates, Ident, PackageName, Path, TopItem, TopUse};
+use wac_wit_syntax::{Gates, Ident, PackageName, Path, TopItem, TopUse, WorldDecl};
 
 /// Where an interface or a world is written: the index of what it stands in, and its own there.
 #[derive(Clone, Copy)]
@@ -33,7 +34,35 @@ pub struct FoundInterface {
     pub id: InterfaceId,
 }
 
-/// Checks interfaces.
+/// A world that is as it is written.
+pub struct FoundWorld {
+    /// Where it is written.
+    pub place: ItemPlace,
+    /// Its entry.
+    pub id: WorldId,
+    /// What was found of its exports.
+    pub(crate) exports: ExternMarks,
+}
+
+impl Drop for FoundWorld {
+    fn drop(self) {
+        let FoundWorld {
+            place: _,
+            id: _,
+            exports: _,
+        } = self;
+    }
+}
+
+/// A world as it is written, with its entry.
+#[derive(Clone, Copy)]
+pub(crate) struct WorldText<'w> {
+    pub(crate) scope: usize,
+    pub(crate) decl: &'w WorldDecl,
+    pub(crate) entry: &'w World,
+}
+
+/// Checks interfaces and worlds.
 pub struct Validator<'v> {
     pub(crate) alloc: Global,
     pub(crate) types: &'v Types,
@@ -45,6 +74,21 @@ pub struct Validator<'v> {
     pub(crate) positions: IndexMap<usize, usize>,
     // where among these an entry stands
     pub(crate) by_id: IndexMap<InterfaceId, usize>,
+    // the interfaces of the catalog, by their identifiers
+    pub(crate) identifiers: IndexMap<&'v str, usize>,
+    // where interfaces stand that have other entries among the exports of a world
+    pub(crate) exported: IndexMap<usize, usize>,
+    // where the worlds are written that the one that is looked at includes, by where their paths
+    // begin
+    pub(crate) include_places: IndexMap<usize, FoundPlace>,
+    pub(crate) worlds: Vec<FoundWorld>,
+    // where among these a world of the catalog stands, and an entry
+    pub(crate) world_nodes: IndexMap<usize, usize>,
+    pub(crate) world_ids: IndexMap<WorldId, usize>,
+    // worlds that include others under new names, in the same way
+    pub(crate) renaming: Vec<ItemPlace>,
+    pub(crate) renaming_nodes: IndexMap<usize, usize>,
+    pub(crate) renaming_ids: IndexMap<WorldId, usize>,
 }
 
 impl Drop for Validator<'_> {
@@ -58,6 +102,15 @@ impl Drop for Validator<'_> {
             found: _,
             positions: _,
             by_id: _,
+            identifiers: _,
+            exported: _,
+            include_places: _,
+            worlds: _,
+            world_nodes: _,
+            world_ids: _,
+            renaming: _,
+            renaming_nodes: _,
+            renaming_ids: _,
         } = self;
     }
 }
@@ -94,7 +147,7 @@ impl<'v> Validator<'v> {
         ensures named { IfSome result (λ n. (s : Setting) → IsSettingAt self.now scope s → AreNamesAt s path.now n) }
     {
         let from = self.scopes.get(scope)?;
-        let found = self.found.get(*self.positions.get(&place.node)?)?;
+        let found = self.found.get(*self.position_of(place.node)?)?;
         let to = self.scopes.get(found.place.scope)?;
         let TopItem::Interface(decl) = to.items.get(found.place.item)? else {
             return None;
@@ -103,6 +156,14 @@ impl<'v> Validator<'v> {
             return None;
         }
         self.names_with(found.id)
+    }
+
+    // Where an interface of the catalog stands among those that were taken in.
+    fn position_of(&self, node: usize) -> Option<&usize> {
+        match self.exported.get(&node) {
+            Some(position) => Some(position),
+            None => self.positions.get(&node),
+        }
     }
 
     // The names of the entry of an interface.
@@ -135,7 +196,7 @@ impl<'v> Validator<'v> {
 
 // Whether a path leads to a name, by way of a `use` outside of interfaces and worlds if there is
 // one.
-fn leads(
+pub(crate) fn leads(
     from: &ScopeItems<'_>,
     path: &Path,
     via: Option<usize>,
@@ -155,8 +216,8 @@ fn leads(
         && leads_directly(from, &used.path, to, name)
 }
 
-// The name that a `use` outside of interfaces and worlds gives.
-fn used_name(used: &TopUse) -> &Ident
+/// The name that a `use` outside of interfaces and worlds gives.
+pub(crate) fn used_name(used: &TopUse) -> &Ident
     ensures { ident_text result.now ≡ given_name used.now.path.name used.now.alias }
 {
     match &used.alias {

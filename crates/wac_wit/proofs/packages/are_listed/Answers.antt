@@ -1,4 +1,4 @@
-use Rattle.std.proofs.Common.{◌≡◌, Contains, List, refl, sym, subst, ◌∙◌}
+use Rattle.std.proofs.Common.{Contains, List, refl, sym, subst}
 use Rattle.wac_wit.proofs.Listing.{AllBefore-contains, AllBefore-more, AllBefore-none}
 use Rattle.wac_wit.proofs.packages.are_listed.Goals as goal
 use Rattle.wac_wit.specs.Read.{IsReadPackage}

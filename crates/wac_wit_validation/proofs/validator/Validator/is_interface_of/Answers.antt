@@ -14,5 +14,5 @@ returns-then-is_package_text c = λ same of knows.
     let version = option_map string_bytes c.args.version.now in
     let n = c.args.name.now in
     subst (λ (k : Id). IsInterfaceOf of v.types.now p version n k) c.in-Some.ensures.id
-    (interface_of_found of v f knows (knows.found f c.in-Some.ensures.among) c.in-Some-interface_at.scope.now c.in-Some-interface_at.decl.now p n version c.in-Some-interface_at.ensures.scope c.in-Some-interface_at.ensures.item
+    (interface_of_found of v f knows.interfaces (knows.interfaces.found f c.in-Some.ensures.among) c.in-Some-interface_at.scope.now c.in-Some-interface_at.decl.now p n version c.in-Some-interface_at.ensures.scope c.in-Some-interface_at.ensures.item
     (c.if-is_package_text.ensures refl) (c.is_version_text.ensures same) (sym c.deref.ensures ∙ c.if-not-is_word.ensures refl))

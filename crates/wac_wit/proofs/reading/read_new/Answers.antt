@@ -1,0 +1,7 @@
+use Rattle.std.proofs.Common.{subst, sym}
+use Rattle.wac_wit.specs.Parsed.{AreParsed}
+use Rattle.wac_wit.proofs.Listing.{told_of}
+use Rattle.wac_wit.proofs.reading.read_new.Goals as goal
+
+pub returns-clause-new : goal.returns-clause-new
+returns-clause-new c = told_of c.read_beside.result _ _ c.read_beside.ensures.new (λ wit listed. record { documents = c.deref.result.now; parsed = subst (AreParsed c.args.new.now) (sym c.deref.ensures.value) c.in-Ok.ensures; listed = listed })

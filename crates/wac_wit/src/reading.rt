@@ -1,0 +1,227 @@
+//! Reads packages.
+
+ghost use Rattle.std.specs.Prelude.{◌≡◌, IfOk, IfSome, OnOk};
+ghost use Rattle.wac_wit.specs.Parsed.{AreParsed};
+ghost use Rattle.wac_wit.specs.Read.{AreReadPackages, AreOfTexts};
+ghost use Rattle.wac_wit.specs.Reading.{ResolvesSources, sources_in};
+
+use super::packages::{Resolved, Wit};
+use std::alloc::Global;
+use wac_component::Types;
+use wac_wit_names::{Fault, Features, Refusals, SourceFile, WitError};
+use wac_wit_syntax::{Document, parse};
+use wac_wit_validation::SourceTrees;
+
+/// Old packages and new ones, in one collection.
+#[derive(Drop)]
+pub struct WitPair {
+    /// The old ones.
+    pub old: Wit,
+    /// The new ones.
+    pub new: Wit,
+}
+
+/// Which of two sets of files isn't read, and why.
+#[derive(Drop)]
+pub enum PairError {
+    /// The old files aren't.
+    Old(WitError),
+    /// The new files aren't, and the old ones have no refusal.
+    New(WitError),
+}
+
+/// Reads packages, and puts what they have into a collection.
+///
+/// Files of one group are one package; a package that is written inside a file is one too. All
+/// that is named has to be there. What stands under a feature that is off isn't.
+///
+/// Where files are refused, what else is wrong in them is looked for, and up to
+/// [`MAX_REFUSALS`](super::MAX_REFUSALS) refusals are answered: of the syntax of all files, and
+/// where that is right, of what they name. After a refusal the collection may have entries that
+/// nothing leads to.
+pub fn read_packages(
+    alloc: Global,
+    types: &mut Types,
+    files: &[SourceFile],
+    features: Features<'_>,
+) -> Result<Wit, WitError>
+    ensures { IfOk result (AreOfTexts files.now features.entry types.new) }
+{
+    let documents = documents_of(alloc, files)?;
+    let sources = SourceTrees {
+        files,
+        documents: &documents,
+        features,
+    };
+    read(alloc, types, &sources)
+}
+
+/// Reads old packages and new ones into one collection.
+///
+/// Each of the two is read as [`read_packages`] reads it: what one of them names isn't looked for
+/// in the other. The new files are looked at where the old ones aren't refused.
+pub fn read_both(
+    alloc: Global,
+    types: &mut Types,
+    old: &[SourceFile],
+    new: &[SourceFile],
+    features: Features<'_>,
+) -> Result<WitPair, PairError>
+    ensures old { IfOk result (λ pair. AreOfTexts old.now features.entry types.new pair.old) }
+    ensures new { IfOk result (λ pair. AreOfTexts new.now features.entry types.new pair.new) }
+{
+    let documents = match documents_of(alloc, old) {
+        Ok(documents) => documents,
+        Err(error) => return Err(PairError::Old(error)),
+    };
+    let sources = SourceTrees {
+        files: old,
+        documents: &documents,
+        features,
+    };
+    read_pair(alloc, types, &sources, new)
+}
+
+// The trees of all files, if the syntax of all is right.
+fn documents_of(alloc: Global, files: &[SourceFile]) -> Result<Vec<Document>, WitError>
+    ensures { IfOk result (λ documents. AreParsed files.now documents.items) }
+{
+    let mut refusals = Refusals::new(alloc);
+    match parsed(alloc, files, &mut refusals) {
+        Ok(Some(documents)) => Ok(documents),
+        Ok(None) => Err(refusals.into_error()),
+        Err(fault) => Err(error_of(fault, refusals)),
+    }
+}
+
+fn parsed(
+    alloc: Global,
+    files: &[SourceFile],
+    refusals: &mut Refusals,
+) -> Result<Option<Vec<Document>>, Fault>
+    ensures { IfOk result (λ parsed. IfSome parsed (λ documents. AreParsed files.now documents.items)) }
+{
+    let mut documents = Vec::new(alloc);
+    let mut is_right = true;
+    for (index, file) in files.iter().enumerate() {
+        match parse(alloc, &file.text) {
+            Ok(document) => documents.push(document)?,
+            Err(error) => {
+                refusals.note_syntax(index, error)?;
+                is_right = false;
+            }
+        }
+    }
+    Ok(is_right.then_some(documents))
+}
+
+// Why files aren't read, where a fault ended that and these refusals were noted before.
+fn error_of(fault: Fault, mut refusals: Refusals) -> WitError {
+    match refusals.note(fault) {
+        Ok(()) | Err(Fault::Known | Fault::Enough) => refusals.into_error(),
+        Err(Fault::Missing | Fault::Refused(_)) => WitError::Missing,
+        Err(Fault::Memory) => WitError::Memory,
+    }
+}
+
+// Reads files whose syntax is right.
+fn read(alloc: Global, types: &mut Types, sources: &SourceTrees<'_>) -> Result<Wit, WitError>
+    ensures { IfOk result (AreReadPackages (sources_in sources.now) types.new) }
+{
+    let resolved = resolve(alloc, types, sources)?;
+    check(alloc, types, &resolved)?;
+    Ok(resolved.into_wit())
+}
+
+// Makes entries of what files say, whose syntax is right.
+fn resolve<'a>(
+    alloc: Global,
+    types: &mut Types,
+    sources: &SourceTrees<'a>,
+) -> Result<Resolved<'a>, WitError>
+    ensures { IfOk result (λ r. r.sources ≡ sources.now) }
+{
+    let mut refusals = Refusals::new(alloc);
+    match Resolved::new(alloc, types, sources, &mut refusals) {
+        Ok(resolved) => Ok(resolved),
+        Err(fault) => Err(error_of(fault, refusals)),
+    }
+}
+
+// Refuses interfaces that aren't what their texts denote.
+fn check(alloc: Global, types: &Types, of: &Resolved<'_>) -> Result<(), WitError>
+    ensures { OnOk result (ResolvesSources types.now of.now) }
+{
+    match of.is_denoted(alloc, types) {
+        Ok(true) => Ok(()),
+        Ok(false) => Err(WitError::Missing),
+        Err(_) => Err(WitError::Memory),
+    }
+}
+
+// Reads old files, whose syntax is right, and new ones.
+fn read_pair(
+    alloc: Global,
+    types: &mut Types,
+    old: &SourceTrees<'_>,
+    new: &[SourceFile],
+) -> Result<WitPair, PairError>
+    ensures old { IfOk result (λ pair. AreReadPackages (sources_in old.now) types.new pair.old) }
+    ensures new { IfOk result (λ pair. AreOfTexts new.now old.now.features types.new pair.new) }
+{
+    let resolved = match resolve(alloc, types, old) {
+        Ok(resolved) => resolved,
+        Err(error) => return Err(PairError::Old(error)),
+    };
+    let new = read_new(alloc, types, &resolved, new, old.features)?;
+    Ok(WitPair {
+        old: resolved.into_wit(),
+        new,
+    })
+}
+
+// Reads new files beside old ones, of which entries are made.
+fn read_new(
+    alloc: Global,
+    types: &mut Types,
+    old: &Resolved<'_>,
+    new: &[SourceFile],
+    features: Features<'_>,
+) -> Result<Wit, PairError>
+    ensures old { OnOk result (ResolvesSources types.new old.now) }
+    ensures new { IfOk result (AreOfTexts new.now features.entry types.new) }
+{
+    let documents = match documents_of(alloc, new) {
+        Ok(documents) => documents,
+        Err(error) => return Err(PairError::New(error)),
+    };
+    let sources = SourceTrees {
+        files: new,
+        documents: &documents,
+        features,
+    };
+    read_beside(alloc, types, old, &sources)
+}
+
+// Reads new files, whose syntax is right, beside old ones, and checks both.
+fn read_beside(
+    alloc: Global,
+    types: &mut Types,
+    old: &Resolved<'_>,
+    new: &SourceTrees<'_>,
+) -> Result<Wit, PairError>
+    ensures old { OnOk result (ResolvesSources types.new old.now) }
+    ensures new { IfOk result (AreReadPackages (sources_in new.now) types.new) }
+{
+    let resolved = match resolve(alloc, types, new) {
+        Ok(resolved) => resolved,
+        Err(error) => return Err(PairError::New(error)),
+    };
+    if let Err(error) = check(alloc, types, old) {
+        return Err(PairError::Old(error));
+    }
+    match check(alloc, types, &resolved) {
+        Ok(()) => Ok(resolved.into_wit()),
+        Err(error) => Err(PairError::New(error)),
+    }
+}

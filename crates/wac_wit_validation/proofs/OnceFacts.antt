@@ -1,0 +1,94 @@
+-- Interfaces that give each name of a type once.
+use Rattle.std.proofs.Common.{◌≡◌, ◌∙◌, ℕ, List, Contains, Option, Some, refl, sym, ap, subst}
+use Rattle.std.specs.Prelude.{slice_get}
+use Rattle.std.proofs.lemmas.Option.{same_Some}
+use Rattle.wac_model.specs.Text.{Text}
+use Rattle.wac_wit_names.specs.declared.features.Features.{Features}
+use Rattle.wac_wit_syntax.specs.declared.tree.InterfaceItem.{InterfaceItem}
+use Rattle.wac_wit_syntax.specs.declared.tree.InterfaceItem.TheVariants as inside
+use Rattle.wac_wit_syntax.specs.declared.tree.Rename.{Rename}
+use Rattle.wac_wit_syntax.specs.declared.tree.TopItem.TheVariants as top
+use Rattle.wac_wit_syntax.specs.declared.tree.TypeItem.{TypeItem}
+use Rattle.wac_wit_syntax.specs.declared.tree.UseItem.{UseItem}
+use Rattle.wac_wit_validation.proofs.AmbiguityFacts.{slice_get-among}
+use Rattle.wac_wit_validation.proofs.ItemFacts.{offered_items}
+use Rattle.wac_wit_validation.specs.Ambiguity.{HasScope, KeepsNoted}
+use Rattle.wac_wit_validation.specs.Denoted.{Setting, interface_setting}
+use Rattle.wac_wit_validation.specs.Once.{HasFeatures, InsideGivesOnce, ItemsGiveOnce, NotesInner}
+use Rattle.wac_wit_validation.specs.OneMeaning.{AllGiveOnce, GivesOnce, GivesType, GivesUse}
+use Rattle.wac_wit_validation.specs.WitSources.{IsScopeOf, ScopeSyntax, WitSources, given_name, ident_text}
+use Rattle.wac_wit_validation.specs.declared.sources.ScopeItems.{ScopeItems}
+use Rattle.wac_wit_validation.specs.declared.validator.ItemPlace.{ItemPlace}
+
+-- a name that a `use` gives is noted
+abbrev pub NotesRename : (Text → Option ItemPlace) → ℕ → ℕ → Rename → Type 0
+NotesRename given i j r = given (given_name r.name r.alias) ≡ Some (record { scope = i; item = j })
+
+pub NotesRename-kept : (a b : Text → Option ItemPlace) (i : ℕ) → KeepsNoted a b → (j : ℕ) (r : Rename) → NotesRename a i j r → NotesRename b i j r
+NotesRename-kept a b i keeps j r h = keeps (given_name r.name r.alias) _ h
+
+pub NotesInner-kept : (of : WitSources) (a b : Text → Option ItemPlace) → KeepsNoted a b → (i : ℕ) (t : InterfaceItem) → NotesInner of a i t → NotesInner of b i t
+NotesInner-kept of a b keeps i (inside.Use u) h = λ there j r at. keeps (given_name r.name r.alias) _ (h there j r at)
+NotesInner-kept of a b keeps i (inside.Type t) h = λ there. keeps (ident_text t.name) _ (h there)
+NotesInner-kept of a b keeps i (inside.Func f) h = h
+
+-- what is noted for each sort of item
+pub NotesInner-type : (of : WitSources) (given : Text → Option ItemPlace) (i : ℕ) (x : InterfaceItem) (t : TypeItem) → x ≡ inside.Type t → NotesInner of given i (inside.Type t) → NotesInner of given i x
+NotesInner-type of given i x t is h = subst (NotesInner of given i) (sym is) h
+
+pub NotesInner-use : (of : WitSources) (given : Text → Option ItemPlace) (i : ℕ) (x : InterfaceItem) (u : UseItem) → x ≡ inside.Use u → NotesInner of given i (inside.Use u) → NotesInner of given i x
+NotesInner-use of given i x u is h = subst (NotesInner of given i) (sym is) h
+
+-- names that are noted are given once
+module _ (of : WitSources) (w : ScopeSyntax) (is : List InterfaceItem) (all : InsideGivesOnce of is) where
+  abbrev setting : Setting
+  setting = interface_setting of w is
+
+  type_place : (n : Text) (t : TypeItem) → GivesType setting n t → (i : ℕ) × (slice_get is i ≡ Some (inside.Type t)) × (all.given n ≡ Some (record { scope = i; item = 0 }))
+  type_place n t h =
+      let among = offered_items of w is (inside.Type t) h.among in
+      let at = slice_get-among is (inside.Type t) among in
+      (among.0, at, subst (λ (k : Text). all.given k ≡ Some (record { scope = among.0; item = 0 })) h.named (all.notes among.0 (inside.Type t) at h.there))
+
+  use_place : (n : Text) (u : UseItem) (r : Rename) → GivesUse setting n u r → (i : ℕ) × (slice_get is i ≡ Some (inside.Use u)) × (j : ℕ) × (slice_get u.names.items j ≡ Some r) × (all.given n ≡ Some (record { scope = i; item = j }))
+  use_place n u r h =
+      let among = offered_items of w is (inside.Use u) h.among in
+      let at = slice_get-among is (inside.Use u) among in
+      let within = slice_get-among u.names.items r h.within in
+      (among.0, at, h.within.0, within, subst (λ (k : Text). all.given k ≡ Some (record { scope = among.0; item = h.within.0 })) h.named (all.notes among.0 (inside.Use u) at h.there h.within.0 r within))
+
+  one_type : (t x : TypeItem) → inside.Type t ≡ inside.Type x → t ≡ x
+  one_type t x e = cc
+
+  one_use : (u v : UseItem) → inside.Use u ≡ inside.Use v → u ≡ v
+  one_use u v e = cc
+
+  one_sort : (t : TypeItem) (u : UseItem) → inside.Type t ≡ inside.Use u → ⊥
+  one_sort t u e = absurd (cc)
+
+  once_inside : GivesOnce setting
+  once_inside = record {
+    types = λ n t x a b.
+        let p = type_place n t a in
+        let q = type_place n x b in
+        let place = same_Some _ _ (sym p.2 ∙ q.2) in
+        one_type t x (same_Some _ _ (sym p.1 ∙ ap (λ (o : ItemPlace). slice_get is o.scope) place ∙ q.1));
+    uses = λ n u v r s a b.
+        let p = use_place n u r a in
+        let q = use_place n v s b in
+        let place = same_Some _ _ (sym p.4 ∙ q.4) in
+        let same = one_use u v (same_Some _ _ (sym p.1 ∙ ap (λ (o : ItemPlace). slice_get is o.scope) place ∙ q.1)) in
+        (same, same_Some _ _ (sym p.3 ∙ (λ k. slice_get (same k).names.items (place k).item) ∙ q.3));
+    apart = λ n t u r a b.
+        let p = type_place n t a in
+        let q = use_place n u r b in
+        let place = same_Some _ _ (sym p.2 ∙ q.4) in
+        one_sort t u (same_Some _ _ (sym p.1 ∙ ap (λ (o : ItemPlace). slice_get is o.scope) place ∙ q.1));
+  }
+
+-- where all scopes are among those whose interfaces give names once, all do
+pub all_once : (of : WitSources) (features : Features) (ws : List ScopeItems) → HasFeatures features of → ((w : ScopeSyntax) → IsScopeOf of w → HasScope ws w) → ((w : ScopeItems) → Contains ws w → ItemsGiveOnce features w.items.now) → AllGiveOnce of
+all_once of features ws on scopes all w n d has =
+    let found = scopes w has.scope in
+    let item = subst (λ (y : ScopeSyntax). Contains y.items (top.Interface d)) (sym found.is) has.item in
+    once_inside of w d.items.items (all found.scope found.among (top.Interface d) item of on d refl has.there)

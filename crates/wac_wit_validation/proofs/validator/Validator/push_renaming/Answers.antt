@@ -1,0 +1,19 @@
+use Rattle.std.proofs.Common.{inl, inr, refl, subst, Contains, List}
+use Rattle.wac_wit_validation.specs.WorldChecking.{IsRenamingAt}
+use Rattle.wac_wit_validation.specs.declared.validator.ItemPlace.{ItemPlace}
+use Rattle.wac_wit_validation.proofs.FoundFacts.{Contains-last}
+use Rattle.wac_wit_validation.proofs.WorldFacts.{KnowsWorlds-kept}
+use Rattle.wac_wit_validation.proofs.validator.Validator.push_renaming.Goals as goal
+
+pub returns-in_err-insert-clause-knows : goal.returns-in_err-insert-clause-knows
+returns-in_err-insert-clause-knows c = λ of knows here. KnowsWorlds-kept of c.args.self.now _ refl refl refl refl knows (λ f among. inl among) (λ p among. inl among)
+
+pub returns-in_err-insert-2-clause-knows : goal.returns-in_err-insert-2-clause-knows
+returns-in_err-insert-2-clause-knows c = λ of knows here. KnowsWorlds-kept of c.args.self.now _ refl refl refl refl knows (λ f among. inl among) (λ p among. inl among)
+
+pub returns-in_err-push-clause-knows : goal.returns-in_err-push-clause-knows
+returns-in_err-push-clause-knows c = λ of knows here. KnowsWorlds-kept of c.args.self.now _ refl refl refl refl knows (λ f among. inl among) (λ p among. inl (subst (λ (l : List ItemPlace). Contains l p) c.in_err-push.ensures.items among))
+
+pub returns-clause-knows : goal.returns-clause-knows
+returns-clause-knows c = λ of knows here. KnowsWorlds-kept of c.args.self.now _ refl refl refl refl knows (λ f among. inl among) (λ p among.
+    elim (Contains-last c.args.self.now.renaming.items c.args.place p (subst (λ (l : List ItemPlace). Contains l p) c.in_ok-push.ensures.items among)) [ inl old ↦ inl old | inr same ↦ inr (subst (IsRenamingAt of c.args.self.now) same here) ])

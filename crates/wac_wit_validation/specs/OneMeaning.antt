@@ -1,0 +1,36 @@
+-- That a name of a type stands for one thing (WIT.md, "Item: `use`" and "Items: type").
+use Rattle.std.specs.Prelude.{◌≡◌, Contains}
+use Rattle.wac_model.specs.Text.{Text}
+use Rattle.wac_wit_syntax.specs.declared.tree.InterfaceDecl.{InterfaceDecl}
+use Rattle.wac_wit_syntax.specs.declared.tree.Rename.{Rename}
+use Rattle.wac_wit_syntax.specs.declared.tree.TypeItem.{TypeItem}
+use Rattle.wac_wit_syntax.specs.declared.tree.UseItem.{UseItem}
+use Rattle.wac_wit_validation.specs.Denoted.{Denoted, NamesType, Setting, interface_setting}
+use Rattle.wac_wit_validation.specs.WitSources.{HasInterface, IsEnabled, ScopeSyntax, WitSources, given_name, ident_text}
+
+-- a type that is there has the name
+pub record GivesType (s : Setting) (n : Text) (t : TypeItem) : Type 0 where
+  pub among : Contains s.types t
+  pub there : IsEnabled s.sources t.gates
+  pub named : ident_text t.name ≡ n
+
+-- a `use` that is there gives the name
+pub record GivesUse (s : Setting) (n : Text) (u : UseItem) (r : Rename) : Type 0 where
+  pub among : Contains s.uses u
+  pub there : IsEnabled s.sources u.gates
+  pub within : Contains u.names.items r
+  pub named : given_name r.name r.alias ≡ n
+
+-- each name of a type is given once
+pub record GivesOnce (s : Setting) : Type 0 where
+  pub types : (n : Text) (t x : TypeItem) → GivesType s n t → GivesType s n x → t ≡ x
+  pub uses : (n : Text) (u v : UseItem) (r q : Rename) → GivesUse s n u r → GivesUse s n v q → (u ≡ v) × (r ≡ q)
+  pub apart : (n : Text) (t : TypeItem) (u : UseItem) (r : Rename) → GivesType s n t → GivesUse s n u r → ⊥
+
+-- each interface gives each name of a type once
+abbrev pub AllGiveOnce : WitSources → Type 0
+AllGiveOnce of = (w : ScopeSyntax) (n : Text) (d : InterfaceDecl) → HasInterface of w n d → GivesOnce (interface_setting of w d.items.items)
+
+-- in each interface, a name of a type stands for one thing at most
+abbrev pub HaveOneMeaning : WitSources → Type 0
+HaveOneMeaning of = (w : ScopeSyntax) (i : Text) (d : InterfaceDecl) → HasInterface of w i d → (n : Text) (m k : Denoted) → NamesType (interface_setting of w d.items.items) n m → NamesType (interface_setting of w d.items.items) n k → m ≡ k
