@@ -1,6 +1,7 @@
 //! What `compat` prints as JSON.
 
 use super::answer::text_or_null;
+use super::comparing::are_kept;
 use super::input::Input;
 use super::pointing::{PackageSides, Pointer};
 use serde_json::{Value, json};
@@ -20,7 +21,7 @@ pub(crate) fn reports_json(
     for report in reports {
         packages.push(package_json(alloc, &pointer, report)?)?;
     }
-    let is_yes = reports.iter().all(|it| it.is_kept());
+    let is_yes = are_kept(reports);
     json!(in alloc; {"compatible": is_yes, "packages": packages})
 }
 

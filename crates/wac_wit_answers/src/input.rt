@@ -46,20 +46,34 @@ impl Input {
         texts: Texts,
         features: Features<'_>,
     ) -> Result<Input, Failure> {
+        match read_packages(alloc, types, &texts.files, features) {
+            Ok(wit) => Ok(Input::new(alloc, texts, wit)?),
+            Err(error) => Err(not_read(alloc, &error, &texts.files)),
+        }
+    }
+
+    /// Packages that were read of these texts.
+    pub(crate) fn new(alloc: Global, texts: Texts, wit: Wit) -> Result<Input, AllocError> {
         let Texts { path, files } = texts;
-        match read_packages(alloc, types, &files, features) {
-            Ok(wit) => Ok(Input {
-                path,
-                lines: lines_of(alloc, &files)?,
-                files,
-                wit,
-            }),
-            Err(WitError::Memory) => Err(Failure::Memory),
-            Err(WitError::Missing) => Err(Failure::Missing),
-            Err(error) => {
-                let mut text = String::new(alloc);
-                error.push_report(&mut text, &files)?;
-                Err(Failure::Refused(text))
+        Ok(Input {
+            path,
+            lines: lines_of(alloc, &files)?,
+            files,
+            wit,
+        })
+    }
+}
+
+/// Why files aren't read.
+pub(crate) fn not_read(alloc: Global, error: &WitError, files: &[SourceFile]) -> Failure {
+    match error {
+        WitError::Memory => Failure::Memory,
+        WitError::Missing => Failure::Missing,
+        WitError::Refused(_) => {
+            let mut text = String::new(alloc);
+            match error.push_report(&mut text, files) {
+                Ok(()) => Failure::Refused(text),
+                Err(_) => Failure::Memory,
             }
         }
     }

@@ -2,3 +2,5 @@
 pub mod Items
 pub mod Pairwise
 pub mod Reports
+pub mod TextLemmas
+pub mod Running

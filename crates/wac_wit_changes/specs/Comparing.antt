@@ -1,21 +1,21 @@
--- What a comparison of packages says of their interfaces.
-use Rattle.std.specs.Prelude.{◌≡◌, ◌↔◌, ◌⊎◌, ◌==◌, Bool, true, false, List, [], ◌∷◌, Some, None, All, Contains, if◌then◌else◌, option_map, string_bytes, String}
+-- What a comparison of packages says.
+use Rattle.std.specs.Prelude.{◌≡◌, ◌↔◌, ◌++◌, ◌⊎◌, ◌==◌, Bool, true, false, List, [], ◌∷◌, Some, None, All, Contains, if◌then◌else◌, option_map, string_bytes, String}
 use Rattle.std.specs.HashMap.{get_by_text}
 use Rattle.std.specs.List.{AllZip}
 use Rattle.std.specs.declared.alloc.Global.{Global}
 use Rattle.wac_component.specs.Collection.{Collection}
-use Rattle.wac_component.specs.Growth.{BeginsWith}
 use Rattle.wac_component.specs.Id.{Id}
 use Rattle.wac_component.specs.Tree.{item_tree}
 use Rattle.wac_component.specs.declared.items.ItemKind.TheVariants.{Instance}
 use Rattle.wac_types.specs.Order.{Fits}
 use Rattle.wac_types.specs.Text.{Text}
 use Rattle.wac_wit.specs.declared.packages.WitPackage.{WitPackage}
+use Rattle.wac_wit_changes.specs.Worlds.{RunsIn}
 use Rattle.wac_wit_changes.specs.declared.report.ComparedItem.{ComparedItem}
 use Rattle.wac_wit_changes.specs.declared.report.PackageReport.{PackageReport}
 use Rattle.wac_wit_changes.specs.declared.report.Promise.{Promise}
 use Rattle.wac_wit_changes.specs.declared.report.Promise.TheVariants.{Same, Other, Gone, Dropped}
-use Rattle.wac_wit_changes.specs.declared.report.ReportSort.TheVariants.{Interface}
+use Rattle.wac_wit_changes.specs.declared.report.ReportSort.TheVariants.{Interface, World}
 
 -- ---- interfaces
 
@@ -29,16 +29,37 @@ HasFitting types new name old = (id : Id) × (get_by_text new.interfaces name �
 
 -- the item is about an old interface: it has no problem exactly where the new package has an interface
 -- of its name that fits where the old one is asked for
-pub record IsItemAbout (types : Collection) (new : WitPackage) (old : String Global × Id) (item : ComparedItem) : Type 0 where
+pub record IsComparedInterface (types : Collection) (new : WitPackage) (old : String Global × Id) (item : ComparedItem) : Type 0 where
   pub sort : item.sort ≡ Interface
   pub name : string_bytes item.name ≡ string_bytes old.0
   pub problems : (item.problems.items ≡ []) ↔ HasFitting types new (string_bytes old.0) old.1
 
--- the items begin with one about each of the old interfaces, in their order
-abbrev pub BeginWithItems : Collection → WitPackage → List (String Global × Id) → List ComparedItem → Type 0
-BeginWithItems types new olds items = (firsts : List ComparedItem) × AllZip (IsItemAbout types new) olds firsts × BeginsWith items firsts
+-- ---- worlds
+
+-- the package has a world of this name, in which the components run
+abbrev pub HasTarget : Collection → WitPackage → Text → Id → Type 0
+HasTarget types new name component = (id : Id) × (get_by_text new.worlds name ≡ Some id) × RunsIn types component id
+
+-- the item is about an old world: it has no problem exactly where the new package has a world of its
+-- name in which the components run. These are those of the old world itself where nothing may break,
+-- and else those of some world
+pub record IsComparedWorld (types : Collection) (new : WitPackage) (p : Promise) (old : String Global × Id) (item : ComparedItem) : Type 0 where
+  pub component : Id
+  pub own : p ≡ Same → component ≡ old.1
+  pub sort : item.sort ≡ World
+  pub name : string_bytes item.name ≡ string_bytes old.0
+  pub problems : (item.problems.items ≡ []) ↔ HasTarget types new (string_bytes old.0) component
 
 -- ---- packages
+
+-- the items are about all of an old package: one about each interface, in their order, and then one
+-- about each world, in theirs
+pub record AreItemsOnPackage (types : Collection) (old new : WitPackage) (p : Promise) (items : List ComparedItem) : Type 0 where
+  pub firsts : List ComparedItem
+  pub rest : List ComparedItem
+  pub all : items ≡ firsts ++ rest
+  pub interfaces : AllZip (IsComparedInterface types new) old.interfaces.entries firsts
+  pub worlds : AllZip (IsComparedWorld types new p) old.worlds.entries rest
 
 -- the report is about an old package that no new one belongs to: nothing is compared
 pub record IsReportOfOne (old : WitPackage) (r : PackageReport) : Type 0 where
@@ -51,7 +72,7 @@ pub record IsReportOfBoth (types : Collection) (old new : WitPackage) (r : Packa
   pub same : string_bytes new.name ≡ string_bytes old.name
   pub version : option_map string_bytes r.new_version ≡ option_map string_bytes new.version
   pub promise : (r.promise ≡ Same) ⊎ (r.promise ≡ Other)
-  pub compared : BeginWithItems types new old.interfaces.entries r.compared.items
+  pub compared : AreItemsOnPackage types old new r.promise r.compared.items
 
 -- the report is about an old package, alone or beside one of the new packages
 pub record IsReportOn (types : Collection) (news : List WitPackage) (old : WitPackage) (r : PackageReport) : Type 0 where

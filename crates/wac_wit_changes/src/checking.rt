@@ -3,6 +3,7 @@
 ghost use Rattle.std.specs.Prelude.{◌↔◌, IfOk, IsNone};
 ghost use Rattle.wac_component.specs.Tree.{item_tree};
 ghost use Rattle.wac_types.specs.Order.{Fits};
+ghost use Rattle.wac_types.specs.Report.{IsAnswer, world_content_of};
 
 use std::alloc::Global;
 use std::collections::HashSet;
@@ -37,7 +38,9 @@ pub(crate) fn fits_target(
     types: &Types,
     component: WorldId,
     target: WorldId,
-) -> Result<TargetValidationResult, EntryError> {
+) -> Result<TargetValidationResult, EntryError>
+    ensures { IfOk result (IsAnswer types.now (world_content_of types.now target) (world_content_of types.now component)) }
+{
     if !types.contains(Type::World(component)) || !types.contains(Type::World(target)) {
         return Err(EntryError::Missing);
     }

@@ -1,17 +1,15 @@
-//! Compares interfaces, worlds and their members, and finds where they stand.
+//! Compares interfaces and their members, and finds where they stand.
 
 ghost use Rattle.std.specs.Prelude.{◌≡◌, ◌↔◌, ◌≤◌, [], length, IfOk, OnOk, IsNone};
 ghost use Rattle.wac_wit_changes.specs.Comparing.{InterfaceFits};
 ghost use Rattle.wac_wit_changes.specs.Sides.{FitsOn};
 
-use super::checking::{fits_target, misfit};
+use super::checking::misfit;
 use super::problem::{Problem, fault_text, steps_of};
-use super::tracks::{by_tracks, on_track};
-use indexmap::IndexMap;
 use std::alloc::{AllocError, Global};
-use wac_component::{ExternKind, InterfaceId, ItemKind, Types, WorldId};
-use wac_types::{NameMap, SubtypeError, TargetValidationReport};
-use wac_wit_entries::{EntryError, interface, sort_of, world};
+use wac_component::{InterfaceId, ItemKind, Types};
+use wac_types::SubtypeError;
+use wac_wit_entries::{EntryError, interface, sort_of};
 use wac_wit_places::{FilePlace, Map, SourceSide, places_of};
 
 /// What is compared, of one collection: the old package and the new one, or a component's package
@@ -26,74 +24,20 @@ pub(crate) struct ComparedPair<'s, 'd> {
 
 /// An item on both sides, with the positions in the syntax.
 #[derive(Clone, Copy)]
-struct Both<'s, 'd> {
-    old: ItemKind,
-    new: ItemKind,
-    before: SourceSide<'s, 'd>,
-    after: SourceSide<'s, 'd>,
+pub(super) struct Both<'s, 'd> {
+    pub(super) old: ItemKind,
+    pub(super) new: ItemKind,
+    pub(super) before: SourceSide<'s, 'd>,
+    pub(super) after: SourceSide<'s, 'd>,
 }
 
 /// Which side is given, and which is asked for.
 #[derive(Clone, Copy)]
-enum Direction {
+pub(super) enum Direction {
     /// What is new has to do where the old is asked for, as an import.
     NewForOld,
     /// What is old has to do where the new is asked for, as an export.
     OldForNew,
-}
-
-/// What is asked about two worlds.
-#[derive(Clone, Copy)]
-pub(crate) enum Question {
-    /// Whether components of an old world run in a new one.
-    Change,
-    /// Whether components of a world run where another one is the target.
-    Target,
-}
-
-impl Question {
-    // What is wrong with an import that the target doesn't have.
-    fn not_imported(self) -> &'static str {
-        match self {
-            Question::Change => {
-                "components of the old world import it, and the new one doesn't have it"
-            }
-            Question::Target => "the target doesn't have it",
-        }
-    }
-
-    // What is wrong with an export that the component doesn't have.
-    fn not_exported(self) -> &'static str {
-        match self {
-            Question::Change => {
-                "the new world asks components for it, and those of the old one lack it"
-            }
-            Question::Target => {
-                "the target asks for it, and components of the world don't have it"
-            }
-        }
-    }
-}
-
-/// Two worlds. What is asked of the library is `component`, whose names may be of other versions
-/// than those of `before`, which is the same world.
-#[derive(Clone, Copy)]
-pub(crate) struct ComparedWorlds {
-    pub(crate) component: WorldId,
-    pub(crate) before: WorldId,
-    pub(crate) after: WorldId,
-}
-
-// What the component's world and the other one import or export, by the tracks of the names.
-struct Tracks {
-    old: NameMap<String, ItemKind>,
-    new: NameMap<String, ItemKind>,
-}
-
-impl Drop for Tracks {
-    fn drop(self) {
-        let Tracks { old: _, new: _ } = self;
-    }
 }
 
 impl<'s, 'd> ComparedPair<'s, 'd> {
@@ -122,8 +66,8 @@ impl<'s, 'd> ComparedPair<'s, 'd> {
         Ok(problems)
     }
 
-    // Puts last why an item doesn't fit: of interfaces, each member that doesn't.
-    fn push_problems(
+    /// Puts last why an item doesn't fit: of interfaces, each member that doesn't.
+    pub(super) fn push_problems(
         &self,
         problems: &mut Vec<Problem>,
         both: &Both<'s, 'd>,
@@ -219,143 +163,11 @@ impl<'s, 'd> ComparedPair<'s, 'd> {
                 walk: both.after.member(name).walk,
             },
         };
-        if let Some(problem) = self.misfit(&member, direction)? {
-            let step = format!(in self.alloc; "`{name}`")?;
-            problems.push(problem.under(step)?)?;
+        if let Some(mut problem) = self.misfit(&member, direction)? {
+            problem.put_under(format!(in self.alloc; "`{name}`")?)?;
+            problems.push(problem)?;
         }
         Ok(())
-    }
-
-    /// Why a component of one world doesn't run where the other is the target: nothing where it
-    /// does.
-    pub(crate) fn world_problems(
-        &self,
-        worlds: &ComparedWorlds,
-        question: Question,
-    ) -> Result<Vec<Problem>, EntryError> {
-        let mut problems = Vec::new(self.alloc);
-        match fits_target(self.alloc, self.types, worlds.component, worlds.after)? {
-            Ok(()) => {}
-            Err(report) => self.push_report(&mut problems, worlds, question, &report)?,
-        }
-        Ok(problems)
-    }
-
-    fn push_report(
-        &self,
-        problems: &mut Vec<Problem>,
-        worlds: &ComparedWorlds,
-        question: Question,
-        report: &TargetValidationReport,
-    ) -> Result<(), EntryError> {
-        for name in report.imports_not_in_target() {
-            let place = self.before.extern_place(worlds.before, name);
-            let there = self.after.world_place(worlds.after);
-            let fault = String::from_str(self.alloc, question.not_imported());
-            let problem = Problem::new(self.alloc, fault, place, there)?;
-            problems.push(self.under(problem, ExternKind::Import, name)?)?;
-        }
-        for (name, _) in report.missing_exports() {
-            let place = self.after.extern_place(worlds.after, name);
-            let here = self.before.world_place(worlds.before);
-            let fault = String::from_str(self.alloc, question.not_exported());
-            let problem = Problem::new(self.alloc, fault, here, place)?;
-            problems.push(self.under(problem, ExternKind::Export, name)?)?;
-        }
-        self.push_mismatches(problems, worlds, report)
-    }
-
-    // Puts last why imports and exports don't fit.
-    fn push_mismatches(
-        &self,
-        problems: &mut Vec<Problem>,
-        worlds: &ComparedWorlds,
-        report: &TargetValidationReport,
-    ) -> Result<(), EntryError> {
-        let imports = self.tracks(worlds, ExternKind::Import)?;
-        let exports = self.tracks(worlds, ExternKind::Export)?;
-        for (name, kind, _) in report.mismatched_types() {
-            let tracks = match kind {
-                ExternKind::Import => &imports,
-                ExternKind::Export => &exports,
-            };
-            self.push_extern(problems, worlds, *kind, name, tracks)?;
-        }
-        Ok(())
-    }
-
-    fn tracks(&self, worlds: &ComparedWorlds, kind: ExternKind) -> Result<Tracks, EntryError> {
-        Ok(Tracks {
-            old: by_tracks(self.alloc, self.externs(worlds.component, kind)?)?,
-            new: by_tracks(self.alloc, self.externs(worlds.after, kind)?)?,
-        })
-    }
-
-    // Puts last why an import or an export doesn't fit.
-    fn push_extern(
-        &self,
-        problems: &mut Vec<Problem>,
-        worlds: &ComparedWorlds,
-        kind: ExternKind,
-        name: &str,
-        tracks: &Tracks,
-    ) -> Result<(), EntryError> {
-        let old = extern_of(&tracks.old, name)?;
-        let new = extern_of(&tracks.new, name)?;
-        let both = Both {
-            old,
-            new,
-            before: SourceSide {
-                map: self.before,
-                walk: self.before.at_extern(worlds.before, name, &old),
-            },
-            after: SourceSide {
-                map: self.after,
-                walk: self.after.at_extern(worlds.after, name, &new),
-            },
-        };
-        let direction = match kind {
-            ExternKind::Import => Direction::NewForOld,
-            ExternKind::Export => Direction::OldForNew,
-        };
-        let mut found = Vec::new(self.alloc);
-        self.push_problems(&mut found, &both, direction)?;
-        for problem in found {
-            problems.push(self.under(problem, kind, name)?)?;
-        }
-        Ok(())
-    }
-
-    // What a world imports or exports.
-    fn externs(
-        &self,
-        id: WorldId,
-        kind: ExternKind,
-    ) -> Result<&'s IndexMap<String, ItemKind>, EntryError> {
-        let Some(of) = world(self.types, id) else {
-            return Err(EntryError::Missing);
-        };
-        match kind {
-            ExternKind::Import => Ok(&of.imports),
-            ExternKind::Export => Ok(&of.exports),
-        }
-    }
-
-    // A problem of an import or an export.
-    fn under(&self, problem: Problem, kind: ExternKind, name: &str) -> Result<Problem, AllocError> {
-        let word = match kind {
-            ExternKind::Import => "import",
-            ExternKind::Export => "export",
-        };
-        problem.under(format!(in self.alloc; "{word} `{name}`")?)
-    }
-}
-
-// What is imported or exported under a name, or else under the greatest version on its track.
-fn extern_of(tracks: &NameMap<String, ItemKind>, name: &str) -> Result<ItemKind, EntryError> {
-    match on_track(tracks, name)? {
-        Some(item) => Ok(*item),
-        None => Err(EntryError::Missing),
     }
 }
 
@@ -379,8 +191,8 @@ fn absent(
     Problem::new(alloc, fault, before, after)
 }
 
-// What a check of an item says, with its places.
-fn problem_of(
+/// What a check of an item says, with its places.
+pub(super) fn problem_of(
     alloc: Global,
     both: &Both<'_, '_>,
     direction: Direction,

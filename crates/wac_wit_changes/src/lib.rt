@@ -10,8 +10,11 @@ mod comparing;
 mod packages;
 mod problem;
 mod report;
+mod texts;
 mod tracks;
+mod worlds;
 
 pub use packages::{Read, compare, target_problems};
 pub use problem::{Problem, fault_text, steps_of};
 pub use report::{Added, ComparedItem, PackageReport, Promise, ReportSort};
+pub use texts::{ComparedTexts, TextsError, compare_texts};

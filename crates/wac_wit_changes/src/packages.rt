@@ -1,23 +1,27 @@
 //! Compares packages with older ones.
 
-ghost use Rattle.std.specs.Prelude.{◌≡◌, ◌≢◌, ◌⊎◌, List, [], Contains, IfOk, OnOk, option_map, string_bytes};
+ghost use Rattle.std.specs.Prelude.{◌≡◌, ◌≢◌, ◌↔◌, ◌⊎◌, List, [], Some, All, Contains, IfOk, IsTrue, IsFalse, option_map, string_bytes};
 ghost use Rattle.std.specs.List.{AllZip};
 ghost use Rattle.wac_component.specs.Collection.{Collection};
-ghost use Rattle.wac_component.specs.Growth.{Extends, BeginsWith};
+ghost use Rattle.wac_component.specs.Growth.{Extends};
 ghost use Rattle.wac_wit.specs.declared.packages.WitPackage.{WitPackage};
-ghost use Rattle.wac_wit_changes.specs.Comparing.{IsItemAbout, BeginWithItems, IsReportOfBoth, IsReportOn};
-ghost use Rattle.wac_wit_changes.specs.Sides.{olds_of};
+ghost use Rattle.wac_wit_changes.specs.Comparing.{IsComparedInterface, IsComparedWorld, AreItemsOnPackage, IsReportOfBoth, IsReportOn};
+ghost use Rattle.wac_wit_changes.specs.Sides.{olds_of, IsMove};
+ghost use Rattle.wac_wit_changes.specs.Worlds.{RunsIn};
+ghost use Rattle.wac_wit_changes.specs.declared.report.Promise.{Promise};
+ghost use Rattle.wac_wit_changes.specs.declared.tracks.Counterpart.{Counterpart};
 
-use super::comparing::{ComparedPair, ComparedWorlds, Question};
+use super::comparing::ComparedPair;
 use super::problem::Problem;
 use super::report::{Added, ComparedItem, PackageReport, Promise, ReportSort};
 use super::tracks::{Counterpart, NewPackages, by_tracks, moved_world, on_track};
+use super::worlds::{ComparedWorlds, Question};
 use indexmap::IndexMap;
 use std::alloc::{AllocError, Global};
 use wac_component::{InterfaceId, ItemKind, Types, WorldId};
 use wac_wit::{SourceFile, Wit, WitPackage};
 use wac_wit_entries::{EntryError, interface, sort_of, world};
-use wac_wit_places::{Map, PackageSources, syntax_of};
+use wac_wit_places::{FilePlace, Map, PackageSources, syntax_of};
 use wac_wit_syntax::Document;
 
 /// Packages with the files that they were read from.
@@ -57,7 +61,9 @@ pub fn target_problems(
     types: &Types,
     component: (&[SourceFile], WorldId),
     target: (&[SourceFile], WorldId),
-) -> Result<Vec<Problem>, EntryError> {
+) -> Result<Vec<Problem>, EntryError>
+    ensures { IfOk result (λ ps. (ps.items ≡ []) ↔ RunsIn types.now component.entry.1 target.entry.1) }
+{
     let (from_files, from) = component;
     let (to_files, to) = target;
     let from_syntax = syntax_of(alloc, from_files)?;
@@ -78,7 +84,9 @@ fn world_problems(
     before: &PackageSources<'_>,
     target: (&[SourceFile], &[Document]),
     worlds: &ComparedWorlds,
-) -> Result<Vec<Problem>, EntryError> {
+) -> Result<Vec<Problem>, EntryError>
+    ensures { IfOk result (λ ps. (ps.items ≡ []) ↔ RunsIn types.now worlds.now.component worlds.now.after) }
+{
     let (files, syntax) = target;
     let after = PackageSources::new(alloc, files, syntax)?;
     pair_of(alloc, types, before, &after).world_problems(worlds, Question::Target)
@@ -111,8 +119,8 @@ fn pair_of<'s, 'd>(
 struct Move<'o> {
     old: &'o WitPackage,
     new: Option<Counterpart>,
-    // the worlds that the library is asked about, one for each of the package
-    worlds: Vec<WorldId>,
+    // its worlds with the versions that the new packages have, where those are of another track
+    moved: IndexMap<String, WorldId>,
 }
 
 impl Drop for Move<'_> {
@@ -120,7 +128,7 @@ impl Drop for Move<'_> {
         let Move {
             old: _,
             new: _,
-            worlds: _,
+            moved: _,
         } = self;
     }
 }
@@ -134,6 +142,7 @@ fn moves_of<'o>(
 ) -> Result<Vec<Move<'o>>, EntryError>
     ensures grows { Extends types.old types.new }
     ensures olds { IfOk result (λ ms. olds_of ms.items ≡ old.now.packages.items) }
+    ensures moves { IfOk result (λ ms. All IsMove ms.items) }
 {
     let packages = NewPackages::new(alloc, &new.packages)?;
     let mut moves = Vec::new(alloc);
@@ -153,48 +162,47 @@ fn move_of<'o>(
 ) -> Result<Move<'o>, EntryError>
     ensures grows { Extends types.old types.new }
     ensures old { IfOk result (λ m. m.old.now ≡ old.now) }
+    ensures own { IfOk result IsMove }
 {
     let found = packages.counterpart(alloc, old)?;
-    let is_moved = match found {
-        Some(it) => !it.is_on_track,
-        None => false,
-    };
-    let worlds = if is_moved {
+    let moved = if is_moved(found) {
         moved_worlds(alloc, types, old, new, packages)?
     } else {
-        worlds_in(alloc, old)?
+        IndexMap::new(alloc)
     };
     Ok(Move {
         old,
         new: found,
-        worlds,
+        moved,
     })
 }
 
-// The worlds of a package.
-fn worlds_in(alloc: Global, package: &WitPackage) -> Result<Vec<WorldId>, AllocError> {
-    let mut worlds = Vec::new(alloc);
-    for id in package.worlds.values() {
-        worlds.push(*id)?;
+// Whether the worlds of an old package are compared by names alone.
+fn is_moved(found: Option<Counterpart>) -> bool
+    ensures { (c : Counterpart) → found ≡ Some c → IsTrue c.is_on_track → IsFalse result }
+{
+    match found {
+        Some(it) => !it.is_on_track,
+        None => false,
     }
-    Ok(worlds)
 }
 
 // The worlds of a package with the versions that new packages have.
 fn moved_worlds(
     alloc: Global,
     types: &mut Types,
-    package: &WitPackage,
+    of: &WitPackage,
     new: &Wit,
     packages: &NewPackages,
-) -> Result<Vec<WorldId>, EntryError>
+) -> Result<IndexMap<String, WorldId>, EntryError>
     ensures { Extends types.old types.new }
 {
-    let mut worlds = Vec::new(alloc);
-    for id in package.worlds.values() {
-        worlds.push(moved_world(alloc, types, *id, new, packages)?)?;
+    let mut moved = IndexMap::new(alloc);
+    for (name, id) in &of.worlds {
+        let id = moved_world(alloc, types, *id, new, packages)?;
+        moved.insert(name.clone()?, id)?;
     }
-    Ok(worlds)
+    Ok(moved)
 }
 
 // Compares all packages.
@@ -205,6 +213,7 @@ fn compared(
     new: Read<'_>,
     moves: &[Move<'_>],
 ) -> Result<Vec<PackageReport>, EntryError>
+    requires moves { All IsMove moves.now }
     ensures { IfOk result (λ rs. AllZip (IsReportOn types.now new.entry.wit.now.packages.items) (olds_of moves.now) rs.items) }
 {
     let Read { files, wit } = new;
@@ -222,6 +231,7 @@ fn compared_with(
     new: (&Wit, &[SourceFile], &[Document]),
     moves: &[Move<'_>],
 ) -> Result<Vec<PackageReport>, EntryError>
+    requires moves { All IsMove moves.now }
     ensures { IfOk result (λ rs. AllZip (IsReportOn types.now new.entry.0.now.packages.items) (olds_of moves.now) rs.items) }
 {
     let (wit, files, syntax) = new;
@@ -235,6 +245,7 @@ fn package_reports(
     moves: &[Move<'_>],
     new: &Wit,
 ) -> Result<Vec<PackageReport>, EntryError>
+    requires moves { All IsMove moves.now }
     ensures { IfOk result (λ rs. AllZip (IsReportOn pair.now.types.now new.now.packages.items) (olds_of moves.now) rs.items) }
 {
     let mut reports = Vec::new(pair.alloc);
@@ -250,6 +261,7 @@ fn package_report(
     of: &Move<'_>,
     new: &Wit,
 ) -> Result<PackageReport, EntryError>
+    requires { IsMove of.now }
     ensures { IfOk result (IsReportOn pair.now.types.now new.now.packages.items of.now.old.now) }
 {
     let Some(found) = of.new else {
@@ -300,6 +312,7 @@ fn report_of_both(
     promise: Promise,
 ) -> Result<PackageReport, EntryError>
     requires promise { (promise ≡ Promise.Same) ⊎ (promise ≡ Promise.Other) }
+    requires own { promise ≡ Promise.Same → of.now.moved.entries ≡ [] }
     requires name { string_bytes new.now.name ≡ string_bytes of.now.old.now.name }
     ensures { IfOk result (λ r. IsReportOfBoth pair.now.types.now of.now.old.now new.now r × (string_bytes r.name ≡ string_bytes of.now.old.now.name)) }
 {
@@ -352,10 +365,11 @@ fn compared_items(
     of: &Move<'_>,
     new: &WitPackage,
 ) -> Result<Vec<ComparedItem>, EntryError>
-    ensures { IfOk result (λ items. BeginWithItems pair.now.types.now new.now of.now.old.now.interfaces.entries items.items) }
+    ensures { (p : Promise) → (p ≡ Promise.Same → of.now.moved.entries ≡ []) → IfOk result (λ items. AreItemsOnPackage pair.now.types.now of.now.old.now new.now p items.items) }
 {
     let mut items = compared_interfaces(pair, of.old, new)?;
-    push_worlds(&mut items, pair, of, new)?;
+    let mut worlds = compared_worlds(pair, of, new)?;
+    items.append(&mut worlds)?;
     Ok(items)
 }
 
@@ -365,7 +379,7 @@ fn compared_interfaces(
     old: &WitPackage,
     new: &WitPackage,
 ) -> Result<Vec<ComparedItem>, EntryError>
-    ensures { IfOk result (λ items. AllZip (IsItemAbout pair.now.types.now new.now) old.now.interfaces.entries items.items) }
+    ensures { IfOk result (λ items. AllZip (IsComparedInterface pair.now.types.now new.now) old.now.interfaces.entries items.items) }
 {
     let mut items = Vec::new(pair.alloc);
     for (name, id) in &old.interfaces {
@@ -374,20 +388,30 @@ fn compared_interfaces(
     Ok(items)
 }
 
-// Puts last what became of the worlds of an old package.
-fn push_worlds(
-    items: &mut Vec<ComparedItem>,
+// What became of the worlds of an old package.
+fn compared_worlds(
     pair: &ComparedPair<'_, '_>,
     of: &Move<'_>,
     new: &WitPackage,
-) -> Result<(), EntryError>
-    ensures { OnOk result (BeginsWith items.new.items items.old.items) }
+) -> Result<Vec<ComparedItem>, EntryError>
+    ensures { (p : Promise) → (p ≡ Promise.Same → of.now.moved.entries ≡ []) → IfOk result (λ items. AllZip (IsComparedWorld pair.now.types.now new.now p) of.now.old.now.worlds.entries items.items) }
 {
-    for ((name, id), component) in of.old.worlds.iter().zip(&of.worlds) {
-        let new = new.worlds.get(name.as_str()).copied();
-        items.push(compared_world(pair, name, (*id, *component), new)?)?;
+    let mut items = Vec::new(pair.alloc);
+    for (name, id) in &of.old.worlds {
+        let component = component_of(of, name, *id);
+        items.push(compared_world(pair, name, (*id, component), new)?)?;
     }
-    Ok(())
+    Ok(items)
+}
+
+// The world that the library is asked about.
+fn component_of(of: &Move<'_>, name: &str, id: WorldId) -> WorldId
+    ensures { of.now.moved.entries ≡ [] → result ≡ id }
+{
+    match of.moved.get(name) {
+        Some(moved) => *moved,
+        None => id,
+    }
 }
 
 // What became of an old interface.
@@ -397,41 +421,78 @@ fn compared_interface(
     old: InterfaceId,
     beside: &WitPackage,
 ) -> Result<ComparedItem, EntryError>
-    ensures { IfOk result (IsItemAbout pair.now.types.now beside.now (name.now, old)) }
+    ensures { IfOk result (IsComparedInterface pair.now.types.now beside.now (name.now, old)) }
 {
+    let sort = ReportSort::Interface;
     match beside.interfaces.get(name.as_str()) {
         Some(new) => Ok(ComparedItem {
-            sort: ReportSort::Interface,
+            sort,
             name: name.clone()?,
             problems: pair.interface_problems(old, *new)?,
             added: added_exports(pair, old, *new)?,
         }),
-        None => Ok(gone_interface(pair, name, old)?),
+        None => {
+            let place = match pair.before.at_interface(old) {
+                Some(walk) => Some(walk.place),
+                None => None,
+            };
+            Ok(gone_item(pair.alloc, sort, name, place)?)
+        }
     }
 }
 
-// What is said of an interface that the new package doesn't have.
-fn gone_interface(
+// What became of an old world: its id, and that of the world that the library is asked about.
+fn compared_world(
     pair: &ComparedPair<'_, '_>,
     name: &String,
-    old: InterfaceId,
+    old: (WorldId, WorldId),
+    beside: &WitPackage,
+) -> Result<ComparedItem, EntryError>
+    ensures { (p : Promise) → (p ≡ Promise.Same → old.1 ≡ old.0) → IfOk result (IsComparedWorld pair.now.types.now beside.now p (name.now, old.0)) }
+{
+    let sort = ReportSort::World;
+    let (before, component) = old;
+    match beside.worlds.get(name.as_str()) {
+        Some(new) => {
+            let worlds = ComparedWorlds {
+                component,
+                before,
+                after: *new,
+            };
+            Ok(ComparedItem {
+                sort,
+                name: name.clone()?,
+                problems: pair.world_problems(&worlds, Question::Change)?,
+                added: added_externs(pair, component, *new)?,
+            })
+        }
+        None => {
+            let place = pair.before.world_place(before);
+            Ok(gone_item(pair.alloc, sort, name, place)?)
+        }
+    }
+}
+
+// What is said of an interface or a world that the new package doesn't have.
+fn gone_item(
+    alloc: Global,
+    sort: ReportSort,
+    name: &String,
+    place: Option<FilePlace>,
 ) -> Result<ComparedItem, AllocError>
-    ensures sort { IfOk result (λ it. it.sort ≡ ReportSort.Interface) }
+    ensures sort { IfOk result (λ it. it.sort ≡ sort) }
     ensures name { IfOk result (λ it. string_bytes it.name ≡ string_bytes name.now) }
     ensures problems { IfOk result (λ it. it.problems.items ≢ []) }
 {
-    let fault = String::from_str(pair.alloc, "the interface is gone");
-    let place = match pair.before.at_interface(old) {
-        Some(walk) => Some(walk.place),
-        None => None,
-    };
-    let mut problems = Vec::new(pair.alloc);
-    problems.push(Problem::new(pair.alloc, fault, place, None)?)?;
+    let word = sort.word();
+    let fault = format!(in alloc; "the {word} is gone");
+    let mut problems = Vec::new(alloc);
+    problems.push(Problem::new(alloc, fault, place, None)?)?;
     Ok(ComparedItem {
-        sort: ReportSort::Interface,
+        sort,
         name: name.clone()?,
         problems,
-        added: Vec::new(pair.alloc),
+        added: Vec::new(alloc),
     })
 }
 
@@ -449,41 +510,20 @@ fn added_exports(
     Ok(added)
 }
 
-fn compared_world(
+// Which imports and exports of a world are new.
+fn added_externs(
     pair: &ComparedPair<'_, '_>,
-    name: &String,
-    old: (WorldId, WorldId),
-    new: Option<WorldId>,
-) -> Result<ComparedItem, EntryError> {
-    let alloc = pair.alloc;
-    let (old, component) = old;
-    let mut compared = ComparedItem {
-        sort: ReportSort::World,
-        name: name.clone()?,
-        problems: Vec::new(alloc),
-        added: Vec::new(alloc),
-    };
-    let Some(new) = new else {
-        let fault = String::from_str(alloc, "the world is gone");
-        let place = pair.before.world_place(old);
-        compared
-            .problems
-            .push(Problem::new(alloc, fault, place, None)?)?;
-        return Ok(compared);
-    };
-    let worlds = ComparedWorlds {
-        component,
-        before: old,
-        after: new,
-    };
-    compared.problems = pair.world_problems(&worlds, Question::Change)?;
-    let (Some(old), Some(new)) = (world(pair.types, component), world(pair.types, new)) else {
+    old: WorldId,
+    new: WorldId,
+) -> Result<Vec<String>, EntryError> {
+    let (Some(old), Some(new)) = (world(pair.types, old), world(pair.types, new)) else {
         return Err(EntryError::Missing);
     };
-    let added = &mut compared.added;
-    push_new_items(alloc, added, "import of the ", &old.imports, &new.imports)?;
-    push_new_items(alloc, added, "export of the ", &old.exports, &new.exports)?;
-    Ok(compared)
+    let mut added = Vec::new(pair.alloc);
+    let (imports, exports) = ("import of the ", "export of the ");
+    push_new_items(pair.alloc, &mut added, imports, &old.imports, &new.imports)?;
+    push_new_items(pair.alloc, &mut added, exports, &old.exports, &new.exports)?;
+    Ok(added)
 }
 
 // Puts last what items are new, in words.

@@ -44,11 +44,10 @@ impl Problem {
         })
     }
 
-    /// The same behind one more step.
-    pub(crate) fn under(self, step: String) -> Result<Problem, AllocError> {
-        let mut problem = self;
-        problem.path.insert(0, step)?;
-        Ok(problem)
+    /// Puts it behind one more step.
+    pub(crate) fn put_under(&mut self, step: String) -> Result<(), AllocError> {
+        self.path.insert(0, step)?;
+        Ok(())
     }
 
     /// The path and what is wrong, on one line.

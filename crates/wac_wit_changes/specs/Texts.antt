@@ -1,0 +1,102 @@
+-- What a comparison of packages says of the texts that these are read from.
+use Rattle.std.specs.Prelude.{◌≡◌, ◌≢◌, ◌↔◌, ◌⊎◌, ◌++◌, List, [], None, Some, Contains, option_map, string_bytes, String}
+use Rattle.std.specs.HashMap.{get_by_text, keys}
+use Rattle.std.specs.List.{AllZip}
+use Rattle.std.specs.declared.alloc.Global.{Global}
+use Rattle.wac_component.specs.Collection.{Collection}
+use Rattle.wac_component.specs.Id.{Id}
+use Rattle.wac_component.specs.Tree.{item_tree}
+use Rattle.wac_component.specs.declared.items.ItemKind.TheVariants.{Component}
+use Rattle.wac_types.specs.ItemTree.{ItemTree}
+use Rattle.wac_types.specs.Order.{Fits}
+use Rattle.wac_types.specs.Text.{Text}
+use Rattle.wac_wit.specs.Parsed.{AreParsed}
+use Rattle.wac_wit.specs.declared.packages.WitPackage.{WitPackage}
+use Rattle.wac_wit_names.specs.declared.features.Features.{Features}
+use Rattle.wac_wit_names.specs.declared.sources.SourceFile.{SourceFile}
+use Rattle.wac_wit_syntax.specs.declared.tree.Document.{Document}
+use Rattle.wac_wit_syntax.specs.declared.tree.InterfaceDecl.{InterfaceDecl}
+use Rattle.wac_wit_validation.specs.Interfaces.{IsInterfaceTree}
+use Rattle.wac_wit_validation.specs.Placed.{PlacedWorld}
+use Rattle.wac_wit_validation.specs.Validated.{IsRenamingWorld, IsWorldNamed, package_text}
+use Rattle.wac_wit_validation.specs.WitSources.{HasInterface, ScopeSyntax, WitSources, sources_of}
+use Rattle.wac_wit_validation.specs.Worlds.{IsWorldTree}
+use Rattle.wac_wit_changes.specs.Comparing.{HasTarget, IsReportOfOne}
+use Rattle.wac_wit_changes.specs.declared.report.ComparedItem.{ComparedItem}
+use Rattle.wac_wit_changes.specs.declared.report.PackageReport.{PackageReport}
+use Rattle.wac_wit_changes.specs.declared.report.Promise.{Promise}
+use Rattle.wac_wit_changes.specs.declared.report.Promise.TheVariants.{Same, Other}
+use Rattle.wac_wit_changes.specs.declared.report.ReportSort.TheVariants.{Interface, World}
+use Rattle.wac_wit_changes.specs.declared.texts.ComparedTexts.{ComparedTexts}
+
+-- a package of this one's name and version has an interface of this name in what is read, and its text denotes the tree
+pub record DenotesInterface (of : WitSources) (p : WitPackage) (name : Text) (tree : ItemTree) : Type 0 where
+  pub scope : ScopeSyntax
+  pub decl : InterfaceDecl
+  pub has : HasInterface of scope name decl
+  pub of_package : package_text scope.package ≡ string_bytes p.name
+  pub of_version : scope.package.version ≡ option_map string_bytes p.version
+  pub is_tree : IsInterfaceTree of scope decl.items.items tree
+
+-- what the item says of an old interface of this name, whose text denotes the tree
+pub data IsTextVerdict (news : WitSources) (new : WitPackage) (name : Text) (tree : ItemTree) (item : ComparedItem) : Type 0 where
+  -- the new package has none of this name, and there is a problem
+  gone : get_by_text new.interfaces name ≡ None → item.problems.items ≢ [] → IsTextVerdict news new name tree item
+  -- the new text denotes a tree, and there is no problem exactly where that fits where the old one is asked for
+  beside : (t : ItemTree) → DenotesInterface news new name t → (item.problems.items ≡ []) ↔ Fits t tree → IsTextVerdict news new name tree item
+
+-- the item is about an interface of an old package
+pub record IsTextItem (olds news : WitSources) (old new : WitPackage) (name : String Global) (item : ComparedItem) : Type 0 where
+  pub sort : item.sort ≡ Interface
+  pub same : string_bytes item.name ≡ string_bytes name
+  pub tree : ItemTree
+  pub denoted : DenotesInterface olds old (string_bytes name) tree
+  pub verdict : IsTextVerdict news new (string_bytes name) tree item
+
+-- a package of this one's name and version has a world of this name in what is read, and its text denotes the tree
+pub record DenotesWorld (of : WitSources) (p : WitPackage) (name : Text) (tree : ItemTree) : Type 0 where
+  pub written : PlacedWorld
+  pub is : IsWorldNamed of (string_bytes p.name) (option_map string_bytes p.version) name written
+  pub is_tree : IsWorldTree of written tree
+
+-- the world does, unless it includes another one under new names
+abbrev pub IsWorldTold : WitSources → WitPackage → Text → ItemTree → Type 0
+IsWorldTold of p name tree = DenotesWorld of p name tree ⊎ IsRenamingWorld of (string_bytes p.name) (option_map string_bytes p.version) name
+
+-- the item is about a world of an old package, whose entry has the tree that its text denotes, and so has that of the new
+-- package's world of this name: there is no problem exactly where there is one, and the component runs in it. That is a
+-- component of the old world itself where nothing may break
+pub record IsTextWorld (c : Collection) (olds news : WitSources) (old new : WitPackage) (p : Promise) (e : String Global × Id) (item : ComparedItem) : Type 0 where
+  pub sort : item.sort ≡ World
+  pub same : string_bytes item.name ≡ string_bytes e.0
+  pub told : IsWorldTold olds old (string_bytes e.0) (item_tree c (Component e.1))
+  pub told_beside : (id : Id) → get_by_text new.worlds (string_bytes e.0) ≡ Some id → IsWorldTold news new (string_bytes e.0) (item_tree c (Component id))
+  pub component : Id
+  pub own : p ≡ Same → component ≡ e.1
+  pub problems : (item.problems.items ≡ []) ↔ HasTarget c new (string_bytes e.0) component
+
+-- the report is about an old package and a new one of its name: an item about each interface of the old one, in their
+-- order, and then one about each world, in theirs
+pub record IsTextReportOfBoth (c : Collection) (olds news : WitSources) (old new : WitPackage) (r : PackageReport) : Type 0 where
+  pub same : string_bytes new.name ≡ string_bytes old.name
+  pub version : option_map string_bytes r.new_version ≡ option_map string_bytes new.version
+  pub promise : (r.promise ≡ Same) ⊎ (r.promise ≡ Other)
+  pub firsts : List ComparedItem
+  pub about : AllZip (IsTextItem olds news old new) (keys old.interfaces) firsts
+  pub rest : List ComparedItem
+  pub worlds : AllZip (IsTextWorld c olds news old new r.promise) old.worlds.entries rest
+  pub all : r.compared.items ≡ firsts ++ rest
+
+-- the report is about an old package, alone or beside one of the new packages
+pub record IsTextReportOn (c : Collection) (olds news : WitSources) (others : List WitPackage) (old : WitPackage) (r : PackageReport) : Type 0 where
+  pub name : string_bytes r.name ≡ string_bytes old.name
+  pub about : IsReportOfOne old r ⊎ ((new : WitPackage) × Contains others new × IsTextReportOfBoth c olds news old new r)
+
+-- what became of the packages of old files, beside those of new files: each file's text says its tree, and there is a
+-- report on each old package, in their order, about what these trees denote
+pub record ComparesTexts (old new : List SourceFile) (features : Features) (t : ComparedTexts) : Type 0 where
+  pub old_trees : List Document
+  pub new_trees : List Document
+  pub old_parsed : AreParsed old old_trees
+  pub new_parsed : AreParsed new new_trees
+  pub each : AllZip (IsTextReportOn t.types (sources_of old old_trees features) (sources_of new new_trees features) t.new.packages.items) t.old.packages.items t.reports.items
