@@ -10,7 +10,7 @@ use Rattle.wac_wit_names.specs.declared.sources.SourceFile.{SourceFile}
 use Rattle.wac_wit_syntax.specs.declared.tree.Document.{Document}
 use Rattle.wac_wit_validation.specs.WorldChecking.{KnowsWorlds}
 use Rattle.wac_wit_validation.specs.WitSources.{WitSources, sources_of}
-use Rattle.wac_wit_validation.specs.Validated.{IsInterfaceOf, IsListedWorld}
+use Rattle.wac_wit_validation.specs.Validated.{IsInterfaceOf, IsWorldOf}
 use Rattle.wac_wit_validation.specs.declared.validator.Validator.{Validator}
 use Rattle.wac_wit.specs.Parsed.{AreParsed}
 use Rattle.wac_wit.specs.declared.packages.Wit.{Wit}
@@ -24,10 +24,10 @@ version_bytes p = option_map string_bytes p.version
 abbrev pub AreReadInterfaces : WitSources → Collection → WitPackage → Type 0
 AreReadInterfaces of c p = (n : String Global) (id : Id) → Contains p.interfaces.entries (n, id) → IsInterfaceOf of c (string_bytes p.name) (version_bytes p) (string_bytes n) id
 
--- so is each world, unless it includes another one under new names
+-- so is each world
 abbrev pub AreReadWorlds : WitSources → Collection → WitPackage → Type 0
 AreReadWorlds of c p = (n : String Global) (id : Id) → Contains p.worlds.entries (n, id)
-    → IsListedWorld of c (string_bytes p.name) (version_bytes p) (string_bytes n) id
+    → IsWorldOf of c (string_bytes p.name) (version_bytes p) (string_bytes n) id
 
 pub record IsReadPackage (of : WitSources) (c : Collection) (p : WitPackage) : Type 0 where
   pub interfaces : AreReadInterfaces of c p

@@ -19,11 +19,11 @@ use Rattle.wac_wit.specs.declared.packages.WitPackage.{WitPackage}
 use Rattle.wac_wit_names.specs.declared.features.Features.{Features}
 use Rattle.wac_wit_names.specs.declared.sources.SourceFile.{SourceFile}
 use Rattle.wac_wit_validation.specs.Interfaces.{IsInterfaceTree}
-use Rattle.wac_wit_validation.specs.Validated.{IsInterfaceOf, IsListedWorld}
+use Rattle.wac_wit_validation.specs.Validated.{IsInterfaceOf, IsWorldOf}
 use Rattle.wac_wit_validation.specs.WitSources.{WitSources, sources_of}
 use Rattle.wac_wit_validation.specs.Worlds.{IsWorldTree}
 use Rattle.wac_wit_changes.specs.Comparing.{HasFitting, IsComparedInterface, IsComparedWorld, IsReportOfBoth, IsReportOfOne, IsReportOn}
-use Rattle.wac_wit_changes.specs.Texts.{ComparesTexts, DenotesInterface, IsTextItem, IsTextReportOfBoth, IsTextReportOn, IsTextVerdict, IsTextWorld, IsWorldTold, beside, gone}
+use Rattle.wac_wit_changes.specs.Texts.{ComparesTexts, DenotesInterface, DenotesWorld, IsTextItem, IsTextReportOfBoth, IsTextReportOn, IsTextVerdict, IsTextWorld, beside, gone}
 use Rattle.wac_wit_changes.specs.declared.report.ComparedItem.{ComparedItem}
 use Rattle.wac_wit_changes.specs.declared.report.PackageReport.{PackageReport}
 use Rattle.wac_wit_changes.specs.declared.report.Promise.{Promise}
@@ -73,9 +73,8 @@ module _ (c d : Collection) (grows : Extends c d) where
   }
 
   -- so is a world
-  world_still : (of : WitSources) (p : WitPackage) (n : Text) (id : Id) → IsListedWorld of c (string_bytes p.name) (option_map string_bytes p.version) n id → IsWorldTold of p n (item_tree d (Component id))
-  world_still of p n id (inl w) = inl (record { written = w.written; is = w.is; is_tree = subst (IsWorldTree of w.written) (sym (grows.trees (Component id) (w.stands, tt))) w.tree })
-  world_still of p n id (inr renames) = inr renames
+  world_still : (of : WitSources) (p : WitPackage) (n : Text) (id : Id) → IsWorldOf of c (string_bytes p.name) (option_map string_bytes p.version) n id → DenotesWorld of p n (item_tree d (Component id))
+  world_still of p n id w = record { written = w.written; is = w.is; is_tree = subst (IsWorldTree of w.written) (sym (grows.trees (Component id) (w.stands, tt))) w.tree }
 
   module _ (olds news : WitSources) (old new : WitPackage) (e : String Global × Id) (item : ComparedItem) (olds_read : IsReadPackage olds c old) (news_read : IsReadPackage news c new) where
     -- where the new package has an interface of the name
@@ -105,10 +104,10 @@ module _ (c d : Collection) (grows : Extends c d) where
     text_world p among about = record {
       sort = about.sort;
       same = about.name;
-      told = world_still olds old (string_bytes e.0) e.1 (olds_read.worlds e.0 e.1 among);
-      told_beside = λ id found.
+      denoted = world_still olds old (string_bytes e.0) e.1 (olds_read.worlds e.0 e.1 among);
+      denoted_beside = λ id found.
           let entry = found_entry new.worlds.entries (string_bytes e.0) id found in
-          subst (λ (t : Text). IsWorldTold news new t (item_tree d (Component id))) entry.named (world_still news new (string_bytes entry.key) id (news_read.worlds entry.key id entry.among));
+          subst (λ (t : Text). DenotesWorld news new t (item_tree d (Component id))) entry.named (world_still news new (string_bytes entry.key) id (news_read.worlds entry.key id entry.among));
       component = about.component;
       own = about.own;
       problems = about.problems;

@@ -18,7 +18,7 @@ use Rattle.wac_wit_syntax.specs.declared.tree.Document.{Document}
 use Rattle.wac_wit_syntax.specs.declared.tree.InterfaceDecl.{InterfaceDecl}
 use Rattle.wac_wit_validation.specs.Interfaces.{IsInterfaceTree}
 use Rattle.wac_wit_validation.specs.Placed.{PlacedWorld}
-use Rattle.wac_wit_validation.specs.Validated.{IsRenamingWorld, IsWorldNamed, package_text}
+use Rattle.wac_wit_validation.specs.Validated.{IsWorldNamed, package_text}
 use Rattle.wac_wit_validation.specs.WitSources.{HasInterface, ScopeSyntax, WitSources, sources_of}
 use Rattle.wac_wit_validation.specs.Worlds.{IsWorldTree}
 use Rattle.wac_wit_changes.specs.Comparing.{HasTarget, IsReportOfOne}
@@ -59,18 +59,14 @@ pub record DenotesWorld (of : WitSources) (p : WitPackage) (name : Text) (tree :
   pub is : IsWorldNamed of (string_bytes p.name) (option_map string_bytes p.version) name written
   pub is_tree : IsWorldTree of written tree
 
--- the world does, unless it includes another one under new names
-abbrev pub IsWorldTold : WitSources → WitPackage → Text → ItemTree → Type 0
-IsWorldTold of p name tree = DenotesWorld of p name tree ⊎ IsRenamingWorld of (string_bytes p.name) (option_map string_bytes p.version) name
-
 -- the item is about a world of an old package, whose entry has the tree that its text denotes, and so has that of the new
 -- package's world of this name: there is no problem exactly where there is one, and the component runs in it. That is a
 -- component of the old world itself where nothing may break
 pub record IsTextWorld (c : Collection) (olds news : WitSources) (old new : WitPackage) (p : Promise) (e : String Global × Id) (item : ComparedItem) : Type 0 where
   pub sort : item.sort ≡ World
   pub same : string_bytes item.name ≡ string_bytes e.0
-  pub told : IsWorldTold olds old (string_bytes e.0) (item_tree c (Component e.1))
-  pub told_beside : (id : Id) → get_by_text new.worlds (string_bytes e.0) ≡ Some id → IsWorldTold news new (string_bytes e.0) (item_tree c (Component id))
+  pub denoted : DenotesWorld olds old (string_bytes e.0) (item_tree c (Component e.1))
+  pub denoted_beside : (id : Id) → get_by_text new.worlds (string_bytes e.0) ≡ Some id → DenotesWorld news new (string_bytes e.0) (item_tree c (Component id))
   pub component : Id
   pub own : p ≡ Same → component ≡ e.1
   pub problems : (item.problems.items ≡ []) ↔ HasTarget c new (string_bytes e.0) component

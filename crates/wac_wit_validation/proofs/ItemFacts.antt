@@ -11,12 +11,13 @@ use Rattle.wac_model.specs.ValueTree.{FuncTree}
 use Rattle.wac_component.proofs.Among.{Contains-cases, Contains-first, Contains-later}
 use Rattle.wac_component.specs.Collection.{Collection}
 use Rattle.wac_component.specs.declared.items.ItemKind.{ItemKind}
+use Rattle.wac_component.specs.declared.items.ItemKind.TheVariants.{Func, «Type» as OfType}
 use Rattle.wac_wit_syntax.specs.declared.tree.FuncItem.{FuncItem}
 use Rattle.wac_wit_syntax.specs.declared.tree.InterfaceItem.{InterfaceItem}
 use Rattle.wac_wit_syntax.specs.declared.tree.InterfaceItem.TheVariants as inside
 use Rattle.wac_wit_syntax.specs.declared.tree.TypeItem.{TypeItem}
 use Rattle.wac_wit_syntax.specs.declared.tree.UseItem.{UseItem}
-use Rattle.wac_wit_validation.specs.Checking.{AreExportsOf, HasItem, IsRepresented, IsExportAt, MarksExports, Offers, named_items}
+use Rattle.wac_wit_validation.specs.Checking.{AreExportsOf, HasFuncItem, HasItem, HasTypeItem, IsRepresented, IsExportAt, MarksExports, Offers, named_items}
 use Rattle.wac_wit_validation.specs.Denoted.{Denoted, NamesType, Setting, defined, funcs_in, interface_setting, types_in, used, uses_in}
 use Rattle.wac_wit_validation.specs.Functions.{HasMethod, of_resource}
 use Rattle.wac_wit_validation.specs.Interfaces.{HasExportOf, a_func, a_method, a_type}
@@ -73,19 +74,26 @@ offered_items of w is (inside.Use u) among = use_back u is among
 offered_items of w is (inside.Type t) among = type_back t is among
 offered_items of w is (inside.Func f) among = func_back f is among
 
-module _ (s : Setting) (es : List (Text × ItemKind)) (covers : (x : InterfaceItem) → Offers s x → IsRepresented s.sources es x) where
-  type_named : (n : Text) (m : Denoted) → NamesType s n m → HasItem es n
-  type_named n m (defined t among there is d) = subst (HasItem es) is (covers (inside.Type t) among there).0
-  type_named n m (used u r d among there within given leads has from) = subst (HasItem es) given (covers (inside.Use u) among there r within)
+-- a type or a function that has a name is an item that does
+pub type_has_item : (es : List (Text × ItemKind)) (n : Text) → HasTypeItem es n → HasItem es n
+type_has_item es n has = record { kind = OfType has.is; among = has.among }
 
-  method_named : (n : Text) (f : FuncTree) → HasMethod s n f → HasItem es n
+pub func_has_item : (es : List (Text × ItemKind)) (n : Text) → HasFuncItem es n → HasItem es n
+func_has_item es n has = record { kind = Func has.id; among = has.among }
+
+module _ (s : Setting) (es : List (Text × ItemKind)) (covers : (x : InterfaceItem) → Offers s x → IsRepresented s es x) where
+  pub type_named : (n : Text) (m : Denoted) → NamesType s n m → HasTypeItem es n
+  type_named n m (defined t among there is d) = subst (HasTypeItem es) is (covers (inside.Type t) among there).0
+  type_named n m (used u r d among there within given leads has from) = subst (HasTypeItem es) given (covers (inside.Use u) among there r within)
+
+  pub method_named : (n : Text) (f : FuncTree) → HasMethod s n f → HasFuncItem es n
   method_named n f (of_resource t ms m among there is within shown func) = (covers (inside.Type t) among there).1 ms is m within shown
 
   -- whatever the setting exports has an item
   pub export_named : (n : Text) (x : ItemTree) → HasExportOf s n x → HasItem es n
-  export_named n x (a_type {m = m} named) = type_named n m named
+  export_named n x (a_type {m = m} named) = type_has_item es n (type_named n m named)
   export_named n x (a_func f among there is) = covers (inside.Func f) among there
-  export_named n x (a_method {g = f} of) = method_named n f of
+  export_named n x (a_method {g = f} of) = func_has_item es n (method_named n f of)
 
 module _ (s : Setting) (c : Collection) (es : List (Text × ItemKind)) (each : (i : ℕ) → i < length es → IsExportAt s c es i) where
   -- each type is named, since those before it are
@@ -99,11 +107,13 @@ module _ (s : Setting) (c : Collection) (es : List (Text × ItemKind)) (each : (
 
 -- where all were marked, and each item has an export, the exports are those of the setting
 pub all_exported : (s : Setting) (names : NamedTypes) (a b : ExportMarks) → length a.seen.items ≡ length names.items.now.entries → ((i : ℕ) → slice_get a.seen.items i ≡ Some true → ⊥) → MarksExports s names a b
-    → ((i : ℕ) → i < length b.seen.items → slice_get b.seen.items i ≡ Some true) → ((x : InterfaceItem) → Offers s x → IsRepresented s.sources (named_items names) x) → AreExportsOf s names.types.now (named_items names)
+    → ((i : ℕ) → i < length b.seen.items → slice_get b.seen.items i ≡ Some true) → ((x : InterfaceItem) → Offers s x → IsRepresented s (named_items names) x) → AreExportsOf s names.types.now (named_items names)
 all_exported s names a b even none marks done covers = record {
   named = exports_named s names.types.now (named_items names) each (length (named_items names));
   each = λ e among. (each among.0 among.1 e (slice_get-get_or (named_items names) among.0 e among.1 ∙ ap (λ (x : Text × ItemKind). Some x) among.2) (exports_named s names.types.now (named_items names) each among.0)).0;
   all = export_named s (named_items names) covers;
+  types = type_named s (named_items names) covers;
+  methods = method_named s (named_items names) covers;
 }
   where
     each : (i : ℕ) → i < length (named_items names) → IsExportAt s names.types.now (named_items names) i

@@ -12,5 +12,6 @@ pub mod ScopeFacts
 pub mod WorldFacts
 pub mod WorldWhole
 pub mod AmbiguityFacts
+pub mod LayerFacts
 pub mod OneMeaning
 pub mod OnceFacts

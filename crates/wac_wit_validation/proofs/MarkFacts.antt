@@ -12,7 +12,7 @@ use Rattle.wac_component.specs.declared.items.ItemKind.{ItemKind}
 use Rattle.wac_component.specs.declared.items.ItemKind.TheVariants.{«Type» as OfType}
 use Rattle.wac_component.specs.declared.items.Type.{«Type» as TypeOf}
 use Rattle.wac_component.specs.declared.items.Type.TheVariants.{Resource as TypeResource, Value as TypeValue}
-use Rattle.wac_wit_validation.specs.Checking.{HasItem, IsExportAt, IsFuncItem, MarksExports, named_items}
+use Rattle.wac_wit_validation.specs.Checking.{HasFuncItem, HasItem, HasTypeItem, IsExportAt, IsFuncItem, MarksExports, named_items}
 use Rattle.wac_wit_validation.specs.Denoted.{Setting}
 use Rattle.wac_wit_validation.specs.Interfaces.{HasExportOf, a_type}
 use Rattle.wac_wit_validation.specs.Reading.{TypesAreNamed, IsItemNamed, IsTypeNamed, type_meaning}
@@ -49,6 +49,12 @@ among_at xs i x below at = (i, below, sym at)
 
 pub has_item_at : (es : List (Text × ItemKind)) (i : ℕ) (n : Text) (k : ItemKind) → slice_get es i ≡ Some (n, k) → HasItem es n
 has_item_at es i n k at = record { kind = k; among = (i, slice_get_within es i (n, k) at, get_or_from_slice_get es i (n, k) (n, k) at) }
+
+pub has_type_at : (es : List (Text × ItemKind)) (i : ℕ) (n : Text) (t : TypeOf) → slice_get es i ≡ Some (n, OfType t) → HasTypeItem es n
+has_type_at es i n t at = record { is = t; among = (i, slice_get_within es i (n, OfType t) at, get_or_from_slice_get es i (n, OfType t) (n, OfType t) at) }
+
+pub has_func_at : (c : Collection) (P : FuncTree → Type 0) (es : List (Text × ItemKind)) (i : ℕ) (n : Text) (k : ItemKind) → slice_get es i ≡ Some (n, k) → IsFuncItem c k P → HasFuncItem es n
+has_func_at c P es i n k at is = record { id = is.id; among = subst (λ (o : ItemKind). Contains es (n, o)) is.is (i, slice_get_within es i (n, k) at, get_or_from_slice_get es i (n, k) (n, k) at) }
 
 module _ (s : Setting) (names : NamedTypes) where
   pub marks_none : (p : ExportMarks) → MarksExports s names p p

@@ -1,12 +1,12 @@
 -- Names among items.
-use Rattle.std.proofs.Common.{IfSome, ◌≡◌, ℕ, ◌<◌, Bor, List, Option, Some, sym, subst, ◌∙◌, ap}
+use Rattle.std.proofs.Common.{IfSome, ◌≡◌, ℕ, ◌<◌, Bor, List, [], Option, Some, None, sym, subst, ◌∙◌, ap}
 use Rattle.std.specs.Prelude.{String, string_bytes, slice_get}
 use Rattle.std.specs.Map.{lookup_key}
 use Rattle.std.specs.Option.{option_map}
 use Rattle.std.specs.Str.{bytes_eq}
 use Rattle.std.specs.declared.alloc.Global.{Global}
 use Rattle.std.proofs.lemmas.Map.Made.{lookup_key_passes}
-use Rattle.std.proofs.lemmas.Option.{slice_get-map}
+use Rattle.std.proofs.lemmas.Option.{same_Some, slice_get-map}
 use Rattle.std.proofs.lemmas.Slice.Eq.{bytes_eq-Decides}
 use Rattle.wac_model.specs.Text.{Text}
 use Rattle.wac_component.specs.Collection.{Collection}
@@ -14,7 +14,7 @@ use Rattle.wac_component.specs.Content.{named}
 use Rattle.wac_component.specs.declared.items.ItemKind.{ItemKind}
 use Rattle.wac_wit_validation.specs.Checking.{named_items}
 use Rattle.wac_wit_validation.specs.Denoted.{Setting}
-use Rattle.wac_wit_validation.specs.Reading.{TypesAreNamed, IsItemNamed}
+use Rattle.wac_wit_validation.specs.Reading.{TypesAreNamed, IsItemNamed, Renames}
 use Rattle.wac_wit_validation.specs.declared.names.NamedTypes.{NamedTypes}
 
 -- the key that is found under a text is that text
@@ -41,3 +41,7 @@ item_at_index names i k kind n at is = let here = named_at names.items.now.entri
 -- what is told of a value, if there is one
 pub some_told : {A : Type 0} (o : Option A) (x : A) (P : A → Type 0) → o ≡ Some x → IfSome o P → P x
 some_told o x P is told = let both = subst (λ q. IfSome q P) is told in both
+
+-- where no names become others, they are renamed by nothing
+pub Renames-none : (names : NamedTypes) → names.new_names ≡ None → Renames names []
+Renames-none names none n m at = same_Some n m (rw none at at)

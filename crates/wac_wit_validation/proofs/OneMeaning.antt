@@ -19,7 +19,7 @@ use Rattle.wac_wit_syntax.specs.declared.tree.TypeExpr.TheVariants as ty
 use Rattle.wac_wit_syntax.specs.declared.tree.TypeExpr.TheViews.{out-TypeExpr, out-roll-TypeExpr}
 use Rattle.wac_wit_syntax.specs.declared.tree.TypeItem.{TypeItem}
 use Rattle.wac_wit_syntax.specs.declared.tree.UseItem.{UseItem}
-use Rattle.wac_wit_validation.specs.Denoted.{Denoted, value_type, resource_type, Setting, NamesType, defined, used, IsDefined, another_name, alias, a_record, a_variant, some_flags, an_enum, a_resource, IsValue, a_primitive, name, handle, owned, borrowed, a_list, fixed_list, an_option, a_result, a_tuple, a_map, a_future, a_stream, IsOptional, nothing, something, AreValuesOf, no_values, more_values, AreFieldsOf, no_fields, more_fields, AreCasesOf, no_cases, bare, with_type, field_names, interface_setting}
+use Rattle.wac_wit_validation.specs.Denoted.{Denoted, value_type, resource_type, Setting, NamesType, defined, used, IsDefined, another_name, alias, a_record, a_variant, some_flags, an_enum, a_resource, IsValue, a_primitive, name, handle, owned, borrowed, a_list, fixed_list, an_option, a_result, a_tuple, a_map, a_future, a_stream, IsOptional, nothing, something, AreValuesOf, no_values, more_values, AreFieldsOf, no_fields, more_fields, AreCasesOf, no_cases, bare, with_type, field_names, interface_setting, type_name}
 use Rattle.wac_wit_validation.specs.OneMeaning.{AllGiveOnce, GivesOnce, GivesUse, HaveOneMeaning}
 use Rattle.wac_wit_validation.specs.Placed.{IsUnambiguous, PlacedInterface}
 use Rattle.wac_wit_validation.specs.WitSources.{HasInterface, PathLeadsTo, ScopeSyntax, WitSources, ident_text}
@@ -109,7 +109,7 @@ DefinedBy s t (def.Record fs) k = (vs : List ValueTree) × AreFieldsOf s fs.item
 DefinedBy s t (def.Variant of) k = (cs : List (Text × Bool)) × (vs : List ValueTree) × AreCasesOf s of.items cs vs × (k ≡ value_type (node (variant cs) (parts_of vs)))
 DefinedBy s t (def.Flags ns) k = k ≡ value_type (node (flags (map ident_text ns.items)) no_parts)
 DefinedBy s t (def.Enum ns) k = k ≡ value_type (node (enum (map ident_text ns.items)) no_parts)
-DefinedBy s t (def.Resource ms) k = k ≡ resource_type (ident_text t.name)
+DefinedBy s t (def.Resource ms) k = k ≡ resource_type (type_name s t)
 
 defined_by : (s : Setting) (t : TypeItem) (k : Denoted) → IsDefined s t k → DefinedBy s t t.def k
 defined_by s t k (another_name id is h) = subst (λ (d : TypeDef). DefinedBy s t d k) (sym is) (inl (id, refl, h))

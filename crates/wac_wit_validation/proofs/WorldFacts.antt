@@ -1,5 +1,5 @@
 -- Where interfaces and worlds stand, and what is marked of imports and exports.
-use Rattle.std.proofs.Common.{◌≡◌, ◌≢◌, ◌⊎◌, ◌==◌, ◌↔◌, inl, inr, [], ◌∷◌, true, false, not, Bool, IsTrue, IfOk, IfSome, IsNone, IsSome, cond, is_some, None, Option, Result, Ok, Err, ℕ, ◌+◌, ◌<◌, ◌≤◌, arith, List, Contains, Some, length, refl, sym, ap, subst, ◌∙◌}
+use Rattle.std.proofs.Common.{◌≡◌, ◌≢◌, ◌⊎◌, ◌==◌, ◌↔◌, inl, inr, [], ◌∷◌, ◌++◌, true, false, not, Bool, IsTrue, IfOk, IfSome, IsNone, IsSome, cond, is_some, None, Option, Result, Ok, Err, ℕ, ◌+◌, ◌<◌, ◌≤◌, arith, List, Contains, Some, length, refl, sym, ap, subst, ◌∙◌}
 use Rattle.std.specs.Prelude.{String, slice_get, option_map, string_bytes}
 use Rattle.std.specs.Bool.{then_some}
 use Rattle.std.specs.Borrow.{Bor}
@@ -10,13 +10,13 @@ use Rattle.std.specs.Str.{bytes_eq}
 use Rattle.std.specs.declared.alloc.Global.{Global}
 use Rattle.wac_component.proofs.Among.{Contains-cases, Contains-first}
 use Rattle.wac_component.specs.Content.{named}
-use Rattle.wac_wit_validation.proofs.NameFacts.{key_found, key_of_full, named_at, some_told}
+use Rattle.wac_wit_validation.proofs.NameFacts.{key_found, key_of_full, named_at}
 use Rattle.std.proofs.lemmas.Bool.{eqb-true}
 use Rattle.std.proofs.lemmas.List.{length-map}
 use Rattle.std.proofs.lemmas.Option.{same_Some, slice_get-get_or}
 use Rattle.std.proofs.Math.Nat.{eq-or-lt_of_le}
 use Rattle.wac_model.specs.Text.{Text}
-use Rattle.wac_component.specs.Collection.{Collection}
+use Rattle.wac_component.specs.Collection.{Collection, WorldContent}
 use Rattle.wac_component.specs.Id.{Id}
 use Rattle.wac_component.specs.Tree.{item_tree}
 use Rattle.wac_component.specs.declared.items.ItemKind.{ItemKind}
@@ -25,9 +25,11 @@ use Rattle.wac_component.specs.declared.worlds.ExternKind.{ExternKind}
 use Rattle.wac_component.specs.declared.worlds.ExternKind.TheVariants.{Import, Export}
 use Rattle.wac_wit_syntax.specs.declared.tree.Extern.TheVariants as extern
 use Rattle.wac_wit_syntax.specs.declared.tree.ExternItem.{ExternItem}
+use Rattle.wac_wit_syntax.specs.declared.tree.IncludeItem.{IncludeItem}
 use Rattle.wac_wit_syntax.specs.declared.tree.InterfaceDecl.{InterfaceDecl}
 use Rattle.wac_wit_syntax.specs.declared.tree.InterfaceItem.{InterfaceItem}
 use Rattle.wac_wit_syntax.specs.declared.tree.Path.{Path}
+use Rattle.wac_wit_syntax.specs.declared.tree.Rename.{Rename}
 use Rattle.wac_wit_syntax.specs.declared.tree.UseItem.{UseItem}
 use Rattle.wac_wit_syntax.specs.declared.tree.WorldDecl.{WorldDecl}
 use Rattle.wac_wit_validation.specs.Validated.{IsWorldNamed, package_text}
@@ -35,13 +37,15 @@ use Rattle.wac_wit_syntax.specs.declared.tree.TopItem.TheVariants as top
 use Rattle.wac_wit_validation.specs.Checking.{HasItem, IsSettingAt, IsValidated, Knows, scope_syntax}
 use Rattle.wac_wit_validation.specs.Denoted.{Setting, uses_in}
 use Rattle.wac_wit_validation.specs.Interfaces.{IsInterfaceTree}
-use Rattle.wac_wit_validation.specs.Placed.{HasWorld, LeadsToInterface, PlacedInterface, PlacedWorld}
+use Rattle.wac_wit_validation.specs.Placed.{HasWorld, LeadsToInterface, PlacedInterface, PlacedWorld, placed_identifier}
 use Rattle.wac_wit_validation.specs.WitSources.{HasInterface, IsScopeOf, ScopeSyntax, WitSources, ident_text, package_id, version_text}
-use Rattle.wac_wit_validation.specs.WorldChecking.{AreExportsOfWorld, AreItemsOf, AreMarksOf, HasAllItems, IsFoundAs, IsInterfaceAt, IsMarkOf, IsPlacedAt, IsRenamingAt, IsScopeAt, IsTextAt, IsValidatedWorld, IsWorldAt, KnowsWorlds, StaysAs, UsesTypes}
-use Rattle.wac_wit_validation.specs.Worlds.{HasExternInterface, HasExternOf, SaysExtern, UsesInterface, exported, extern_interface, extern_item, imported}
+use Rattle.wac_wit_validation.specs.WorldChecking.{AreInterfacesThere, AreItemsOf, AreLayersOf, AreMarksOf, AreSideOf, AreWorldSides, IsFoundAs, IsInterfaceAt, IsLayerOf, IsMarkOf, IsPlacedAt, IsScopeAt, IsTextAt, IsValidatedWorld, IsWorldAt, KnowsWorlds, StaysAs, UsesTypes}
+use Rattle.wac_wit_validation.specs.Worlds.{HasExternInterface, HasExternOf, SaysExtern, SaysInclude, SaysInterface, UsesInterface, by_include, extern_interface, extern_item, imported, itself, used_by_import}
 use Rattle.wac_wit_validation.specs.declared.marks.ExternMark.{ExternMark}
 use Rattle.wac_wit_validation.specs.declared.marks.ExternMark.TheVariants.{Found, Unmarked, Written}
+use Rattle.wac_wit_validation.specs.declared.layers.Layer.{Layer}
 use Rattle.wac_wit_validation.specs.declared.marks.ExternMarks.{ExternMarks}
+use Rattle.wac_wit_validation.specs.declared.marks.WorldMarks.{WorldMarks}
 use Rattle.wac_wit_validation.specs.declared.sources.ScopeItems.{ScopeItems}
 use Rattle.wac_wit_validation.specs.declared.validator.FoundInterface.{FoundInterface}
 use Rattle.wac_wit_validation.specs.declared.validator.FoundWorld.{FoundWorld}
@@ -109,15 +113,30 @@ setting_at of v scope s h = record { knows = h.knows.interfaces; at = λ x at. h
 pub scope_placed : (of : WitSources) (v : Validator) (place : ItemPlace) (i : PlacedInterface) → KnowsWorlds of v → IsPlacedAt v place i → IsScopeAt v place.scope of i.scope
 scope_placed of v place i knows at = record { knows = knows; items = at.scope; at = at.at_scope; is = at.is }
 
+-- the scope of a world that is written at a place
+pub scope_of_world : (of : WitSources) (v : Validator) (place : ItemPlace) (w : PlacedWorld) → KnowsWorlds of v → IsWorldAt of v place w → IsScopeAt v place.scope of w.scope
+scope_of_world of v place w knows at = record { knows = knows; items = at.scope; at = at.at_scope; is = at.is }
+
 -- the scope is one of what is read
 pub scope_of : (of : WitSources) (v : Validator) (scope : ℕ) (w : ScopeSyntax) → IsScopeAt v scope of w → IsScopeOf of w
 scope_of of v scope w h = subst (IsScopeOf of) (sym h.is) (h.knows.interfaces.scopes scope h.items h.at).is_scope
 
 -- ---- what a world says
 
+pub own_interface : (of : WitSources) (w : PlacedWorld) (k : ExternKind) (i : PlacedInterface) → SaysInterface of k w i → HasExternInterface of k w i
+own_interface of w k i says = record { renames = []; inside = w; brings = itself; says = says }
+
 pub said_interface : (of : WitSources) (w : PlacedWorld) (k : ExternKind) (p : Path) (i : PlacedInterface) → SaysExtern of w k (extern.Path p) → LeadsToInterface of w.scope p i → HasExternInterface of k w i
-said_interface of w Import p i says leads = imported p says leads
-said_interface of w Export p i says leads = exported p says leads
+said_interface of w Import p i says leads = own_interface of w Import i (imported p says leads)
+said_interface of w Export p i says leads = own_interface of w Export i (record { path = p; says = says; leads = leads })
+
+-- what a world has that comes in comes in too
+pub included_interface : (of : WitSources) (w x : PlacedWorld) (k : ExternKind) (j : IncludeItem) (i : PlacedInterface) → SaysInclude of w x j → HasExternInterface of k x i → HasExternInterface of k w i
+included_interface of w x k j i says h = record { renames = j.renames.items ∷ h.renames; inside = h.inside; brings = by_include j says h.brings; says = h.says }
+
+-- what imported interfaces use is imported
+pub used_interface : (of : WitSources) (w : PlacedWorld) (v i : PlacedInterface) → HasExternInterface of Import w v → UsesInterface of v.scope (uses_in v.decl.items.items) i → HasExternInterface of Import w i
+used_interface of w v i h uses = record { renames = h.renames; inside = h.inside; brings = h.brings; says = used_by_import h.says uses }
 
 -- ---- marks
 
@@ -142,19 +161,23 @@ module _ (of : WitSources) (v : Validator) (w : PlacedWorld) (k : ExternKind) (e
   extern_marked n Written e is here at = here e at
   extern_marked n (Found f) e is here at = subst (λ (d : Text × ItemKind). HasExternOf of k w d.0 (item_tree v.types.now d.1)) (same_Some _ _ (sym here.1.at ∙ at)) (extern_interface here.0 here.2 (tree_found of v f here.0 here.1.found))
 
--- ---- items that others have too
+-- ---- interfaces that others have too
 
-abbrev pub HasItemsBelow : List (Text × ItemKind) → List (Text × ItemKind) → ℕ → Type 0
-HasItemsBelow es others n = (j : ℕ) (e : Text × ItemKind) → j < n → slice_get others j ≡ Some e → HasItem es e.0
+-- items whose names are identifiers have others, up to an index
+abbrev pub FoundItemsBelow : List (Text × ItemKind) → List (Text × ItemKind) → ℕ → Type 0
+FoundItemsBelow es others n = (j : ℕ) (e : Text × ItemKind) → j < n → slice_get others j ≡ Some e → (i : PlacedInterface) → e.0 ≡ placed_identifier i → HasItem es e.0
 
-pub HasAllItems-below : (es others : List (Text × ItemKind)) (n : ℕ) → length others ≤ n → HasItemsBelow es others n → HasAllItems es others
-HasAllItems-below es others n past below name has = below has.among.0 (name, has.kind) (omega (arith, past, has.among.1)) (slice_get-get_or others has.among.0 (name, has.kind) has.among.1 ∙ ap (λ (x : Text × ItemKind). Some x) has.among.2)
-
-pub HasItemsBelow-more : (es others : List (Text × ItemKind)) (n : ℕ) (d : Text × ItemKind) → slice_get others n ≡ Some d → HasItem es d.0 → HasItemsBelow es others n → HasItemsBelow es others (n + 1)
-HasItemsBelow-more es others n d at here below j e within there = elim (eq-or-lt_of_le {n = j} {m = n} (omega (arith, within))) [
-  | inl is ↦ subst (λ (x : Text × ItemKind). HasItem es x.0) (same_Some _ _ (sym at ∙ sym (ap (λ k. slice_get others k) is) ∙ there)) here
+pub FoundItemsBelow-more : (es others : List (Text × ItemKind)) (n : ℕ) (d : Text × ItemKind) → slice_get others n ≡ Some d → ((i : PlacedInterface) → d.0 ≡ placed_identifier i → HasItem es d.0) → FoundItemsBelow es others n → FoundItemsBelow es others (n + 1)
+FoundItemsBelow-more es others n d at here below j e within there = elim (eq-or-lt_of_le {n = j} {m = n} (omega (arith, within))) [
+  | inl is ↦ subst (λ (x : Text × ItemKind). (i : PlacedInterface) → x.0 ≡ placed_identifier i → HasItem es x.0) (same_Some _ _ (sym at ∙ sym (ap (λ k. slice_get others k) is) ∙ there)) here
   | inr less ↦ below j e less there
 ]
+
+-- where all do, the interfaces of a world do
+pub FoundItemsBelow-there : (of : WitSources) (v : Validator) (k : ExternKind) (x : PlacedWorld) (es others : List (Text × ItemKind)) (m : ExternMarks) (n : ℕ) → length others ≤ n → FoundItemsBelow es others n → AreSideOf of v x k others m → AreInterfacesThere of k x es
+FoundItemsBelow-there of v k x es others m n past below side i has =
+    let it = side.interfaces i has in
+    below it.among.0 (placed_identifier i, it.kind) (omega (arith, past, it.among.1)) (slice_get-get_or others it.among.0 (placed_identifier i, it.kind) it.among.1 ∙ ap (λ (y : Text × ItemKind). Some y) it.among.2) i refl
 
 -- ---- what is known stays
 
@@ -162,8 +185,14 @@ module _ (of : WitSources) (v x : Validator) (scopes : v.scopes.items ≡ x.scop
   pub IsPlacedWorld-kept : (place : ItemPlace) (w : PlacedWorld) → IsWorldAt of v place w → IsWorldAt of x place w
   IsPlacedWorld-kept place w h = record { scope = h.scope; at_scope = subst (λ (l : List ScopeItems). slice_get l place.scope ≡ Some h.scope) scopes h.at_scope; at_item = h.at_item; is = h.is; there = h.there }
 
-  IsRenamingAt-kept : (p : ItemPlace) → IsRenamingAt of v p → IsRenamingAt of x p
-  IsRenamingAt-kept p h = record { written = h.written; at = IsPlacedWorld-kept p h.written h.at; renames = h.renames }
+  IsLayerOf-kept : (l : Layer) (rss : List (List Rename)) (w : PlacedWorld) → IsLayerOf of v l rss w → IsLayerOf of x l rss w
+  IsLayerOf-kept l rss w h = record { at = IsPlacedWorld-kept l.place w h.at; items = h.items; names = h.names }
+
+  pub AreLayersOf-kept : (w : PlacedWorld) (ls : List Layer) → AreLayersOf of v w ls → AreLayersOf of x w ls
+  AreLayersOf-kept w ls h = record {
+    each = λ l among. let one = h.each l among in record { renames = one.renames; inside = one.inside; brings = one.brings; is = IsLayerOf-kept l one.renames one.inside one.is };
+    all = λ rss y t brings among gives. let one = h.all rss y t brings among gives in (one.0, one.1, IsLayerOf-kept one.0 rss y one.2);
+  }
 
   module _ (types : v.types.now ≡ x.types.now) where
     IsFoundAs-kept : (f : FoundInterface) (i : PlacedInterface) → IsFoundAs of v f i → IsFoundAs of x f i
@@ -183,40 +212,42 @@ module _ (of : WitSources) (v x : Validator) (scopes : v.scopes.items ≡ x.scop
     pub AreItemsOf-kept : (w : PlacedWorld) (k : ExternKind) (es : List (Text × ItemKind)) → AreItemsOf of v w k es → AreItemsOf of x w k es
     AreItemsOf-kept w k es h = record { each = λ e among. subst (λ (c : Collection). HasExternOf of k w e.0 (item_tree c e.1)) types (h.each e among); all = h.all }
 
-    pub AreExportsOfWorld-kept : (w : PlacedWorld) (es : List (Text × ItemKind)) (m : ExternMarks) → AreExportsOfWorld of v w es m → AreExportsOfWorld of x w es m
-    AreExportsOfWorld-kept w es m h = record { items = AreItemsOf-kept w Export es h.items; marks = AreMarksOf-kept w Export es m h.marks; interfaces = h.interfaces }
+    pub AreSideOf-kept : (w : PlacedWorld) (k : ExternKind) (es : List (Text × ItemKind)) (m : ExternMarks) → AreSideOf of v w k es m → AreSideOf of x w k es m
+    AreSideOf-kept w k es m h = record { items = AreItemsOf-kept w k es h.items; marks = AreMarksOf-kept w k es m h.marks; interfaces = h.interfaces }
+
+    pub AreWorldSides-kept : (w : PlacedWorld) (e : WorldContent) (m : WorldMarks) → AreWorldSides of v w e m → AreWorldSides of x w e m
+    AreWorldSides-kept w e m h = record { imports = AreSideOf-kept w Import e.imports m.imports h.imports; exports = AreSideOf-kept w Export e.exports m.exports h.exports }
 
     IsValidatedWorld-kept : (f : FoundWorld) → IsValidatedWorld of v f → IsValidatedWorld of x f
     IsValidatedWorld-kept f h = record {
       written = h.written;
       at = IsPlacedWorld-kept f.place h.written h.at;
       stands = rw (← types) h.stands;
-      imports = λ content at. AreItemsOf-kept h.written Import content.imports (h.imports content (rw types at));
-      exports = λ content at. AreExportsOfWorld-kept h.written content.exports f.exports (h.exports content (rw types at));
+      sides = λ content at. AreWorldSides-kept h.written content f.marks (h.sides content (rw types at));
+      layers = AreLayersOf-kept h.written f.layers.items h.layers;
       tree = rw (← types) h.tree;
     }
 
 -- what is known of worlds stays, if whatever is known now was, or is as it is said to be
 pub KnowsWorlds-more : (of : WitSources) (v x : Validator) → v.scopes.items ≡ x.scopes.items → v.types.now ≡ x.types.now → Knows of x → KnowsWorlds of v
-    → ((f : FoundWorld) → Contains x.worlds.items f → Contains v.worlds.items f ⊎ IsValidatedWorld of v f) → ((p : ItemPlace) → Contains x.renaming.items p → Contains v.renaming.items p ⊎ IsRenamingAt of v p) → KnowsWorlds of x
-KnowsWorlds-more of v x scopes types interfaces knows worlds renaming = record {
+    → ((f : FoundWorld) → Contains x.worlds.items f → Contains v.worlds.items f ⊎ IsValidatedWorld of v f) → KnowsWorlds of x
+KnowsWorlds-more of v x scopes types interfaces knows worlds = record {
   interfaces = interfaces;
   worlds = λ f among. elim (worlds f among) [ inl old ↦ IsValidatedWorld-kept of v x scopes types f (knows.worlds f old) | inr new ↦ IsValidatedWorld-kept of v x scopes types f new ];
-  renaming = λ p among. elim (renaming p among) [ inl old ↦ IsRenamingAt-kept of v x scopes p (knows.renaming p old) | inr new ↦ IsRenamingAt-kept of v x scopes p new ];
 }
 
 pub KnowsWorlds-kept : (of : WitSources) (v x : Validator) → v.features ≡ x.features → v.scopes.items ≡ x.scopes.items → v.types.now ≡ x.types.now → x.found.items ≡ v.found.items → KnowsWorlds of v
-    → ((f : FoundWorld) → Contains x.worlds.items f → Contains v.worlds.items f ⊎ IsValidatedWorld of v f) → ((p : ItemPlace) → Contains x.renaming.items p → Contains v.renaming.items p ⊎ IsRenamingAt of v p) → KnowsWorlds of x
-KnowsWorlds-kept of v x features scopes types found knows worlds renaming =
-    KnowsWorlds-more of v x scopes types (knows_kept of v x features scopes types knows.interfaces (λ f among. inl (subst (λ (l : List FoundInterface). Contains l f) found among))) knows worlds renaming
+    → ((f : FoundWorld) → Contains x.worlds.items f → Contains v.worlds.items f ⊎ IsValidatedWorld of v f) → KnowsWorlds of x
+KnowsWorlds-kept of v x features scopes types found knows worlds =
+    KnowsWorlds-more of v x scopes types (knows_kept of v x features scopes types knows.interfaces (λ f among. inl (subst (λ (l : List FoundInterface). Contains l f) found among))) knows worlds
 
-pub StaysAs-kept : (v x : Validator) → v.features ≡ x.features → v.scopes.items ≡ x.scopes.items → v.types.now ≡ x.types.now → x.worlds.items ≡ v.worlds.items → x.renaming.items ≡ v.renaming.items
+pub StaysAs-kept : (v x : Validator) → v.features ≡ x.features → v.scopes.items ≡ x.scopes.items → v.types.now ≡ x.types.now → x.worlds.items ≡ v.worlds.items
     → ((of : WitSources) (f : FoundInterface) → Knows of v → Contains x.found.items f → Contains v.found.items f ⊎ IsValidated of v f) → StaysAs v x
-StaysAs-kept v x features scopes types worlds renaming found = record {
+StaysAs-kept v x features scopes types worlds found = record {
   types = sym types;
   scopes = sym scopes;
   knows = λ of knows. KnowsWorlds-more of v x scopes types (knows_kept of v x features scopes types knows.interfaces (λ f among. found of f knows.interfaces among)) knows
-      (λ f among. inl (subst (λ (l : List FoundWorld). Contains l f) worlds among)) (λ p among. inl (subst (λ (l : List ItemPlace). Contains l p) renaming among));
+      (λ f among. inl (subst (λ (l : List FoundWorld). Contains l f) worlds among));
 }
 
 -- ---- small facts
@@ -257,6 +288,18 @@ is_false false h = refl
 pub then_some_told : {A : Type 0} (b : Bool) (x : A) (r : Option A) (P : A → Type 0) → r ≡ then_some b x → (IsTrue b → P x) → IfSome r P
 then_some_told true x r P is told = rw is (told refl)
 then_some_told false x r P is told = rw is tt
+
+pub not_and_is : (b : Bool) → IsTrue (not b) → b ≡ true → ⊥
+not_and_is true h is = absurd (cc)
+not_and_is false h is = absurd (cc)
+
+append_two : (a b c : Text) → (a ++ b) ++ c ≡ a ++ (b ++ c)
+append_two [] b c = refl
+append_two (x ∷ a) b c = ap (λ (l : Text). x ∷ l) (append_two a b c)
+
+pub append_three : (a b c d : Text) → ((a ++ b) ++ c) ++ d ≡ a ++ (b ++ (c ++ d))
+append_three [] b c d = append_two b c d
+append_three (x ∷ a) b c d = ap (λ (l : Text). x ∷ l) (append_three a b c d)
 
 pub no_truth : IsTrue false → ⊥
 no_truth h = absurd (cc)
@@ -325,10 +368,6 @@ uses_placed of v place x i scope decl items at at_scope at_item same =
 pub uses_among : (of : WitSources) (x : ScopeSyntax) (us : List UseItem) (u : UseItem) (i : PlacedInterface) → Contains us u → UsesInterface of x (u ∷ []) i → UsesInterface of x us i
 uses_among of x us u i among h = let one = one_use of x u i h in record { item = u; name = one.0.1.0; among = among; there = one.0.0; within = one.0.1.1; leads = one.1 }
 
-pub nothing_there : {A : Type 0} (xs : List A) → ((x : A) → Contains xs x → ⊥) → xs ≡ []
-nothing_there [] none = refl
-nothing_there (x ∷ xs) none = absurd (none x (Contains-first x xs))
-
 -- ---- more small facts
 
 pub none_is : {A : Type 0} (o : Option A) → o ≡ None → IsNone o
@@ -344,9 +383,6 @@ same_mark ms n f g a b = same_found f g (same_Some _ _ (sym a ∙ b))
 pub same_extern : (k : ExternKind) (e f : ExternItem) → extern_item k e ≡ extern_item k f → e ≡ f
 same_extern Import e f same = cc
 same_extern Export e f same = cc
-
-pub the_item : {A : Type 0} (x y : A) → Contains (x ∷ []) y → x ≡ y
-the_item x y among = elim (Contains-cases y x [] among) [ inl e ↦ e | inr h ↦ absurd (omega (arith, h.1)) ]
 
 pub StaysAs-trans : (v x y : Validator) → StaysAs v x → StaysAs x y → StaysAs v y
 StaysAs-trans v x y a b = record { types = b.types ∙ a.types; scopes = b.scopes ∙ a.scopes; knows = λ of knows. b.knows of (a.knows of knows) }
@@ -368,11 +404,9 @@ AreMarksOf-none of v w k es m n even count none = record {
 pub named_length : (es : List (String Global × ItemKind)) (n : ℕ) → n ≡ length es → length (named (λ k. k) es) ≡ n
 named_length es n is = omega (arith, is, length-map {B = Text × ItemKind} es (λ (e : String Global × ItemKind). (string_bytes e.0, e.1)))
 
-pub some_both : {A : Type 0} (o : Option A) (x : A) (P Q : A → Type 0) → o ≡ Some x → IfSome o P → IfSome o Q → P x × Q x
-some_both o x P Q is p q = (some_told o x P is p, some_told o x Q is q)
-
 pub IsTextAt-kept : (v x : Validator) → StaysAs v x → (text : WorldText) (of : WitSources) (w : PlacedWorld) → IsTextAt v text of w → IsTextAt x text of w
 IsTextAt-kept v x stays text of w h = record {
-  at = record { knows = stays.knows of h.at.knows; items = h.at.items; at = subst (λ (l : List ScopeItems). slice_get l text.scope ≡ Some h.at.items) (sym stays.scopes) h.at.at; is = h.at.is };
+  at = record { knows = stays.knows of h.at.knows; items = h.at.items; at = subst (λ (l : List ScopeItems). slice_get l text.place.scope ≡ Some h.at.items) (sym stays.scopes) h.at.at; is = h.at.is };
+  written = IsPlacedWorld-kept of v x (sym stays.scopes) text.place w h.written;
   decl = h.decl;
 }

@@ -10,15 +10,16 @@ use Rattle.wac_component.specs.Key.{Stands, interface_key}
 use Rattle.wac_component.specs.Id.{Id}
 use Rattle.wac_component.specs.Tree.{func_tree, item_tree, root_name}
 use Rattle.wac_component.specs.declared.items.ItemKind.{ItemKind}
-use Rattle.wac_component.specs.declared.items.ItemKind.TheVariants.{Func, Instance}
+use Rattle.wac_component.specs.declared.items.ItemKind.TheVariants.{Func, Instance, «Type» as OfType}
+use Rattle.wac_component.specs.declared.items.Type.{«Type» as TypeOf}
 use Rattle.wac_wit_names.specs.Features.{has_feature}
 use Rattle.wac_wit_validation.specs.Placed.{IsUnambiguous}
 use Rattle.wac_wit_validation.specs.WitSources.{WitSources, ScopeSyntax, IsOnlyVersion, IsScopeOf, IsEnabled, HasInterface, PathLeadsTo, ident_text, given_name, interface_identifier, package_id}
-use Rattle.wac_wit_validation.specs.Denoted.{Denoted, Setting, NamesType, interface_setting}
+use Rattle.wac_wit_validation.specs.Denoted.{Denoted, Setting, NamesType, interface_setting, type_name}
 use Rattle.wac_wit_validation.specs.Functions.{IsMethodOf, HasMethod, method_name}
 use Rattle.wac_wit_validation.specs.Interfaces.{HasExportOf, IsInterfaceTree}
 use Rattle.wac_wit_validation.specs.OneMeaning.{HaveOneMeaning}
-use Rattle.wac_wit_validation.specs.Reading.{TypesAreNamed, IsItemNamed}
+use Rattle.wac_wit_validation.specs.Reading.{Renames, TypesAreNamed, IsItemNamed}
 use Rattle.wac_wit_validation.specs.declared.progress.ExportMarks.{ExportMarks}
 use Rattle.wac_wit_validation.specs.declared.names.NamedTypes.{NamedTypes}
 use Rattle.wac_wit_validation.specs.declared.sources.ScopeItems.{ScopeItems}
@@ -43,6 +44,16 @@ pub record HasItem (es : List (Text × ItemKind)) (n : Text) : Type 0 where
   pub kind : ItemKind
   pub among : Contains es (n, kind)
 
+-- a type has this name
+pub record HasTypeItem (es : List (Text × ItemKind)) (n : Text) : Type 0 where
+  pub is : TypeOf
+  pub among : Contains es (n, OfType is)
+
+-- a function has this name
+pub record HasFuncItem (es : List (Text × ItemKind)) (n : Text) : Type 0 where
+  pub id : Id
+  pub among : Contains es (n, Func id)
+
 -- what stands at a place is exported under its name, if the names before it stand for what they do
 abbrev pub IsExportAt : Setting → Collection → List (Text × ItemKind) → ℕ → Type 0
 IsExportAt s c es i = (e : Text × ItemKind) → slice_get es i ≡ Some e → TypesAreNamed s c i es → HasExportOf s e.0 (item_tree c e.1) × IsItemNamed s e.0 c e.1
@@ -62,26 +73,28 @@ Gives s r m = (f : FuncTree) → IsMethodOf s m r f → HasMethod s (method_name
 
 -- the functions of a resource have exports
 abbrev pub HasMethodItem : WitSources → List (Text × ItemKind) → Text → Method → Type 0
-HasMethodItem of es r m = IsEnabled of m.gates → HasItem es (method_name m.kind r (ident_text m.name))
+HasMethodItem of es r m = IsEnabled of m.gates → HasFuncItem es (method_name m.kind r (ident_text m.name))
 
 abbrev pub HasMethods : WitSources → List (Text × ItemKind) → Text → List Method → Type 0
 HasMethods of es r ms = (m : Method) → Contains ms m → HasMethodItem of es r m
 
 -- the functions of a resource have exports, if it is one
-abbrev pub HasAllMethods : WitSources → List (Text × ItemKind) → TypeItem → Type 0
-HasAllMethods of es t = (ms : Vec Method Global) → t.def ≡ def.Resource ms → HasMethods of es (ident_text t.name) ms.items
+abbrev pub HasAllMethods : Setting → List (Text × ItemKind) → TypeItem → Type 0
+HasAllMethods s es t = (ms : Vec Method Global) → t.def ≡ def.Resource ms → HasMethods s.sources es (type_name s t) ms.items
 
 -- each name of an item has an export
-abbrev pub IsRepresented : WitSources → List (Text × ItemKind) → InterfaceItem → Type 0
-IsRepresented of es (inside.Use u) = IsEnabled of u.gates → (r : Rename) → Contains u.names.items r → HasItem es (given_name r.name r.alias)
-IsRepresented of es (inside.Type t) = IsEnabled of t.gates → HasItem es (ident_text t.name) × HasAllMethods of es t
-IsRepresented of es (inside.Func f) = IsEnabled of f.gates → HasItem es (ident_text f.name)
+abbrev pub IsRepresented : Setting → List (Text × ItemKind) → InterfaceItem → Type 0
+IsRepresented s es (inside.Use u) = IsEnabled s.sources u.gates → (r : Rename) → Contains u.names.items r → HasTypeItem es (given_name r.name r.alias)
+IsRepresented s es (inside.Type t) = IsEnabled s.sources t.gates → HasTypeItem es (ident_text t.name) × HasAllMethods s es t
+IsRepresented s es (inside.Func f) = IsEnabled s.sources f.gates → HasItem es (ident_text f.name)
 
 -- exports are those that the setting has
 pub record AreExportsOf (s : Setting) (c : Collection) (es : List (Text × ItemKind)) : Type 0 where
   pub named : TypesAreNamed s c (length es) es
   pub each : (e : Text × ItemKind) → Contains es e → HasExportOf s e.0 (item_tree c e.1)
   pub all : (n : Text) (x : ItemTree) → HasExportOf s n x → HasItem es n
+  pub types : (n : Text) (m : Denoted) → NamesType s n m → HasTypeItem es n
+  pub methods : (n : Text) (g : FuncTree) → HasMethod s n g → HasFuncItem es n
 
 abbrev pub scope_syntax : ScopeItems → ScopeSyntax
 scope_syntax w = record { «package» = package_id w.package.now; items = w.items.now }
@@ -152,7 +165,11 @@ AreExportsAt v scope is es = (of : WitSources) → Knows of v → (w : ScopeItem
 
 -- in each setting of a scope that has something, exports alone were marked
 abbrev pub MarksAt : Validator → ℕ → (Setting → Type 0) → NamedTypes → ExportMarks → ExportMarks → Type 0
-MarksAt v scope Has names old new = names.types.now ≡ v.types.now → (s : Setting) → IsSettingAt v scope s → Has s → MarksExports s names old new
+MarksAt v scope Has names old new = names.types.now ≡ v.types.now → (s : Setting) → IsSettingAt v scope s → Renames names s.renames → Has s → MarksExports s names old new
+
+-- an item's names have exports, in each setting of known sources
+abbrev pub RepresentsNames : Validator → NamedTypes → InterfaceItem → Type 0
+RepresentsNames v names x = (s : Setting) → Knows s.sources v → Renames names s.renames → IsRepresented s (named_items names) x
 
 -- in each setting of known sources that has something, exports alone were marked
 abbrev pub MarksIn : Validator → (Setting → Type 0) → NamedTypes → ExportMarks → ExportMarks → Type 0

@@ -1,6 +1,6 @@
 -- What the names of types and the types in syntax trees stand for (WIT.md, "Item: `use`", "Items:
 -- type" and "Types"): a rule for each way. Nothing is said of an order.
-use Rattle.std.specs.Prelude.{◌≡◌, ◌≢◌, ℕ, Bool, true, false, List, [], ◌∷◌, ◌++◌, Contains, Option, Some, None, Box, map, is_some, Vec}
+use Rattle.std.specs.Prelude.{◌≡◌, ◌≢◌, ℕ, Bool, true, false, List, [], ◌∷◌, ◌++◌, Contains, Option, Some, None, Box, map, is_some, Vec, if◌then◌else◌, bytes_eq}
 use Rattle.std.specs.Option.{option_to_list}
 use Rattle.std.specs.declared.alloc.Global.{Global}
 use Rattle.wac_model.specs.Text.{Text}
@@ -35,6 +35,8 @@ pub record Setting : Type 0 where
   pub uses : List UseItem
   pub types : List TypeItem
   pub funcs : List FuncItem
+  -- the new names under which what is defined there comes in somewhere (`with`), the last ones first
+  pub renames : List (List Rename)
 
 abbrev pub uses_in : List InterfaceItem → List UseItem
 uses_in [] = []
@@ -55,7 +57,21 @@ funcs_in (inside.Type t ∷ is) = funcs_in is
 funcs_in (inside.Func f ∷ is) = f ∷ funcs_in is
 
 abbrev pub interface_setting : WitSources → ScopeSyntax → List InterfaceItem → Setting
-interface_setting all w is = record { sources = all; scope = w; uses = uses_in is; types = types_in is; funcs = funcs_in is }
+interface_setting all w is = record { sources = all; scope = w; uses = uses_in is; types = types_in is; funcs = funcs_in is; renames = [] }
+
+-- the name that a name becomes: the new one that is given to it first, or itself (WIT.md, "Worlds", `with`)
+abbrev pub renamed : List Rename → Text → Text
+renamed [] n = n
+renamed (r ∷ rs) n = if bytes_eq (ident_text r.name) n then given_name r.name r.alias else renamed rs n
+
+-- what it becomes by all of these, of which the last ones stand first
+abbrev pub renamed_by : List (List Rename) → Text → Text
+renamed_by [] n = n
+renamed_by (rs ∷ rss) n = renamed rs (renamed_by rss n)
+
+-- the name of what is defined, where it comes in
+abbrev pub type_name : Setting → TypeItem → Text
+type_name s t = renamed_by s.renames (ident_text t.name)
 
 abbrev pub field_names : List Field → List Text
 field_names fs = map (λ f. ident_text f.name) fs
@@ -75,7 +91,7 @@ mutual
     a_variant : {s : Setting} {t : TypeItem} {vs : List ValueTree} {cs : List (Text × Bool)} (of : Vec Case Global) → t.def ≡ def.Variant of → AreCasesOf s of.items cs vs → IsDefined s t (value_type (node (variant cs) (parts_of vs)))
     some_flags : {s : Setting} {t : TypeItem} (ns : Vec Ident Global) → t.def ≡ def.Flags ns → IsDefined s t (value_type (node (flags (map ident_text ns.items)) no_parts))
     an_enum : {s : Setting} {t : TypeItem} (ns : Vec Ident Global) → t.def ≡ def.Enum ns → IsDefined s t (value_type (node (enum (map ident_text ns.items)) no_parts))
-    a_resource : {s : Setting} {t : TypeItem} (ms : Vec Method Global) → t.def ≡ def.Resource ms → IsDefined s t (resource_type (ident_text t.name))
+    a_resource : {s : Setting} {t : TypeItem} (ms : Vec Method Global) → t.def ≡ def.Resource ms → IsDefined s t (resource_type (type_name s t))
 
   -- a type where one is used; a resource's name is an owned handle of it
   pub data IsValue : Setting → TypeExpr → ValueTree → Type 0 where

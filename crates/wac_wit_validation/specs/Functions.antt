@@ -4,7 +4,7 @@ use Rattle.std.specs.declared.alloc.Global.{Global}
 use Rattle.wac_model.specs.Text.{Text}
 use Rattle.wac_model.specs.ValueTree.{FuncTree, ValueTree, borrow, no_parts, node, own}
 use Rattle.wac_wit_validation.specs.WitSources.{IsEnabled, ident_text}
-use Rattle.wac_wit_validation.specs.Denoted.{Setting, IsValue, AreFieldsOf, field_names}
+use Rattle.wac_wit_validation.specs.Denoted.{Setting, IsValue, AreFieldsOf, field_names, type_name}
 use Rattle.wac_wit_syntax.specs.declared.tree.Method.{Method}
 use Rattle.wac_wit_syntax.specs.declared.tree.MethodKind.{MethodKind}
 use Rattle.wac_wit_syntax.specs.declared.tree.MethodKind.TheVariants as kind
@@ -65,4 +65,4 @@ IsMethodOf s m root f = IsFuncOf s m.signature (self_param m.kind root) (made m.
 -- a function of a resource, which has its name
 pub data HasMethod (s : Setting) : Text → FuncTree → Type 0 where
   of_resource : {f : FuncTree} (t : TypeItem) (ms : Vec Method Global) (m : Method) → Contains s.types t → IsEnabled s.sources t.gates → t.def ≡ def.Resource ms → Contains ms.items m → IsEnabled s.sources m.gates
-      → IsMethodOf s m (ident_text t.name) f → HasMethod s (method_name m.kind (ident_text t.name) (ident_text m.name)) f
+      → IsMethodOf s m (type_name s t) f → HasMethod s (method_name m.kind (type_name s t) (ident_text m.name)) f

@@ -7,6 +7,7 @@ pub mod Worlds
 pub mod Reading
 pub mod Checking
 pub mod WorldChecking
+pub mod WorldClauses
 pub mod Validated
 pub mod Naming
 pub mod Ambiguity

@@ -9,8 +9,14 @@ use Rattle.wac_component.specs.declared.items.ItemKind.TheVariants.{«Type» as 
 use Rattle.wac_component.specs.declared.items.Type.{«Type» as TypeOf}
 use Rattle.wac_component.specs.declared.items.Type.TheVariants.{Resource as TypeResource, Value as TypeValue}
 use Rattle.wac_wit_validation.specs.declared.names.NamedTypes.{NamedTypes}
+use Rattle.wac_wit_validation.specs.WitSources.{ident_text}
+use Rattle.wac_wit_validation.specs.declared.layers.NewNames.{NewNames}
+use Rattle.std.specs.Borrow.{Bor}
+use Rattle.indexmap.specs.IndexMap.{get_by_text}
+use Rattle.std.specs.Option.{option_map, option_map_or}
+use Rattle.wac_wit_syntax.specs.declared.tree.Rename.{Rename}
 use Rattle.wac_wit_syntax.specs.declared.tree.TypeItem.{TypeItem}
-use Rattle.wac_wit_validation.specs.Denoted.{Denoted, value_type, resource_type, Setting, NamesType, IsDefined}
+use Rattle.wac_wit_validation.specs.Denoted.{Denoted, value_type, resource_type, Setting, NamesType, IsDefined, renamed_by}
 
 -- what a type stands for, if a name of WIT can
 abbrev pub type_meaning : Collection → TypeOf → Option Denoted
@@ -33,6 +39,31 @@ IsItemNamed s n c k = Unit {0}
 -- each type among the first so many items is what its name stands for
 abbrev pub TypesAreNamed : Setting → Collection → ℕ → List (Text × ItemKind) → Type 0
 TypesAreNamed s c limit es = (i : ℕ) (e : Text × ItemKind) → i < limit → slice_get es i ≡ Some e → IsItemNamed s e.0 c e.1
+
+-- the name that a name becomes, if one is known
+abbrev pub new_name : NewNames → Text → Option Text
+new_name m n = option_map (λ b. ident_text b.now) (get_by_text m.names n)
+
+-- what it becomes, or that name
+abbrev pub new_name_or : NewNames → Text → Text
+new_name_or m n = option_map_or (λ x. x) (new_name m n) n
+
+-- names become what they do by the first ones, and that becomes what it does by the others, or stays
+abbrev pub IsComposed : NewNames → NewNames → NewNames → Type 0
+IsComposed first by m = (n x : Text) → new_name m n ≡ Some x → (y : Text) × (new_name first n ≡ Some y) × (new_name_or by y ≡ x)
+
+-- what a name becomes, or that name where none becomes another
+abbrev pub name_by : Option (Bor NewNames) → Text → Option Text
+name_by None n = Some n
+name_by (Some m) n = new_name m.now n
+
+-- the names become what they do by these
+abbrev pub AreNamesBy : NewNames → List (List Rename) → Type 0
+AreNamesBy m rss = (n x : Text) → new_name m n ≡ Some x → renamed_by rss n ≡ x
+
+-- the same of the names that types have here
+abbrev pub Renames : NamedTypes → List (List Rename) → Type 0
+Renames names rss = (n m : Text) → name_by names.new_names n ≡ Some m → renamed_by rss n ≡ m
 
 -- the names stand for what they do in the setting
 abbrev pub StandForTypes : NamedTypes → Setting → Type 0

@@ -1,5 +1,5 @@
 -- What the validator says of an entry: it is an interface of the packages that were read.
-use Rattle.std.specs.Prelude.{◌≡◌, ◌⊎◌, ◌++◌, Option, Some, codes, slice_get}
+use Rattle.std.specs.Prelude.{◌≡◌, ◌++◌, Option, Some, codes, slice_get}
 use Rattle.wac_model.specs.Text.{Text}
 use Rattle.wac_component.specs.Collection.{Collection, InterfaceContent}
 use Rattle.wac_component.specs.Id.{Id}
@@ -9,7 +9,7 @@ use Rattle.wac_component.specs.declared.items.ItemKind.TheVariants.{Component, I
 use Rattle.wac_wit_syntax.specs.declared.tree.InterfaceDecl.{InterfaceDecl}
 use Rattle.wac_wit_validation.specs.Interfaces.{IsInterfaceTree}
 use Rattle.wac_wit_validation.specs.Placed.{HasWorld, PlacedWorld}
-use Rattle.wac_wit_validation.specs.Worlds.{GivesNewNames, IsWorldTree}
+use Rattle.wac_wit_validation.specs.Worlds.{IsWorldTree}
 use Rattle.wac_wit_validation.specs.WitSources.{HasInterface, PackageId, ScopeSyntax, WitSources, interface_identifier}
 
 -- the name of a package without its version, as `wasi:http`
@@ -41,13 +41,3 @@ pub record IsWorldOf (of : WitSources) (c : Collection) («package» : Text) (ve
   pub is : IsWorldNamed of «package» version name written
   pub stands : Stands c (world_key id)
   pub tree : IsWorldTree of written (item_tree c (Component id))
-
--- the world of this name includes another one under new names
-pub record IsRenamingWorld (of : WitSources) («package» : Text) (version : Option Text) (name : Text) : Type 0 where
-  pub written : PlacedWorld
-  pub is : IsWorldNamed of «package» version name written
-  pub renames : GivesNewNames of written
-
--- the entry is that of the world of this name, unless that includes another one under new names
-abbrev pub IsListedWorld : WitSources → Collection → Text → Option Text → Text → Id → Type 0
-IsListedWorld of c p version name id = IsWorldOf of c p version name id ⊎ IsRenamingWorld of p version name

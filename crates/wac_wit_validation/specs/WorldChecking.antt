@@ -1,7 +1,9 @@
 -- What is known of worlds while their entries are compared with what is written.
 use Rattle.std.specs.Prelude.{◌≡◌, ◌≢◌, ◌⊎◌, ℕ, List, [], ◌∷◌, Contains, Some, slice_get, length}
+use Rattle.std.specs.Borrow.{Bor}
 use Rattle.wac_model.specs.ItemTree.{ItemTree}
 use Rattle.wac_model.specs.Text.{Text}
+use Rattle.wac_model.specs.ValueTree.{FuncTree}
 use Rattle.wac_component.specs.Collection.{Collection, WorldContent}
 use Rattle.wac_component.specs.Content.{named, world_content}
 use Rattle.wac_component.specs.Key.{Stands, world_key}
@@ -13,26 +15,29 @@ use Rattle.wac_component.specs.declared.worlds.ExternKind.{ExternKind}
 use Rattle.wac_component.specs.declared.worlds.ExternKind.TheVariants.{Import, Export}
 use Rattle.wac_wit_syntax.specs.declared.tree.Extern.{Extern}
 use Rattle.wac_wit_syntax.specs.declared.tree.Extern.TheVariants as extern
-use Rattle.wac_wit_syntax.specs.declared.tree.ExternItem.{ExternItem}
+use Rattle.wac_wit_syntax.specs.declared.tree.IncludeItem.{IncludeItem}
 use Rattle.wac_wit_syntax.specs.declared.tree.InterfaceItem.TheVariants as inside
 use Rattle.wac_wit_syntax.specs.declared.tree.Path.{Path}
 use Rattle.wac_wit_syntax.specs.declared.tree.TopItem.TheVariants as top
 use Rattle.wac_wit_syntax.specs.declared.tree.UseItem.{UseItem}
 use Rattle.wac_wit_syntax.specs.declared.tree.WorldItem.{WorldItem}
 use Rattle.wac_wit_syntax.specs.declared.tree.WorldItem.TheVariants as of_world
-use Rattle.wac_wit_validation.specs.Checking.{AreExportsOf, HasItem, IsRepresented, IsValidated, Knows, named_items, scope_syntax}
-use Rattle.wac_wit_validation.specs.Denoted.{Setting, uses_in}
+use Rattle.wac_wit_validation.specs.Checking.{HasItem, IsRepresented, IsValidated, Knows, named_items, scope_syntax}
+use Rattle.wac_wit_validation.specs.Denoted.{Denoted, NamesType, Setting, renamed_by, uses_in}
+use Rattle.wac_wit_validation.specs.Functions.{HasMethod}
 use Rattle.wac_wit_syntax.specs.declared.tree.Rename.{Rename}
 use Rattle.wac_wit_validation.specs.Placed.{LeadsToInterface, LeadsToWorld, PlacedInterface, PlacedWorld, placed_identifier}
-use Rattle.wac_wit_validation.specs.Reading.{StandForTypes}
+use Rattle.wac_wit_validation.specs.Reading.{AreNamesBy, Renames, StandForTypes, IsComposed}
 use Rattle.wac_wit_validation.specs.WitSources.{IsEnabled, IsScopeOf, ScopeSyntax, WitSources, ident_text}
-use Rattle.wac_wit_validation.specs.Worlds.{ExportsIdentifier, ExportsInterface, GivesNewNames, HasExternInterface, HasExternOf, ImportsInterface, Includes, IsUsedByExport, IsWorldTree, SaysExtern, UsesInterface, extern_item, world_setting}
+use Rattle.wac_wit_validation.specs.Worlds.{BringsIn, ExportsIdentifier, HasExternInterface, HasExternOf, IsUsedByExport, IsWorldTree, SaysExtern, SaysInclude, UsesInterface, world_setting}
 use Rattle.wac_wit_validation.specs.declared.marks.ExternMark.{ExternMark}
 use Rattle.wac_wit_validation.specs.declared.marks.ExternMark.TheVariants.{Found, Unmarked, Written}
 use Rattle.wac_wit_validation.specs.declared.marks.ExternMarks.{ExternMarks}
 use Rattle.wac_wit_validation.specs.declared.externs.LedExtern.{LedExtern}
 use Rattle.wac_wit_validation.specs.declared.externs.WorldSide.{WorldSide}
-use Rattle.wac_wit_validation.specs.declared.includes.WorldMarks.{WorldMarks}
+use Rattle.wac_wit_validation.specs.declared.marks.WorldMarks.{WorldMarks}
+use Rattle.wac_wit_validation.specs.declared.layers.Layer.{Layer}
+use Rattle.wac_wit_validation.specs.declared.layers.NewNames.{NewNames}
 use Rattle.wac_wit_validation.specs.declared.validator.WorldText.{WorldText}
 use Rattle.wac_wit_validation.specs.declared.names.NamedTypes.{NamedTypes}
 use Rattle.wac_wit_validation.specs.declared.sources.ScopeItems.{ScopeItems}
@@ -86,17 +91,15 @@ pub record AreItemsOf (of : WitSources) (v : Validator) (w : PlacedWorld) (k : E
   pub each : (e : Text × ItemKind) → Contains es e → HasExternOf of k w e.0 (item_tree v.types.now e.1)
   pub all : (n : Text) (x : ItemTree) → HasExternOf of k w n x → HasItem es n
 
--- each interface that a world exports is there
-abbrev pub AreInterfacesThere : WitSources → PlacedWorld → List (Text × ItemKind) → Type 0
-AreInterfacesThere of w es = (i : PlacedInterface) → ExportsInterface of w i → HasItem es (placed_identifier i)
+-- each interface that a world imports, or exports, is there
+abbrev pub AreInterfacesThere : WitSources → ExternKind → PlacedWorld → List (Text × ItemKind) → Type 0
+AreInterfacesThere of k w es = (i : PlacedInterface) → HasExternInterface of k w i → HasItem es (placed_identifier i)
 
--- exports are those of a world, and its interfaces are marked
-pub record AreExportsOfWorld (of : WitSources) (v : Validator) (w : PlacedWorld) (es : List (Text × ItemKind)) (m : ExternMarks) : Type 0 where
-  pub items : AreItemsOf of v w Export es
-  pub marks : AreMarksOf of v w Export es m
-  pub interfaces : AreInterfacesThere of w es
-
--- ---- worlds that were looked at
+-- imports, or exports, are those of a world, and its interfaces are marked
+pub record AreSideOf (of : WitSources) (v : Validator) (w : PlacedWorld) (k : ExternKind) (es : List (Text × ItemKind)) (m : ExternMarks) : Type 0 where
+  pub items : AreItemsOf of v w k es
+  pub marks : AreMarksOf of v w k es m
+  pub interfaces : AreInterfacesThere of k w es
 
 -- where a world is written, and what is said of it there
 pub record IsWorldAt (of : WitSources) (v : Validator) (place : ItemPlace) (w : PlacedWorld) : Type 0 where
@@ -106,26 +109,68 @@ pub record IsWorldAt (of : WitSources) (v : Validator) (place : ItemPlace) (w : 
   pub is : w.scope ≡ scope_syntax scope
   pub there : IsEnabled of w.decl.gates
 
+-- ---- worlds that come into one
+
+-- the `use` is there, and names a type
+abbrev pub UsesTypes : WitSources → UseItem → Type 0
+UsesTypes of u = IsEnabled of u.gates × ((r : Rename) × Contains u.names.items r)
+
+-- what is imported or exported has a name of its own
+abbrev pub HasOwnName : Extern → Type 0
+HasOwnName (extern.Path p) = ⊥
+HasOwnName x = Unit {0}
+
+-- an item is there, and gives something a name of its own
+abbrev pub GivesNames : WitSources → WorldItem → Type 0
+GivesNames of (of_world.Use u) = UsesTypes of u
+GivesNames of (of_world.Type t) = IsEnabled of t.gates
+GivesNames of (of_world.Include i) = ⊥
+GivesNames of (of_world.Import e) = IsEnabled of e.gates × HasOwnName e.what
+GivesNames of (of_world.Export e) = IsEnabled of e.gates × HasOwnName e.what
+
+-- these are the items of a world that give names
+pub record AreNamingItems (of : WitSources) (is : List WorldItem) (bs : List (Bor WorldItem)) : Type 0 where
+  pub among : (b : Bor WorldItem) → Contains bs b → Contains is b.now
+  pub all : (t : WorldItem) → Contains is t → GivesNames of t → (b : Bor WorldItem) × Contains bs b × (b.now ≡ t)
+
+-- the layer is of the world, as it comes in under these names
+pub record IsLayerOf (of : WitSources) (v : Validator) (l : Layer) (rss : List (List Rename)) (x : PlacedWorld) : Type 0 where
+  pub at : IsWorldAt of v l.place x
+  pub items : AreNamingItems of x.decl.items.items l.items.items
+  pub names : AreNamesBy l.names rss
+
+-- a world comes in, and the layer is of it
+pub record IsLayerIn (of : WitSources) (v : Validator) (w : PlacedWorld) (l : Layer) : Type 0 where
+  pub renames : List (List Rename)
+  pub inside : PlacedWorld
+  pub brings : BringsIn of w renames inside
+  pub is : IsLayerOf of v l renames inside
+
+-- each layer is of a world that comes in, and each world that does, and gives names, has one
+pub record AreLayersOf (of : WitSources) (v : Validator) (w : PlacedWorld) (ls : List Layer) : Type 0 where
+  pub each : (l : Layer) → Contains ls l → IsLayerIn of v w l
+  pub all : (rss : List (List Rename)) (x : PlacedWorld) (t : WorldItem) → BringsIn of w rss x → Contains x.decl.items.items t → GivesNames of t → (l : Layer) × Contains ls l × IsLayerOf of v l rss x
+
+-- ---- worlds that were looked at
+
+-- both sides of an entry are those of a world
+pub record AreWorldSides (of : WitSources) (v : Validator) (w : PlacedWorld) (e : WorldContent) (m : WorldMarks) : Type 0 where
+  pub imports : AreSideOf of v w Import e.imports m.imports
+  pub exports : AreSideOf of v w Export e.exports m.exports
+
 -- a world that was found to be as it is written
 pub record IsValidatedWorld (of : WitSources) (v : Validator) (f : FoundWorld) : Type 0 where
   pub written : PlacedWorld
   pub at : IsWorldAt of v f.place written
   pub stands : Stands v.types.now (world_key f.id)
-  pub imports : (content : WorldContent) → slice_get v.types.now.worlds f.id.index ≡ Some content → AreItemsOf of v written Import content.imports
-  pub exports : (content : WorldContent) → slice_get v.types.now.worlds f.id.index ≡ Some content → AreExportsOfWorld of v written content.exports f.exports
+  pub sides : (content : WorldContent) → slice_get v.types.now.worlds f.id.index ≡ Some content → AreWorldSides of v written content f.marks
+  pub layers : AreLayersOf of v written f.layers.items
   pub tree : IsWorldTree of written (item_tree v.types.now (Component f.id))
-
--- a world that includes another one under new names
-pub record IsRenamingAt (of : WitSources) (v : Validator) (place : ItemPlace) : Type 0 where
-  pub written : PlacedWorld
-  pub at : IsWorldAt of v place written
-  pub renames : GivesNewNames of written
 
 -- what is known of worlds, and of interfaces, is so of what is read
 pub record KnowsWorlds (of : WitSources) (v : Validator) : Type 0 where
   pub interfaces : Knows of v
   pub worlds : (f : FoundWorld) → Contains v.worlds.items f → IsValidatedWorld of v f
-  pub renaming : (p : ItemPlace) → Contains v.renaming.items p → IsRenamingAt of v p
 
 -- ---- where something stands
 
@@ -148,27 +193,57 @@ pub record LeadsToExtern (of : WitSources) (v : Validator) (w : ScopeSyntax) (p 
 abbrev pub side_items : WorldSide → List (Text × ItemKind)
 side_items side = named (λ k. k) side.externs.now.entries
 
--- in each world at a scope that has something, marks of a side stay so, if the names stand for what they do there
+-- a world comes in, its scope is looked at, and the names stand for what they do there
+pub record ComesInAt (v : Validator) (scope : ℕ) (names : NamedTypes) (of : WitSources) (w : PlacedWorld) (rss : List (List Rename)) (x : PlacedWorld) : Type 0 where
+  pub brings : BringsIn of w rss x
+  pub at : IsScopeAt v scope of x.scope
+  pub new_names : Renames names rss
+  pub stand : StandForTypes names (world_setting of rss x)
+
+-- in each world into which one comes that has something, marks of a side stay so
 abbrev pub KeepsSide : Validator → ℕ → WorldSide → (WitSources → PlacedWorld → Type 0) → ExternMarks → ExternMarks → Type 0
-KeepsSide v scope side Has old new = side.names.types.now ≡ v.types.now → (of : WitSources) (w : PlacedWorld) → IsScopeAt v scope of w.scope → StandForTypes side.names (world_setting of w) → Has of w
+KeepsSide v scope side Has old new = side.names.types.now ≡ v.types.now → (of : WitSources) (w x : PlacedWorld) (rss : List (List Rename)) → ComesInAt v scope side.names of w rss x → Has of x
     → AreMarksOf of v w side.kind (side_items side) old → AreMarksOf of v w side.kind (side_items side) new
 
--- what is imported, or exported, is there
-abbrev pub IsSaidThere : WitSources → ScopeSyntax → List (Text × ItemKind) → Extern → Type 0
-IsSaidThere of w es (extern.Path p) = (i : PlacedInterface) → LeadsToInterface of w p i → HasItem es (placed_identifier i)
-IsSaidThere of w es (extern.Func id signature) = HasItem es (ident_text id)
-IsSaidThere of w es (extern.Inline id items) = HasItem es (ident_text id)
-IsSaidThere of w es x = Unit {0}
+-- in each world at a scope that has something, marks stay so
+abbrev pub KeepsPaths : Validator → ℕ → ExternKind → List (Text × ItemKind) → (WitSources → PlacedWorld → Type 0) → ExternMarks → ExternMarks → Type 0
+KeepsPaths v scope k es Has old new = (of : WitSources) (w : PlacedWorld) → IsScopeAt v scope of w.scope → Has of w → AreMarksOf of v w k es old → AreMarksOf of v w k es new
 
--- what items say that is imported, or exported, is there
-abbrev pub IsAllThere : WitSources → ScopeSyntax → WorldSide → List WorldItem → Type 0
-IsAllThere of w side is = (e : ExternItem) → Contains is (extern_item side.kind e) → IsEnabled of e.gates → IsSaidThere of w (side_items side) e.what
+-- what is imported, or exported, under a name of its own is there
+abbrev pub IsNamedThere : List (List Rename) → List (Text × ItemKind) → Extern → Type 0
+IsNamedThere rss es (extern.Func id signature) = HasItem es (renamed_by rss (ident_text id))
+IsNamedThere rss es (extern.Inline id items) = HasItem es (renamed_by rss (ident_text id))
+IsNamedThere rss es x = Unit {0}
+
+-- the interface that is imported, or exported, is there
+abbrev pub IsPathThere : WitSources → ScopeSyntax → List (Text × ItemKind) → Extern → Type 0
+IsPathThere of w es (extern.Path p) = (i : PlacedInterface) → LeadsToInterface of w p i → HasItem es (placed_identifier i)
+IsPathThere of w es x = Unit {0}
+
+-- a layer of the same world, of which what names become is something else once more
+pub record IsRenamedLayer (old : Layer) (by : NewNames) (new : Layer) : Type 0 where
+  pub place : new.place ≡ old.place
+  pub items : new.items.items ≡ old.items.items
+  pub names : IsComposed old.names by new.names
+
+-- where the items of a world have this one, each layer stays of a world that comes in
+abbrev pub AddsLayersIn : Validator → ℕ → WorldItem → List Layer → List Layer → Type 0
+AddsLayersIn v scope t old new = (of : WitSources) (w : PlacedWorld) → IsScopeAt v scope of w.scope → Contains w.decl.items.items t
+    → ((l : Layer) → Contains old l → IsLayerIn of v w l) → (l : Layer) → Contains new l → IsLayerIn of v w l
+
+-- each world that comes in by the item, and gives names, has a layer
+abbrev pub CoversInside : Validator → ℕ → IncludeItem → List Layer → Type 0
+CoversInside v scope i ls = (of : WitSources) (w : ScopeSyntax) → IsScopeAt v scope of w → IsEnabled of i.gates → (u : PlacedWorld) → LeadsToWorld of w i.path u
+    → (rss : List (List Rename)) (x : PlacedWorld) (t : WorldItem) → BringsIn of u rss x → Contains x.decl.items.items t → GivesNames of t → (l : Layer) × Contains ls l × IsLayerOf of v l (i.renames.items ∷ rss) x
+
+-- what a world that comes in says under names of its own has items under the new ones
+pub record HasNamed (of : WitSources) (rss : List (List Rename)) (x : PlacedWorld) (e : WorldContent) : Type 0 where
+  pub imports : (y : Extern) → SaysExtern of x Import y → IsNamedThere rss e.imports y
+  pub exports : (y : Extern) → SaysExtern of x Export y → IsNamedThere rss e.exports y
+  pub types : (n : Text) (m : Denoted) → NamesType (world_setting of rss x) n m → HasItem e.imports (renamed_by rss n)
+  pub methods : (n : Text) (g : FuncTree) → HasMethod (world_setting of rss x) n g → HasItem e.imports n
 
 -- ---- what a world needs
-
--- the `use` is there, and names a type
-abbrev pub UsesTypes : WitSources → UseItem → Type 0
-UsesTypes of u = IsEnabled of u.gates × ((r : Rename) × Contains u.names.items r)
 
 -- each interface that items use, where they stand, is marked
 abbrev pub MarksUses : Validator → ℕ → List UseItem → ExternMarks → Type 0
@@ -176,7 +251,7 @@ MarksUses v scope us m = (of : WitSources) (w : ScopeSyntax) → IsScopeAt v sco
 
 -- what this interface uses is imported
 abbrev pub ImportsUsed : WitSources → PlacedWorld → ScopeSyntax → List UseItem → Type 0
-ImportsUsed of w v us = (i : PlacedInterface) → UsesInterface of v us i → ImportsInterface of w i
+ImportsUsed of w v us = (i : PlacedInterface) → UsesInterface of v us i → HasExternInterface of Import w i
 
 -- in a scope of which a world imports what these items use, marks of imports stay so
 abbrev pub KeepsUses : Validator → ℕ → List UseItem → List (Text × ItemKind) → ExternMarks → ExternMarks → Type 0
@@ -184,7 +259,7 @@ KeepsUses v scope us es old new = (of : WitSources) (w : PlacedWorld) (x : Scope
 
 -- the same of what an interface uses, if the world imports it
 abbrev pub KeepsUsesOf : Validator → FoundInterface → List (Text × ItemKind) → ExternMarks → ExternMarks → Type 0
-KeepsUsesOf v f es old new = (of : WitSources) (w : PlacedWorld) (i : PlacedInterface) → KnowsWorlds of v → IsPlacedAt v f.place i → ImportsInterface of w i → AreMarksOf of v w Import es old → AreMarksOf of v w Import es new
+KeepsUsesOf v f es old new = (of : WitSources) (w : PlacedWorld) (i : PlacedInterface) → KnowsWorlds of v → IsPlacedAt v f.place i → HasExternInterface of Import w i → AreMarksOf of v w Import es old → AreMarksOf of v w Import es new
 
 -- what an interface uses is marked
 abbrev pub MarksUsesOf : Validator → FoundInterface → ExternMarks → Type 0
@@ -200,12 +275,12 @@ IsImportedOrExported of v w m i = IsMarkedAs v m i ⊎ ExportsIdentifier of w (p
 
 -- marks of imports stay so where what these uses name is used by an export, and all exported interfaces are there
 abbrev pub KeepsUnexported : Validator → ℕ → WorldContent → List UseItem → ExternMarks → ExternMarks → Type 0
-KeepsUnexported v scope e us old new = (of : WitSources) (w : PlacedWorld) (x : ScopeSyntax) → IsScopeAt v scope of x → AreInterfacesThere of w e.exports
+KeepsUnexported v scope e us old new = (of : WitSources) (w : PlacedWorld) (x : ScopeSyntax) → IsScopeAt v scope of x → AreInterfacesThere of Export w e.exports
     → ((i : PlacedInterface) → UsesInterface of x us i → IsUsedByExport of w i) → AreMarksOf of v w Import e.imports old → AreMarksOf of v w Import e.imports new
 
 -- the same of an item of the world
 abbrev pub KeepsNeeds : Validator → ℕ → WorldContent → WorldItem → ExternMarks → ExternMarks → Type 0
-KeepsNeeds v scope e item old new = (of : WitSources) (w : PlacedWorld) → IsScopeAt v scope of w.scope → AreInterfacesThere of w e.exports → Contains w.decl.items.items item
+KeepsNeeds v scope e item old new = (of : WitSources) (w : PlacedWorld) → IsScopeAt v scope of w.scope → AreInterfacesThere of Export w e.exports → Contains w.decl.items.items item
     → AreMarksOf of v w Import e.imports old → AreMarksOf of v w Import e.imports new
 
 -- what these uses name is imported, or exported
@@ -238,7 +313,8 @@ HasNeeds v scope e item m = (of : WitSources) (w : PlacedWorld) → IsScopeAt v 
 
 -- where a world is written
 pub record IsTextAt (v : Validator) (text : WorldText) (of : WitSources) (w : PlacedWorld) : Type 0 where
-  pub at : IsScopeAt v text.scope of w.scope
+  pub at : IsScopeAt v text.place.scope of w.scope
+  pub written : IsWorldAt of v text.place w
   pub decl : w.decl ≡ text.decl.now
 
 abbrev pub text_content : WorldText → WorldContent
@@ -249,24 +325,19 @@ pub record AreWorldMarksOf (of : WitSources) (v : Validator) (w : PlacedWorld) (
   pub imports : AreMarksOf of v w Import e.imports m.imports
   pub exports : AreMarksOf of v w Export e.exports m.exports
 
--- each item has one among others
-abbrev pub HasAllItems : List (Text × ItemKind) → List (Text × ItemKind) → Type 0
-HasAllItems es others = (n : Text) → HasItem others n → HasItem es n
+-- the interfaces that a world has are there
+pub record HasInterfaces (of : WitSources) (x : PlacedWorld) (e : WorldContent) : Type 0 where
+  pub imports : AreInterfacesThere of Import x e.imports
+  pub exports : AreInterfacesThere of Export x e.exports
 
--- all that a world has has an item
-pub record HasWorldItems (of : WitSources) (x : PlacedWorld) (e : WorldContent) : Type 0 where
-  pub imports : (n : Text) (t : ItemTree) → HasExternOf of Import x n t → HasItem e.imports n
-  pub exports : (n : Text) (t : ItemTree) → HasExternOf of Export x n t → HasItem e.exports n
-  pub interfaces : AreInterfacesThere of x e.exports
+-- those that a world has that an item includes are
+abbrev pub HasInterfacesOf : WitSources → ScopeSyntax → WorldContent → WorldItem → Type 0
+HasInterfacesOf of w e (of_world.Include i) = IsEnabled of i.gates → (x : PlacedWorld) → LeadsToWorld of w i.path x → HasInterfaces of x e
+HasInterfacesOf of w e x = Unit {0}
 
--- all that a world has that an item includes has an item
-abbrev pub HasItemsOf : WitSources → ScopeSyntax → WorldContent → WorldItem → Type 0
-HasItemsOf of w e (of_world.Include i) = IsEnabled of i.gates → (x : PlacedWorld) → LeadsToWorld of w i.path x → HasWorldItems of x e
-HasItemsOf of w e x = Unit {0}
-
--- all that the worlds have that are included has an item
+-- those that the worlds have that are included are
 abbrev pub HasIncluded : WitSources → PlacedWorld → WorldContent → Type 0
-HasIncluded of w e = (x : PlacedWorld) → Includes of w x → HasWorldItems of x e
+HasIncluded of w e = (x : PlacedWorld) (i : IncludeItem) → SaysInclude of w x i → HasInterfaces of x e
 
 abbrev pub KeepsExterns : WitSources → Validator → PlacedWorld → ExternKind → List (Text × ItemKind) → ExternMarks → ExternMarks → Type 0
 KeepsExterns of v w k es old new = AreMarksOf of v w k es old → AreMarksOf of v w k es new
@@ -286,18 +357,12 @@ pub record StaysAs (old new : Validator) : Type 0 where
   pub scopes : new.scopes.items ≡ old.scopes.items
   pub knows : (of : WitSources) → KnowsWorlds of old → KnowsWorlds of new
 
--- both sides of an entry are those of a world
-pub record AreWorldSides (of : WitSources) (v : Validator) (w : PlacedWorld) (e : WorldContent) (m : ExternMarks) : Type 0 where
-  pub imports : AreItemsOf of v w Import e.imports
-  pub exports : AreExportsOfWorld of v w e.exports m
-
 -- what has to be known before imports are looked at
-pub record IsReadyFor (of : WitSources) (v : Validator) (names : NamedTypes) (w : PlacedWorld) (e : WorldContent) (m : WorldMarks) : Type 0 where
-  pub types : AreExportsOf (world_setting of w) v.types.now (named_items names)
-  pub stand : StandForTypes names (world_setting of w)
-  pub imports : AreMarksOf of v w Import e.imports m.imports
+pub record IsReadyFor (of : WitSources) (v : Validator) (w : PlacedWorld) (e : WorldContent) (m : WorldMarks) : Type 0 where
+  pub named : (rss : List (List Rename)) (x : PlacedWorld) → BringsIn of w rss x → HasNamed of rss x e
   pub included : HasIncluded of w e
-  pub exports : AreExportsOfWorld of v w e.exports m.exports
+  pub imports : AreMarksOf of v w Import e.imports m.imports
+  pub exports : AreSideOf of v w Export e.exports m.exports
 
 -- what the world needs is there, all is marked, and what marked interfaces use is marked
 pub record HasAllNeeds (of : WitSources) (v : Validator) (w : PlacedWorld) (m : WorldMarks) : Type 0 where
@@ -312,82 +377,11 @@ OffersItem s (of_world.Type t) = Contains s.types t
 OffersItem s x = Unit {0}
 
 -- each name of a type of an item has an export
-abbrev pub IsItemRepresented : WitSources → List (Text × ItemKind) → WorldItem → Type 0
-IsItemRepresented of es (of_world.Use u) = IsRepresented of es (inside.Use u)
-IsItemRepresented of es (of_world.Type t) = IsRepresented of es (inside.Type t)
-IsItemRepresented of es x = Unit {0}
+abbrev pub IsItemRepresented : Setting → List (Text × ItemKind) → WorldItem → Type 0
+IsItemRepresented s es (of_world.Use u) = IsRepresented s es (inside.Use u)
+IsItemRepresented s es (of_world.Type t) = IsRepresented s es (inside.Type t)
+IsItemRepresented s es x = Unit {0}
 
--- the world of an entry was found at the place, or one that includes another one under new names
-abbrev pub IsFoundOrRenaming : Validator → ItemPlace → Id → Type 0
-IsFoundOrRenaming v p id = ((f : FoundWorld) × Contains v.worlds.items f × (f.id ≡ id) × (f.place ≡ p)) ⊎ Contains v.renaming.items p
-
--- ---- facts of clauses
-
--- what an item says that is imported, or exported, is there
-abbrev pub CoversExtern : Validator → ℕ → WorldSide → ExternItem → Type 0
-CoversExtern v scope side e = (of : WitSources) (w : ScopeSyntax) → IsScopeAt v scope of w → IsEnabled of e.gates → IsSaidThere of w (side_items side) e.what
-
-abbrev pub CoversItem : Validator → ℕ → WorldSide → WorldItem → Type 0
-CoversItem v scope side item = (of : WitSources) (w : ScopeSyntax) → IsScopeAt v scope of w → (e : ExternItem) → item ≡ extern_item side.kind e → IsEnabled of e.gates → IsSaidThere of w (side_items side) e.what
-
--- marks of imports stay so
-abbrev pub KeepsImportMarks : Validator → List (Text × ItemKind) → ExternMarks → ExternMarks → Type 0
-KeepsImportMarks v es old new = (of : WitSources) (w : PlacedWorld) → KnowsWorlds of v → AreMarksOf of v w Import es old → AreMarksOf of v w Import es new
-
--- the interface that a path leads to is marked
-abbrev pub MarksPath : Validator → ℕ → Path → ExternMarks → Type 0
-MarksPath v scope path m = (of : WitSources) (w : ScopeSyntax) → IsScopeAt v scope of w → (i : PlacedInterface) → LeadsToInterface of w path i → IsMarkedAs v m i
-
--- marks of both sides stay so in a world that has these items, or this one
-abbrev pub KeepsIncluded : Validator → ℕ → WorldContent → List WorldItem → WorldMarks → WorldMarks → Type 0
-KeepsIncluded v scope e items old new = (of : WitSources) (w : PlacedWorld) → IsScopeAt v scope of w.scope → w.decl.items.items ≡ items → KeepsBoth of v w e old new
-
-abbrev pub KeepsItem : Validator → ℕ → WorldContent → WorldItem → WorldMarks → WorldMarks → Type 0
-KeepsItem v scope e item old new = (of : WitSources) (w : PlacedWorld) → IsScopeAt v scope of w.scope → Contains w.decl.items.items item → KeepsBoth of v w e old new
-
-abbrev pub CoversIncluded : Validator → ℕ → WorldContent → WorldItem → Type 0
-CoversIncluded v scope e item = (of : WitSources) (w : ScopeSyntax) → IsScopeAt v scope of w → HasItemsOf of w e item
-
--- a path leads to the world at a place
-abbrev pub LeadsToPlace : Validator → ℕ → Path → ItemPlace → Type 0
-LeadsToPlace v scope path place = (of : WitSources) (w : ScopeSyntax) → IsScopeAt v scope of w → (x : PlacedWorld) → IsWorldAt of v place x → LeadsToWorld of w path x
-
--- marks stay so in a world that includes another one
-abbrev pub KeepsAllOf : Validator → FoundWorld → WorldContent → WorldMarks → WorldMarks → Type 0
-KeepsAllOf v f e old new = (of : WitSources) (w : PlacedWorld) (valid : IsValidatedWorld of v f) → KnowsWorlds of v → Includes of w valid.written → KeepsBoth of v w e old new
-
-abbrev pub KeepsExportsOf : Validator → List (Text × ItemKind) → List (Text × ItemKind) → ExternMarks → ExternMarks → ExternMarks → Type 0
-KeepsExportsOf v es others found old new = (of : WitSources) (w x : PlacedWorld) → KnowsWorlds of v → AreExportsOfWorld of v x others found → Includes of w x → KeepsExterns of v w Export es old new
-
-abbrev pub KeepsSame : List (Text × ItemKind) → List (Text × ItemKind) → ExternMarks → ExternMarks → Type 0
-KeepsSame es others old new = (of : WitSources) (v : Validator) (w x : PlacedWorld) → AreItemsOf of v x Import others → Includes of w x → KeepsExterns of v w Import es old new
-
--- what an exported interface of a package needs
-abbrev pub KeepsPathNeeds : Validator → ℕ → WorldContent → Path → ExternMarks → ExternMarks → Type 0
-KeepsPathNeeds v scope e p old new = (of : WitSources) (w : PlacedWorld) → IsScopeAt v scope of w.scope → AreInterfacesThere of w e.exports → SaysExtern of w Export (extern.Path p) → KeepsExterns of v w Import e.imports old new
-
-abbrev pub HasPathNeeds : Validator → ℕ → WorldContent → Path → WorldMarks → Type 0
-HasPathNeeds v scope e p m = (of : WitSources) (w : PlacedWorld) → IsScopeAt v scope of w.scope → AreMarksOf of v w Export e.exports m.exports → ExportNeeds of v w m (extern.Path p)
-
--- the names are those of a world's own types
-abbrev pub AreOwnTypes : Validator → WorldText → NamedTypes → Type 0
-AreOwnTypes v text names = names.types.now ≡ v.types.now → (of : WitSources) (w : PlacedWorld) → IsTextAt v text of w → AreExportsOf (world_setting of w) names.types.now (named_items names)
-
-abbrev pub KeepsOwn : WorldSide → ExternMarks → ExternMarks → Type 0
-KeepsOwn side old new = (of : WitSources) (v : Validator) (w : PlacedWorld) → side.names.types.now ≡ v.types.now → AreExportsOf (world_setting of w) v.types.now (named_items side.names) → KeepsExterns of v w Import (side_items side) old new
-
--- what was found of imports, of exports, and of all that is needed
-abbrev pub HasIncludedMarks : Validator → WorldText → WorldMarks → Type 0
-HasIncludedMarks v text m = (of : WitSources) (w : PlacedWorld) → IsTextAt v text of w → AreMarksOf of v w Import (text_content text).imports m.imports × HasIncluded of w (text_content text)
-
-abbrev pub HasExportMarks : Validator → WorldText → NamedTypes → WorldMarks → Type 0
-HasExportMarks v text names m = names.types.now ≡ v.types.now → (of : WitSources) (w : PlacedWorld) → IsTextAt v text of w → StandForTypes names (world_setting of w) → AreExportsOfWorld of v w (text_content text).exports m.exports
-
-abbrev pub HasImportsFor : Validator → WorldText → NamedTypes → WorldMarks → Type 0
-HasImportsFor v text names m = names.types.now ≡ v.types.now → (of : WitSources) (w : PlacedWorld) → IsTextAt v text of w → IsReadyFor of v names w (text_content text) m → AreItemsOf of v w Import (text_content text).imports
-
-abbrev pub KeepsAllNeeds : Validator → WorldText → ExternMarks → ExternMarks → Type 0
-KeepsAllNeeds v text old new = (of : WitSources) (w : PlacedWorld) → IsTextAt v text of w → AreInterfacesThere of w (text_content text).exports → KeepsExterns of v w Import (text_content text).imports old new
-
-abbrev pub HasNeedsOf : Validator → WorldText → WorldMarks → Type 0
-HasNeedsOf v text m = (of : WitSources) (w : PlacedWorld) → IsTextAt v text of w → AreMarksOf of v w Export (text_content text).exports m.exports → HasAllNeeds of v w m
+-- the same, in each setting of known sources
+abbrev pub RepresentsItem : Validator → NamedTypes → WorldItem → Type 0
+RepresentsItem v names x = (s : Setting) → Knows s.sources v → Renames names s.renames → IsItemRepresented s (named_items names) x

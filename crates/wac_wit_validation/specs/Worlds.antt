@@ -1,5 +1,4 @@
 -- What worlds stand for (WIT.md, "Worlds"): a rule for each way in which something comes to be imported or exported.
--- Worlds that are included under new names are left out (`GivesNewNames`).
 use Rattle.std.specs.Prelude.{◌≡◌, List, [], ◌∷◌, Contains, Some, IsSome, Vec}
 use Rattle.std.specs.declared.alloc.Global.{Global}
 use Rattle.wac_model.specs.ItemTree.{ItemTree, Items, composite, func, item, item_at, leaf, world}
@@ -22,9 +21,9 @@ use Rattle.wac_wit_syntax.specs.declared.tree.WorldItem.{WorldItem}
 use Rattle.wac_wit_syntax.specs.declared.tree.WorldItem.TheVariants as of_world
 use Rattle.wac_wit_validation.specs.WitSources.{WitSources, ScopeSyntax, IsEnabled, ident_text}
 use Rattle.wac_wit_validation.specs.Placed.{PlacedInterface, PlacedWorld, LeadsToInterface, LeadsToWorld, placed_identifier}
-use Rattle.wac_wit_validation.specs.Denoted.{Setting, uses_in}
-use Rattle.wac_wit_validation.specs.Functions.{IsFuncOf}
-use Rattle.wac_wit_validation.specs.Interfaces.{HasExportOf, IsInterfaceTree}
+use Rattle.wac_wit_validation.specs.Denoted.{Denoted, NamesType, Setting, renamed_by, uses_in}
+use Rattle.wac_wit_validation.specs.Functions.{HasMethod, IsFuncOf}
+use Rattle.wac_wit_validation.specs.Interfaces.{IsInterfaceTree, named_tree}
 
 -- ---- what a world says itself
 
@@ -47,9 +46,9 @@ types_of_world (of_world.Export e ∷ is) = types_of_world is
 abbrev pub world_uses : PlacedWorld → List UseItem
 world_uses w = uses_of_world w.decl.items.items
 
--- where the names in a world's functions are looked up
-abbrev pub world_setting : WitSources → PlacedWorld → Setting
-world_setting of w = record { sources = of; scope = w.scope; uses = world_uses w; types = types_of_world w.decl.items.items; funcs = [] }
+-- where the names in a world's functions are looked up, which comes in somewhere under these new names
+abbrev pub world_setting : WitSources → List (List Rename) → PlacedWorld → Setting
+world_setting of rss w = record { sources = of; scope = w.scope; uses = world_uses w; types = types_of_world w.decl.items.items; funcs = []; renames = rss }
 
 abbrev pub extern_item : ExternKind → ExternItem → WorldItem
 extern_item Import e = of_world.Import e
@@ -68,16 +67,11 @@ pub record SaysInclude (of : WitSources) (w v : PlacedWorld) (i : IncludeItem) :
   pub there : IsEnabled of i.gates
   pub leads : LeadsToWorld of w.scope i.path v
 
--- all that the other world has comes in, under the names that it has there
-pub record Includes (of : WitSources) (w v : PlacedWorld) : Type 0 where
-  pub item : IncludeItem
-  pub says : SaysInclude of w v item
-  pub same_names : item.renames.items ≡ []
-
--- some of it comes in under another name (`with`), here or in a world that is included
-pub data GivesNewNames (of : WitSources) : PlacedWorld → Type 0 where
-  renames_here : {w : PlacedWorld} (i : IncludeItem) (r : Rename) → Contains w.decl.items.items (of_world.Include i) → IsEnabled of i.gates → Contains i.renames.items r → GivesNewNames of w
-  renames_inside : {w v : PlacedWorld} (i : IncludeItem) → SaysInclude of w v i → GivesNewNames of v → GivesNewNames of w
+-- a world is that one, or comes into it by what it includes, and by what that includes: under the new names of each, the last
+-- ones first
+pub data BringsIn (of : WitSources) : PlacedWorld → List (List Rename) → PlacedWorld → Type 0 where
+  itself : {w : PlacedWorld} → BringsIn of w [] w
+  by_include : {w v x : PlacedWorld} {rss : List (List Rename)} (i : IncludeItem) → SaysInclude of w v i → BringsIn of v rss x → BringsIn of w (i.renames.items ∷ rss) x
 
 -- ---- interfaces of packages
 
@@ -90,20 +84,24 @@ pub record UsesInterface (of : WitSources) (w : ScopeSyntax) (us : List UseItem)
   pub within : Contains item.names.items name
   pub leads : LeadsToInterface of w item.path i
 
--- what a world exports: what it says, and what the worlds export that it includes
-pub data ExportsInterface (of : WitSources) : PlacedWorld → PlacedInterface → Type 0 where
-  exported : {w : PlacedWorld} {i : PlacedInterface} (p : Path) → SaysExtern of w Export (extern.Path p) → LeadsToInterface of w.scope p i → ExportsInterface of w i
-  exported_inside : {w v : PlacedWorld} {i : PlacedInterface} → Includes of w v → ExportsInterface of v i → ExportsInterface of w i
+-- a world says that it exports the interface
+pub record ExportsInterface (of : WitSources) (w : PlacedWorld) (i : PlacedInterface) : Type 0 where
+  pub path : Path
+  pub says : SaysExtern of w Export (extern.Path path)
+  pub leads : LeadsToInterface of w.scope path i
 
 -- an interface is used by what a world exports itself
 pub data IsUsedByExport (of : WitSources) (w : PlacedWorld) (i : PlacedInterface) : Type 0 where
   used_by_interface : {v : PlacedInterface} (p : Path) → SaysExtern of w Export (extern.Path p) → LeadsToInterface of w.scope p v → UsesInterface of v.scope (uses_in v.decl.items.items) i → IsUsedByExport of w i
   used_by_inline : (id : Ident) (is : Vec InterfaceItem Global) → SaysExtern of w Export (extern.Inline id is) → UsesInterface of w.scope (uses_in is.items) i → IsUsedByExport of w i
 
--- a world exports an interface with this identifier
+-- a world, or one that comes into it, exports an interface with this identifier
 pub record ExportsIdentifier (of : WitSources) (w : PlacedWorld) (n : Text) : Type 0 where
+  pub renames : List (List Rename)
+  pub inside : PlacedWorld
+  pub brings : BringsIn of w renames inside
   pub interface : PlacedInterface
-  pub exports : ExportsInterface of w interface
+  pub exports : ExportsInterface of inside interface
   pub identifier : placed_identifier interface ≡ n
 
 -- what a world imports for its own items: what it says; what the world itself uses, and what it exports does, if that isn't
@@ -115,19 +113,29 @@ pub data ImportsInterface (of : WitSources) (w : PlacedWorld) : PlacedInterface 
   used_by_export : {i : PlacedInterface} → IsUsedByExport of w i → (ExportsIdentifier of w (placed_identifier i) → ⊥) → ImportsInterface of w i
   used_by_import : {v i : PlacedInterface} → ImportsInterface of w v → UsesInterface of v.scope (uses_in v.decl.items.items) i → ImportsInterface of w i
 
-abbrev pub HasExternInterface : WitSources → ExternKind → PlacedWorld → PlacedInterface → Type 0
-HasExternInterface of Import w i = ImportsInterface of w i
-HasExternInterface of Export w i = ExportsInterface of w i
+abbrev pub SaysInterface : WitSources → ExternKind → PlacedWorld → PlacedInterface → Type 0
+SaysInterface of Import w i = ImportsInterface of w i
+SaysInterface of Export w i = ExportsInterface of w i
+
+-- a world imports, or exports, the interface, itself or by a world that comes into it
+pub record HasExternInterface (of : WitSources) (k : ExternKind) (w : PlacedWorld) (i : PlacedInterface) : Type 0 where
+  pub renames : List (List Rename)
+  pub inside : PlacedWorld
+  pub brings : BringsIn of w renames inside
+  pub says : SaysInterface of k inside i
 
 -- ---- all that a world imports or exports
 
+-- what it says itself, and what the worlds say that come into it, under the new names that this gets
 pub data HasExternOf (of : WitSources) : ExternKind → PlacedWorld → Text → ItemTree → Type 0 where
   extern_interface : {k : ExternKind} {w : PlacedWorld} {t : ItemTree} (i : PlacedInterface) → HasExternInterface of k w i → IsInterfaceTree of i.scope i.decl.items.items t → HasExternOf of k w (placed_identifier i) t
-  extern_inline : {k : ExternKind} {w : PlacedWorld} {t : ItemTree} (id : Ident) (is : Vec InterfaceItem Global) → SaysExtern of w k (extern.Inline id is) → IsInterfaceTree of w.scope is.items t → HasExternOf of k w (ident_text id) t
-  extern_func : {k : ExternKind} {w : PlacedWorld} {g : FuncTree} (id : Ident) (sig : Signature) → SaysExtern of w k (extern.Func id sig) → IsFuncOf (world_setting of w) sig [] (λ r. r) g → HasExternOf of k w (ident_text id) (leaf item (func g))
-  -- the world's types, with those that it uses, and their functions are imports
-  extern_type : {w : PlacedWorld} {n : Text} {t : ItemTree} → HasExportOf (world_setting of w) n t → HasExternOf of Import w n t
-  extern_included : {k : ExternKind} {w v : PlacedWorld} {n : Text} {t : ItemTree} → Includes of w v → HasExternOf of k v n t → HasExternOf of k w n t
+  extern_inline : {k : ExternKind} {w v : PlacedWorld} {rss : List (List Rename)} {t : ItemTree} (id : Ident) (is : Vec InterfaceItem Global) → BringsIn of w rss v → SaysExtern of v k (extern.Inline id is)
+      → IsInterfaceTree of v.scope is.items t → HasExternOf of k w (renamed_by rss (ident_text id)) t
+  extern_func : {k : ExternKind} {w v : PlacedWorld} {rss : List (List Rename)} {g : FuncTree} (id : Ident) (sig : Signature) → BringsIn of w rss v → SaysExtern of v k (extern.Func id sig)
+      → IsFuncOf (world_setting of rss v) sig [] (λ r. r) g → HasExternOf of k w (renamed_by rss (ident_text id)) (leaf item (func g))
+  -- the types of a world, with those that it uses, and their functions are imports
+  extern_type : {w v : PlacedWorld} {rss : List (List Rename)} {n : Text} {m : Denoted} → BringsIn of w rss v → NamesType (world_setting of rss v) n m → HasExternOf of Import w (renamed_by rss n) (named_tree m)
+  extern_method : {w v : PlacedWorld} {rss : List (List Rename)} {n : Text} {g : FuncTree} → BringsIn of w rss v → HasMethod (world_setting of rss v) n g → HasExternOf of Import w n (leaf item (func g))
 
 -- items are those that the text says, and nothing that the text says is left out
 pub record AreWorldExterns (of : WitSources) (k : ExternKind) (w : PlacedWorld) (is : Items) : Type 0 where

@@ -17,7 +17,7 @@ use super::texts::{is_identifier_of, is_package_text, is_version_text, is_word};
 use super::validator::{FoundInterface, ItemPlace, Validator};
 use indexmap::IndexMap;
 use std::alloc::{AllocError, Global};
-use wac_component::{InterfaceId, Type, Types};
+use wac_component::{ExternKind, InterfaceId, Type, Types};
 use wac_wit_names::{Catalog, Features, SourceFile};
 use wac_wit_syntax::{Document, InterfaceDecl, TopItem};
 
@@ -71,9 +71,6 @@ impl<'v> Validator<'v> {
             worlds: Vec::new(alloc),
             world_nodes: IndexMap::new(alloc),
             world_ids: IndexMap::new(alloc),
-            renaming: Vec::new(alloc),
-            renaming_nodes: IndexMap::new(alloc),
-            renaming_ids: IndexMap::new(alloc),
         }))
     }
 
@@ -83,7 +80,7 @@ impl<'v> Validator<'v> {
         ensures types { self.new.types.now ≡ self.old.types.now }
         ensures knows { (of : WitSources) → KnowsWorlds of self.old → KnowsWorlds of self.new }
     {
-        match self.take_in(node, id)? {
+        match self.take_in(node, id, ExternKind::Import)? {
             Some(position) => {
                 self.positions.insert(node, position)?;
                 Ok(true)
@@ -97,6 +94,7 @@ impl<'v> Validator<'v> {
         &mut self,
         node: usize,
         id: InterfaceId,
+        kind: ExternKind,
     ) -> Result<Option<usize>, AllocError>
         ensures { StaysAs self.old self.new }
     {
@@ -104,7 +102,7 @@ impl<'v> Validator<'v> {
             return Ok(None);
         };
         let found = FoundInterface { place, id };
-        if !self.is_found(&found)? {
+        if !self.is_found(&found, kind)? {
             return Ok(None);
         }
         let position = self.found.len();
@@ -138,7 +136,7 @@ impl<'v> Validator<'v> {
     }
 
     // Whether an interface is there, and its entry is as it is written.
-    fn is_found(&self, found: &FoundInterface) -> Result<bool, AllocError>
+    fn is_found(&self, found: &FoundInterface, kind: ExternKind) -> Result<bool, AllocError>
         ensures { IfOk result (λ is. IsTrue is → (of : WitSources) → Knows of self.now → IsValidated of self.now found.now) }
     {
         let Some((scope, decl)) = self.interface_at(&found.place) else {
@@ -151,7 +149,7 @@ impl<'v> Validator<'v> {
         if !is_identifier_of(scope.package, &decl.name.name, &entry.id) {
             return Ok(false);
         }
-        self.is_interface(found.place.scope, &decl.items, entry)
+        self.is_interface(found.place.scope, &decl.items, entry, kind)
     }
 
     /// Whether an entry that was taken in is that of the interface of a name, in the package of a

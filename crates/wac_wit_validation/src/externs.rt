@@ -1,12 +1,19 @@
 //! What a world says itself that it imports and exports.
 
-ghost use Rattle.std.specs.Prelude.{◌≡◌, ◌≢◌, ℕ, Contains, IfOk, IfSome, IsNone, IsTrue};
+ghost use Rattle.std.specs.Borrow.{Bor};
+ghost use Rattle.std.specs.Prelude.{◌≡◌, ◌≢◌, ℕ, Contains, IfOk, IfSome, IsNone, IsTrue, List, Some, slice_get};
+ghost use Rattle.wac_component.specs.declared.worlds.ExternKind.{ExternKind as KindOf};
 ghost use Rattle.wac_component.specs.Content.{named};
 ghost use Rattle.wac_wit_syntax.specs.declared.tree.Extern.TheVariants.{Func as FuncExtern, Inline as InlineExtern, «Path» as PathExtern};
 ghost use Rattle.wac_wit_syntax.specs.declared.tree.ExternItem.{ExternItem as ExternSyntax};
+ghost use Rattle.wac_wit_syntax.specs.declared.tree.Rename.{Rename as RenameOf};
+ghost use Rattle.wac_wit_syntax.specs.declared.tree.WorldItem.{WorldItem as ItemOf};
 ghost use Rattle.wac_wit_validation.specs.Checking.{HasItem};
+ghost use Rattle.wac_wit_validation.specs.Denoted.{renamed_by};
+ghost use Rattle.wac_wit_validation.specs.Reading.{Renames};
 ghost use Rattle.wac_wit_validation.specs.WitSources.{ScopeSyntax, WitSources, ident_text};
-ghost use Rattle.wac_wit_validation.specs.WorldChecking.{CoversExtern, CoversItem, IsAllThere, IsSaidThere, IsScopeAt, KeepsSide, LeadsToExtern, side_items};
+ghost use Rattle.wac_wit_validation.specs.WorldChecking.{IsNamedThere, IsPathThere, IsScopeAt, KeepsPaths, KeepsSide, LeadsToExtern, side_items};
+ghost use Rattle.wac_wit_validation.specs.WorldClauses.{CoversExtern, CoversItem, CoversPath, CoversPathItem, CoversPaths};
 ghost use Rattle.wac_wit_validation.specs.Worlds.{SaysExtern, extern_item};
 ghost use Rattle.wac_wit_validation.specs.declared.validator.Validator.{Validator as ValidatorOf};
 
@@ -83,16 +90,17 @@ impl<'v> Validator<'v> {
         })
     }
 
-    /// Marks what a world says that it imports or exports, if it is there as it is written.
-    pub(crate) fn mark_said(
+    /// Marks what items say that is imported or exported under a name of its own, if it is there as
+    /// it is written.
+    pub(crate) fn mark_named(
         &self,
         scope: usize,
         side: &WorldSide<'_>,
         marks: &mut ExternMarks,
-        items: &[WorldItem],
+        items: &[&WorldItem],
     ) -> Result<bool, AllocError>
-        ensures marks { IfOk result (λ is. IsTrue is → KeepsSide self.now scope side.now (λ of w. w.decl.items.items ≡ items.now) marks.old marks.new) }
-        ensures covers { IfOk result (λ is. IsTrue is → (of : WitSources) (w : ScopeSyntax) → IsScopeAt self.now scope of w → IsAllThere of w side.now items.now) }
+        ensures marks { IfOk result (λ is. IsTrue is → KeepsSide self.now scope side.now (λ of x. (b : Bor ItemOf) → Contains items.now b → Contains x.decl.items.items b.now) marks.old marks.new) }
+        ensures covers { IfOk result (λ is. IsTrue is → (b : Bor ItemOf) → Contains items.now b → CoversItem self.now side.now b.now) }
     {
         for item in items {
             if !self.mark_item(scope, side, marks, item)? {
@@ -109,8 +117,8 @@ impl<'v> Validator<'v> {
         marks: &mut ExternMarks,
         item: &WorldItem,
     ) -> Result<bool, AllocError>
-        ensures marks { IfOk result (λ is. IsTrue is → KeepsSide self.now scope side.now (λ of w. Contains w.decl.items.items item.now) marks.old marks.new) }
-        ensures covers { IfOk result (λ is. IsTrue is → CoversItem self.now scope side.now item.now) }
+        ensures marks { IfOk result (λ is. IsTrue is → KeepsSide self.now scope side.now (λ of x. Contains x.decl.items.items item.now) marks.old marks.new) }
+        ensures covers { IfOk result (λ is. IsTrue is → CoversItem self.now side.now item.now) }
     {
         match said(side.kind, item) {
             Some(it) => self.is_said(scope, side, marks, it),
@@ -125,8 +133,8 @@ impl<'v> Validator<'v> {
         marks: &mut ExternMarks,
         item: &ExternItem,
     ) -> Result<bool, AllocError>
-        ensures marks { IfOk result (λ is. IsTrue is → KeepsSide self.now scope side.now (λ of w. Contains w.decl.items.items (extern_item side.now.kind item.now)) marks.old marks.new) }
-        ensures covers { IfOk result (λ is. IsTrue is → CoversExtern self.now scope side.now item.now) }
+        ensures marks { IfOk result (λ is. IsTrue is → KeepsSide self.now scope side.now (λ of x. Contains x.decl.items.items (extern_item side.now.kind item.now)) marks.old marks.new) }
+        ensures covers { IfOk result (λ is. IsTrue is → CoversExtern self.now side.now item.now) }
     {
         if !self.is_there(&item.gates) {
             return Ok(true);
@@ -141,33 +149,14 @@ impl<'v> Validator<'v> {
         marks: &mut ExternMarks,
         what: &Extern,
     ) -> Result<bool, AllocError>
-        ensures marks { IfOk result (λ is. IsTrue is → KeepsSide self.now scope side.now (λ of w. SaysExtern of w side.now.kind what.now) marks.old marks.new) }
-        ensures covers { IfOk result (λ is. IsTrue is → (of : WitSources) (w : ScopeSyntax) → IsScopeAt self.now scope of w → IsSaidThere of w (side_items side.now) what.now) }
+        ensures marks { IfOk result (λ is. IsTrue is → KeepsSide self.now scope side.now (λ of x. SaysExtern of x side.now.kind what.now) marks.old marks.new) }
+        ensures covers { IfOk result (λ is. IsTrue is → (rss : List (List RenameOf)) → Renames side.now.names rss → IsNamedThere rss (side_items side.now) what.now) }
     {
         match what {
-            Extern::Path(path) => self.mark_path(scope, side, marks, path),
+            Extern::Path(_) => Ok(true),
             Extern::Func(name, signature) => Ok(mark_func(side, marks, name, signature)),
             Extern::Inline(name, items) => self.mark_inline(scope, side, marks, name, items),
             Extern::Named(_, _) => Ok(false),
-        }
-    }
-
-    fn mark_path(
-        &self,
-        scope: usize,
-        side: &WorldSide<'_>,
-        marks: &mut ExternMarks,
-        path: &Path,
-    ) -> Result<bool, AllocError>
-        ensures marks { IfOk result (λ is. IsTrue is → KeepsSide self.now scope side.now (λ of w. SaysExtern of w side.now.kind (PathExtern path.now)) marks.old marks.new) }
-        ensures covers { IfOk result (λ is. IsTrue is → (of : WitSources) (w : ScopeSyntax) → IsScopeAt self.now scope of w → IsSaidThere of w (side_items side.now) (PathExtern path.now)) }
-    {
-        match self.led(scope, path, side.externs)? {
-            Some(led) => {
-                marks.mark(led.index, ExternMark::Found(led.found));
-                Ok(true)
-            }
-            None => Ok(false),
         }
     }
 
@@ -179,10 +168,10 @@ impl<'v> Validator<'v> {
         name: &Ident,
         items: &Vec<InterfaceItem>,
     ) -> Result<bool, AllocError>
-        ensures marks { IfOk result (λ is. IsTrue is → KeepsSide self.now scope side.now (λ of w. SaysExtern of w side.now.kind (InlineExtern name.now items.now)) marks.old marks.new) }
-        ensures covers { IfOk result (λ is. IsTrue is → HasItem (side_items side.now) (ident_text name.now)) }
+        ensures marks { IfOk result (λ is. IsTrue is → KeepsSide self.now scope side.now (λ of x. SaysExtern of x side.now.kind (InlineExtern name.now items.now)) marks.old marks.new) }
+        ensures covers { IfOk result (λ is. IsTrue is → (rss : List (List RenameOf)) → Renames side.now.names rss → HasItem (side_items side.now) (renamed_by rss (ident_text name.now))) }
     {
-        let Some((index, _, item)) = side.externs.get_full(name.name.as_str()) else {
+        let Some((index, item)) = side.named(name) else {
             return Ok(false);
         };
         marks.mark(index, ExternMark::Written);
@@ -192,7 +181,96 @@ impl<'v> Validator<'v> {
         if !self.types.contains(Type::Interface(*id)) {
             return Ok(false);
         }
-        self.is_interface(scope, items, &self.types[*id])
+        self.is_interface(scope, items, &self.types[*id], side.kind)
+    }
+
+    /// Marks the interfaces of packages that a world says that it imports or exports, if they are
+    /// there.
+    pub(crate) fn mark_paths(
+        &self,
+        scope: usize,
+        kind: ExternKind,
+        externs: &IndexMap<String, ItemKind>,
+        marks: &mut ExternMarks,
+        items: &[WorldItem],
+    ) -> Result<bool, AllocError>
+        ensures marks { IfOk result (λ is. IsTrue is → KeepsPaths self.now scope kind (named (λ k. k) externs.now.entries) (λ of w. w.decl.items.items ≡ items.now) marks.old marks.new) }
+        ensures covers { IfOk result (λ is. IsTrue is → CoversPaths self.now scope kind (named (λ k. k) externs.now.entries) items.now) }
+    {
+        for item in items {
+            if !self.mark_path_item(scope, kind, externs, marks, item)? {
+                return Ok(false);
+            }
+        }
+        Ok(true)
+    }
+
+    fn mark_path_item(
+        &self,
+        scope: usize,
+        kind: ExternKind,
+        externs: &IndexMap<String, ItemKind>,
+        marks: &mut ExternMarks,
+        item: &WorldItem,
+    ) -> Result<bool, AllocError>
+        ensures marks { IfOk result (λ is. IsTrue is → KeepsPaths self.now scope kind (named (λ k. k) externs.now.entries) (λ of w. Contains w.decl.items.items item.now) marks.old marks.new) }
+        ensures covers { IfOk result (λ is. IsTrue is → CoversPathItem self.now scope kind (named (λ k. k) externs.now.entries) item.now) }
+    {
+        match said(kind, item) {
+            Some(it) => self.mark_said_path(scope, externs, marks, it),
+            None => Ok(true),
+        }
+    }
+
+    fn mark_said_path(
+        &self,
+        scope: usize,
+        externs: &IndexMap<String, ItemKind>,
+        marks: &mut ExternMarks,
+        item: &ExternItem,
+    ) -> Result<bool, AllocError>
+        ensures marks { IfOk result (λ is. IsTrue is → (k : KindOf) → KeepsPaths self.now scope k (named (λ k. k) externs.now.entries) (λ of w. Contains w.decl.items.items (extern_item k item.now)) marks.old marks.new) }
+        ensures covers { IfOk result (λ is. IsTrue is → CoversPath self.now scope (named (λ k. k) externs.now.entries) item.now) }
+    {
+        if !self.is_there(&item.gates) {
+            return Ok(true);
+        }
+        match &item.what {
+            Extern::Path(path) => self.mark_path(scope, externs, marks, path),
+            Extern::Func(_, _) | Extern::Inline(_, _) | Extern::Named(_, _) => Ok(true),
+        }
+    }
+
+    fn mark_path(
+        &self,
+        scope: usize,
+        externs: &IndexMap<String, ItemKind>,
+        marks: &mut ExternMarks,
+        path: &Path,
+    ) -> Result<bool, AllocError>
+        ensures marks { IfOk result (λ is. IsTrue is → (k : KindOf) → KeepsPaths self.now scope k (named (λ k. k) externs.now.entries) (λ of w. SaysExtern of w k (PathExtern path.now)) marks.old marks.new) }
+        ensures covers { IfOk result (λ is. IsTrue is → (of : WitSources) (w : ScopeSyntax) → IsScopeAt self.now scope of w → IsPathThere of w (named (λ k. k) externs.now.entries) (PathExtern path.now)) }
+    {
+        match self.led(scope, path, externs)? {
+            Some(led) => {
+                marks.mark(led.index, ExternMark::Found(led.found));
+                Ok(true)
+            }
+            None => Ok(false),
+        }
+    }
+}
+
+impl<'e> WorldSide<'e> {
+    // What stands under the name that a name becomes, and its place.
+    fn named(&self, name: &Ident) -> Option<(usize, &'e ItemKind)>
+        ensures { IfSome result (λ p. (rss : List (List RenameOf)) → Renames self.now.names rss → slice_get (side_items self.now) p.0 ≡ Some (renamed_by rss (ident_text name.now), p.1.now)) }
+    {
+        let name = self.names.new_name(name)?;
+        match self.externs.get_full(name.name.as_str()) {
+            Some((index, _, item)) => Some((index, item)),
+            None => None,
+        }
     }
 }
 
@@ -202,10 +280,10 @@ fn mark_func(
     name: &Ident,
     signature: &Signature,
 ) -> bool
-    ensures marks { IsTrue result → (v : ValidatorOf) (scope : ℕ) → KeepsSide v scope side.now (λ of w. SaysExtern of w side.now.kind (FuncExtern name.now signature.now)) marks.old marks.new }
-    ensures covers { IsTrue result → HasItem (side_items side.now) (ident_text name.now) }
+    ensures marks { IsTrue result → (v : ValidatorOf) (scope : ℕ) → KeepsSide v scope side.now (λ of x. SaysExtern of x side.now.kind (FuncExtern name.now signature.now)) marks.old marks.new }
+    ensures covers { IsTrue result → (rss : List (List RenameOf)) → Renames side.now.names rss → HasItem (side_items side.now) (renamed_by rss (ident_text name.now)) }
 {
-    let Some((index, _, item)) = side.externs.get_full(name.name.as_str()) else {
+    let Some((index, item)) = side.named(name) else {
         return false;
     };
     marks.mark(index, ExternMark::Written);

@@ -6,7 +6,8 @@ ghost use Rattle.wac_wit_validation.specs.Denoted.{uses_in};
 ghost use Rattle.wac_wit_validation.specs.WitSources.{WitSources};
 ghost use Rattle.wac_wit_validation.specs.declared.marks.ExternMark.TheVariants.{Found as FoundMark};
 ghost use Rattle.wac_wit_validation.specs.declared.validator.FoundInterface.{FoundInterface as FoundOf};
-ghost use Rattle.wac_wit_validation.specs.WorldChecking.{IsClosed, KeepsImportMarks, KeepsUses, KeepsUsesOf, KnowsWorlds, MarksPath, MarksUses, MarksUsesOf, UsesTypes};
+ghost use Rattle.wac_wit_validation.specs.WorldChecking.{IsClosed, KeepsUses, KeepsUsesOf, KnowsWorlds, MarksUses, MarksUsesOf, UsesTypes};
+ghost use Rattle.wac_wit_validation.specs.WorldClauses.{KeepsImportMarks, MarksPath};
 
 use super::includes::has_any;
 use super::marks::{ExternMark, ExternMarks};

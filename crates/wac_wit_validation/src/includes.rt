@@ -1,18 +1,19 @@
-//! What a world has of the worlds that it includes.
+//! The interfaces that a world has of the worlds that it includes.
 
-ghost use Rattle.std.specs.Prelude.{◌≡◌, Contains, IfSome, IsTrue, Some, slice_get};
+ghost use Rattle.std.specs.Prelude.{◌≡◌, ◌≢◌, Contains, IfSome, IsTrue, Some, slice_get};
 ghost use Rattle.wac_component.specs.Content.{named, world_content};
 ghost use Rattle.wac_component.specs.declared.items.ItemKind.TheVariants.{Instance};
 ghost use Rattle.wac_wit_syntax.specs.declared.tree.Rename.{Rename as RenameOf};
 ghost use Rattle.wac_wit_syntax.specs.declared.tree.TopItem.TheVariants.{World as OfWorld};
 ghost use Rattle.wac_wit_syntax.specs.declared.tree.WorldItem.TheVariants.{Include as IncludeOf};
-ghost use Rattle.wac_wit_validation.specs.Placed.{LeadsToWorld, PlacedWorld};
-ghost use Rattle.wac_wit_validation.specs.WitSources.{ScopeSyntax, WitSources};
-ghost use Rattle.wac_wit_validation.specs.WorldChecking.{CoversIncluded, HasAllItems, HasWorldItems, HasIncluded, IsScopeAt, IsValidatedWorld, KeepsAllOf, KeepsExportsOf, KeepsIncluded, KeepsItem, KeepsSame, LeadsToPlace};
-ghost use Rattle.wac_wit_validation.specs.Worlds.{GivesNewNames};
+ghost use Rattle.wac_wit_validation.specs.Checking.{HasItem};
+ghost use Rattle.wac_wit_validation.specs.Placed.{PlacedInterface, PlacedWorld, placed_identifier};
+ghost use Rattle.wac_wit_validation.specs.WitSources.{WitSources};
+ghost use Rattle.wac_wit_validation.specs.WorldChecking.{HasIncluded, HasInterfaces, IsScopeAt, IsValidatedWorld};
+ghost use Rattle.wac_wit_validation.specs.WorldClauses.{CoversIncluded, HasInterfacesOfSide, KeepsAllOf, KeepsIncluded, KeepsInterfaceOf, KeepsInterfacesOf, KeepsItem, LeadsToPlace};
 
 use super::imports::is_same_place;
-use super::marks::{ExternMark, ExternMarks};
+use super::marks::{ExternMark, ExternMarks, WorldMarks};
 use super::sources::ScopeItems;
 use super::validator::{FoundInterface, FoundWorld, ItemPlace, Validator, leads};
 use indexmap::IndexMap;
@@ -20,77 +21,7 @@ use wac_component::{ItemKind, Type, World};
 use wac_wit_names::FoundPlace;
 use wac_wit_syntax::{IncludeItem, Path, Rename, TopItem, WorldDecl, WorldItem};
 
-/// What was found of a world's imports and exports.
-pub(crate) struct WorldMarks {
-    pub(crate) imports: ExternMarks,
-    pub(crate) exports: ExternMarks,
-}
-
-impl Drop for WorldMarks {
-    fn drop(self) {
-        let WorldMarks {
-            imports: _,
-            exports: _,
-        } = self;
-    }
-}
-
-impl WorldMarks {
-    /// What was found of the exports.
-    pub(crate) fn into_exports(self) -> ExternMarks
-        ensures { result ≡ self.exports }
-    {
-        let WorldMarks {
-            imports: _,
-            exports,
-        } = self;
-        exports
-    }
-}
-
 impl<'v> Validator<'v> {
-    /// Whether a world includes another one under new names, itself or by way of others.
-    pub(crate) fn gives_new_names(&self, scope: usize, items: &[WorldItem]) -> bool
-        ensures { IsTrue result → (of : WitSources) (w : PlacedWorld) → IsScopeAt self.now scope of w.scope → w.decl.items.items ≡ items.now → GivesNewNames of w }
-    {
-        for item in items {
-            if let WorldItem::Include(it) = item
-                && self.includes_new_names(scope, it)
-            {
-                return true;
-            }
-        }
-        false
-    }
-
-    fn includes_new_names(&self, scope: usize, item: &IncludeItem) -> bool
-        ensures { IsTrue result → (of : WitSources) (w : PlacedWorld) → IsScopeAt self.now scope of w.scope → Contains w.decl.items.items (IncludeOf item.now) → GivesNewNames of w }
-    {
-        if !self.is_there(&item.gates) {
-            return false;
-        }
-        has_any(&item.renames) || self.leads_to_new_names(scope, &item.path)
-    }
-
-    // Whether a path leads to a world that includes another one under new names.
-    fn leads_to_new_names(&self, scope: usize, path: &Path) -> bool
-        ensures { IsTrue result → (of : WitSources) (w : ScopeSyntax) → IsScopeAt self.now scope of w → (v : PlacedWorld) × LeadsToWorld of w path.now v × GivesNewNames of v }
-    {
-        let Some(place) = self.world_place(path) else {
-            return false;
-        };
-        let Some(at) = self.renaming_at(place.node) else {
-            return false;
-        };
-        self.leads_to_world(scope, path, &place, at)
-    }
-
-    fn renaming_at(&self, node: usize) -> Option<&ItemPlace>
-        ensures { IfSome result (λ p. Contains self.now.renaming.items p.now) }
-    {
-        self.renaming.get(*self.renaming_nodes.get(&node)?)
-    }
-
     // Where the catalog found the world that the path of an `include` leads to.
     fn world_place(&self, path: &Path) -> Option<FoundPlace> {
         self.include_places.get(&path.span.start).copied()
@@ -121,7 +52,7 @@ impl<'v> Validator<'v> {
         }
     }
 
-    /// Marks all that a world has of those that it includes.
+    /// Marks the interfaces that a world has of those that it includes.
     pub(crate) fn mark_included(
         &self,
         scope: usize,
@@ -157,7 +88,7 @@ impl<'v> Validator<'v> {
         }
     }
 
-    // Marks all that a world has of one that it includes.
+    // Marks the interfaces that a world has of one that it includes.
     fn mark_include(
         &self,
         scope: usize,
@@ -171,9 +102,6 @@ impl<'v> Validator<'v> {
         if !self.is_there(&item.gates) {
             return true;
         }
-        if has_any(&item.renames) {
-            return false;
-        }
         match self.included(scope, &item.path) {
             Some(world) => self.mark_all_of(entry, marks, world),
             None => false,
@@ -181,7 +109,7 @@ impl<'v> Validator<'v> {
     }
 
     // The world that a path leads to, which was found to be as it is written.
-    fn included(&self, scope: usize, path: &Path) -> Option<&FoundWorld>
+    pub(crate) fn included(&self, scope: usize, path: &Path) -> Option<&FoundWorld<'v>>
         ensures { IfSome result (λ f. Contains self.now.worlds.items f.now × LeadsToPlace self.now scope path.now f.now.place) }
     {
         let place = self.world_place(path)?;
@@ -190,59 +118,79 @@ impl<'v> Validator<'v> {
             .then_some(found)
     }
 
-    // Marks all that another world imports and exports.
-    fn mark_all_of(&self, entry: &World, marks: &mut WorldMarks, world: &FoundWorld) -> bool
+    // Marks the interfaces that another world imports and exports.
+    fn mark_all_of(&self, entry: &World, marks: &mut WorldMarks, world: &FoundWorld<'_>) -> bool
         ensures marks { IsTrue result → KeepsAllOf self.now world.now (world_content entry.now) marks.old marks.new }
-        ensures covers { IsTrue result → (of : WitSources) (valid : IsValidatedWorld of self.now world.now) → HasWorldItems of valid.written (world_content entry.now) }
+        ensures covers { IsTrue result → (of : WitSources) (valid : IsValidatedWorld of self.now world.now) → HasInterfaces of valid.written (world_content entry.now) }
     {
         if !self.types.contains(Type::World(world.id)) {
             return false;
         }
         let of = &self.types[world.id];
-        mark_same(&entry.imports, &mut marks.imports, &of.imports)
-            && self.mark_exports_of(
-                &entry.exports,
-                &mut marks.exports,
-                &of.exports,
-                &world.exports,
-            )
+        let found = &world.marks;
+        self.mark_interfaces_of(
+            &entry.imports,
+            &mut marks.imports,
+            &of.imports,
+            &found.imports,
+        ) && self.mark_interfaces_of(
+            &entry.exports,
+            &mut marks.exports,
+            &of.exports,
+            &found.exports,
+        )
     }
 
-    // Marks the exports of another world. An interface may have an entry of its own here.
-    fn mark_exports_of(
+    // Marks the interfaces among the imports, or the exports, of another world.
+    fn mark_interfaces_of(
         &self,
-        exports: &IndexMap<String, ItemKind>,
+        externs: &IndexMap<String, ItemKind>,
         marks: &mut ExternMarks,
         others: &IndexMap<String, ItemKind>,
         found: &ExternMarks,
     ) -> bool
-        ensures marks { IsTrue result → KeepsExportsOf self.now (named (λ k. k) exports.now.entries) (named (λ k. k) others.now.entries) found.now marks.old marks.new }
-        ensures covers { IsTrue result → HasAllItems (named (λ k. k) exports.now.entries) (named (λ k. k) others.now.entries) }
+        ensures marks { IsTrue result → KeepsInterfacesOf self.now (named (λ k. k) externs.now.entries) (named (λ k. k) others.now.entries) found.now marks.old marks.new }
+        ensures covers { IsTrue result → HasInterfacesOfSide self.now (named (λ k. k) externs.now.entries) (named (λ k. k) others.now.entries) found.now }
     {
         for index in 0..others.len() {
-            let Some((name, other)) = others.get_index(index) else {
+            let Some((name, _)) = others.get_index(index) else {
                 return false;
             };
-            let Some((place, _, item)) = exports.get_full(name.as_str()) else {
-                return false;
+            let is = match found.found_at(index) {
+                Some(interface) => self.mark_interface_of(externs, marks, name, &interface),
+                None => is_plain(name),
             };
-            match found.found_at(index) {
-                Some(interface) => match self.same_interface(item, &interface) {
-                    Some(own) => marks.mark(place, ExternMark::Found(own)),
-                    None => return false,
-                },
-                None => {
-                    if !is_same_item(item, other) {
-                        return false;
-                    }
-                    marks.mark(place, ExternMark::Written);
-                }
+            if !is {
+                return false;
             }
         }
         true
     }
 
-    // The interface of an export, if it is written where another one is.
+    // Marks the interface of a name, which may have an entry of its own here.
+    fn mark_interface_of(
+        &self,
+        externs: &IndexMap<String, ItemKind>,
+        marks: &mut ExternMarks,
+        name: &str,
+        other: &FoundInterface,
+    ) -> bool
+        ensures marks { IsTrue result → KeepsInterfaceOf self.now (named (λ k. k) externs.now.entries) name.now other.now marks.old marks.new }
+        ensures covers { IsTrue result → HasItem (named (λ k. k) externs.now.entries) name.now }
+    {
+        let Some((place, _, item)) = externs.get_full(name) else {
+            return false;
+        };
+        match self.same_interface(item, other) {
+            Some(own) => {
+                marks.mark(place, ExternMark::Found(own));
+                true
+            }
+            None => false,
+        }
+    }
+
+    // The interface of an item, if it is written where another one is.
     fn same_interface(&self, item: &ItemKind, other: &FoundInterface) -> Option<FoundInterface>
         ensures { IfSome result (λ f. (item.now ≡ Instance f.id) × (f.place ≡ other.now.place) × Contains self.now.found.items f) }
     {
@@ -269,26 +217,9 @@ pub(crate) fn has_any(renames: &[Rename]) -> bool
     !renames.is_empty()
 }
 
-// Marks the items of another world that are imported too.
-fn mark_same(
-    imports: &IndexMap<String, ItemKind>,
-    marks: &mut ExternMarks,
-    others: &IndexMap<String, ItemKind>,
-) -> bool
-    ensures marks { IsTrue result → KeepsSame (named (λ k. k) imports.now.entries) (named (λ k. k) others.now.entries) marks.old marks.new }
-    ensures covers { IsTrue result → HasAllItems (named (λ k. k) imports.now.entries) (named (λ k. k) others.now.entries) }
+// Whether a name isn't the identifier of an interface.
+fn is_plain(name: &str) -> bool
+    ensures { IsTrue result → (i : PlacedInterface) → name.now ≢ placed_identifier i }
 {
-    for index in 0..others.len() {
-        let Some((name, other)) = others.get_index(index) else {
-            return false;
-        };
-        let Some((place, _, item)) = imports.get_full(name.as_str()) else {
-            return false;
-        };
-        if !is_same_item(item, other) {
-            return false;
-        }
-        marks.mark(place, ExternMark::Written);
-    }
-    true
+    !name.contains("/")
 }

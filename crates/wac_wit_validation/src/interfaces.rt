@@ -8,10 +8,10 @@ ghost use Rattle.wac_wit_syntax.specs.declared.tree.InterfaceItem.TheVariants.{�
 ghost use Rattle.wac_wit_syntax.specs.declared.tree.Method.{Method};
 ghost use Rattle.wac_wit_syntax.specs.declared.tree.Rename.{Rename as Renamed};
 ghost use Rattle.wac_wit_syntax.specs.declared.tree.TypeDef.TheVariants.{Resource};
-ghost use Rattle.wac_wit_validation.specs.Checking.{AreExportsAt, Brings, BringsAll, HasAllMethods, HasItem, HasMethodItem, HasMethods, HasRootName, HaveOneCollection, IsFuncBehind, IsRepresented, Knows, MarksAt, MarksExports, MarksIn, Offers, OffersMethod, OffersMethods, named_items};
+ghost use Rattle.wac_wit_validation.specs.Checking.{AreExportsAt, Brings, BringsAll, HasAllMethods, HasItem, HasMethodItem, HasMethods, HasRootName, HasTypeItem, HaveOneCollection, IsFuncBehind, Knows, MarksAt, MarksExports, MarksIn, Offers, OffersMethod, OffersMethods, RepresentsNames, named_items};
 ghost use Rattle.wac_wit_validation.specs.Denoted.{Setting, interface_setting};
 ghost use Rattle.wac_wit_validation.specs.Functions.{IsFuncOf};
-ghost use Rattle.wac_wit_validation.specs.Reading.{StandForTypes};
+ghost use Rattle.wac_wit_validation.specs.Reading.{Renames, StandForTypes};
 ghost use Rattle.wac_wit_validation.specs.WitSources.{IsEnabled, WitSources, given_name, ident_text};
 ghost use Rattle.wac_wit_validation.specs.declared.sources.ScopeItems.{ScopeItems};
 
@@ -21,23 +21,25 @@ use super::progress::ExportMarks;
 use super::typedefs::{is_same_type, is_spelled};
 use super::validator::Validator;
 use std::alloc::AllocError;
-use wac_component::{Interface, ItemKind, ResourceId, Type};
+use wac_component::{ExternKind, Interface, ItemKind, ResourceId, Type};
 use wac_wit_syntax::{FuncItem, Ident, InterfaceItem, Method, Rename, TypeDef, TypeItem, UseItem};
 
 impl<'v> Validator<'v> {
-    /// Whether an interface exports what is written.
+    /// Whether an interface exports what is written: with those that it uses among imports, or among
+    /// the exports of the world that is looked at.
     pub(crate) fn is_interface(
         &self,
         scope: usize,
         items: &[InterfaceItem],
         entry: &Interface,
+        kind: ExternKind,
     ) -> Result<bool, AllocError>
         ensures { IfOk result (λ is. IsTrue is → AreExportsAt self.now scope items.now (interface_content entry.now).exports) }
     {
         let names = self.names_of(entry);
         let mut progress = ExportMarks::new(self.alloc, &names)?;
         for item in items {
-            if !self.is_item(scope, &names, &mut progress, item)? {
+            if !self.is_item(scope, &names, &mut progress, item, kind)? {
                 return Ok(false);
             }
         }
@@ -50,12 +52,13 @@ impl<'v> Validator<'v> {
         names: &NamedTypes<'_>,
         progress: &mut ExportMarks,
         item: &InterfaceItem,
+        kind: ExternKind,
     ) -> Result<bool, AllocError>
         ensures marks { IfOk result (λ is. IsTrue is → MarksAt self.now scope (λ s. Offers s item.now) names.now progress.old progress.new) }
-        ensures covers { IfOk result (λ is. IsTrue is → (of : WitSources) → Knows of self.now → IsRepresented of (named_items names.now) item.now) }
+        ensures covers { IfOk result (λ is. IsTrue is → RepresentsNames self.now names.now item.now) }
     {
         match item {
-            InterfaceItem::Use(it) => self.is_use(scope, names, progress, it),
+            InterfaceItem::Use(it) => self.is_use(scope, names, progress, it, kind),
             InterfaceItem::Type(it) => Ok(self.is_type(names, progress, it)),
             InterfaceItem::Func(it) => Ok(self.is_func(names, progress, it)),
         }
@@ -68,14 +71,15 @@ impl<'v> Validator<'v> {
         names: &NamedTypes<'_>,
         progress: &mut ExportMarks,
         item: &UseItem,
+        kind: ExternKind,
     ) -> Result<bool, AllocError>
         ensures marks { IfOk result (λ is. IsTrue is → MarksAt self.now scope (λ s. Contains s.uses item.now) names.now progress.old progress.new) }
-        ensures covers { IfOk result (λ is. IsTrue is → (of : WitSources) → Knows of self.now → IsRepresented of (named_items names.now) (UseOf item.now)) }
+        ensures covers { IfOk result (λ is. IsTrue is → RepresentsNames self.now names.now (UseOf item.now)) }
     {
         if !self.is_there(&item.gates) || item.names.is_empty() {
             return Ok(true);
         }
-        match self.names_at(scope, &item.path)? {
+        match self.names_at(scope, &item.path, kind)? {
             Some(from) => Ok(are_used(names, progress, &from, &item.names)),
             None => Ok(false),
         }
@@ -88,8 +92,8 @@ impl<'v> Validator<'v> {
         progress: &mut ExportMarks,
         item: &TypeItem,
     ) -> bool
-        ensures marks { IsTrue result → (s : Setting) → Knows s.sources self.now → Contains s.types item.now → MarksExports s names.now progress.old progress.new }
-        ensures covers { IsTrue result → (of : WitSources) → Knows of self.now → IsRepresented of (named_items names.now) (TypeOf item.now) }
+        ensures marks { IsTrue result → (s : Setting) → Knows s.sources self.now → Renames names.now s.renames → Contains s.types item.now → MarksExports s names.now progress.old progress.new }
+        ensures covers { IsTrue result → RepresentsNames self.now names.now (TypeOf item.now) }
     {
         if !self.is_there(&item.gates) {
             return true;
@@ -108,14 +112,17 @@ impl<'v> Validator<'v> {
         item: &TypeItem,
         of: &Type,
     ) -> bool
-        ensures marks { IsTrue result → (s : Setting) → Knows s.sources self.now → Contains s.types item.now → IsEnabled s.sources item.now.gates → MarksExports s names.now progress.old progress.new }
-        ensures covers { IsTrue result → (of : WitSources) → Knows of self.now → HasAllMethods of (named_items names.now) item.now }
+        ensures marks { IsTrue result → (s : Setting) → Knows s.sources self.now → Renames names.now s.renames → Contains s.types item.now → IsEnabled s.sources item.now.gates → MarksExports s names.now progress.old progress.new }
+        ensures covers { IsTrue result → (s : Setting) → Knows s.sources self.now → Renames names.now s.renames → HasAllMethods s (named_items names.now) item.now }
     {
         match (&item.def, of) {
-            (TypeDef::Resource(methods), Type::Resource(id)) => {
-                names.is_own_resource(&item.name, id)
-                    && self.are_resource_methods(names, progress, &item.name, methods, id)
-            }
+            (TypeDef::Resource(methods), Type::Resource(id)) => match names.new_name(&item.name) {
+                Some(name) => {
+                    names.is_own_resource(name, id)
+                        && self.are_resource_methods(names, progress, name, methods, id)
+                }
+                None => false,
+            },
             (TypeDef::Resource(_), _) => false,
             _ => true,
         }
@@ -170,8 +177,8 @@ fn is_typedef<'n>(
     progress: &mut ExportMarks,
     item: &TypeItem,
 ) -> Option<&'n Type>
-    ensures marks { IfSome result (λ of. (s : Setting) → Contains s.types item.now → IsEnabled s.sources item.now.gates → MarksExports s names.now progress.old progress.new) }
-    ensures named { IfSome result (λ of. HasItem (named_items names.now) (ident_text item.now.name)) }
+    ensures marks { IfSome result (λ of. (s : Setting) → Renames names.now s.renames → Contains s.types item.now → IsEnabled s.sources item.now.gates → MarksExports s names.now progress.old progress.new) }
+    ensures named { IfSome result (λ of. HasTypeItem (named_items names.now) (ident_text item.now.name)) }
 {
     let (index, of) = names.type_at(&item.name)?;
     progress.mark(index);
@@ -212,7 +219,7 @@ fn are_used(
     renames: &[Rename],
 ) -> bool
     ensures marks { IsTrue result → HaveOneCollection names.now from.now → (s f : Setting) → StandForTypes from.now f → BringsAll s f renames.now → MarksExports s names.now progress.old progress.new }
-    ensures covers { IsTrue result → (r : Renamed) → Contains renames.now r → HasItem (named_items names.now) (given_name r.name r.alias) }
+    ensures covers { IsTrue result → (r : Renamed) → Contains renames.now r → HasTypeItem (named_items names.now) (given_name r.name r.alias) }
 {
     for rename in renames {
         if !is_used(names, progress, from, rename) {
@@ -230,7 +237,7 @@ fn is_used(
     rename: &Rename,
 ) -> bool
     ensures marks { IsTrue result → names.now.types.now ≡ from.now.types.now → (s f : Setting) → StandForTypes from.now f → Brings s f rename.now → MarksExports s names.now progress.old progress.new }
-    ensures covers { IsTrue result → HasItem (named_items names.now) (given_name rename.now.name rename.now.alias) }
+    ensures covers { IsTrue result → HasTypeItem (named_items names.now) (given_name rename.now.name rename.now.alias) }
 {
     let Some((index, of)) = names.type_at(local_name(rename)) else {
         return false;

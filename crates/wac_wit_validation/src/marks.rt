@@ -30,6 +30,21 @@ impl Drop for ExternMarks {
     }
 }
 
+/// What was found of a world's imports and exports.
+pub(crate) struct WorldMarks {
+    pub(crate) imports: ExternMarks,
+    pub(crate) exports: ExternMarks,
+}
+
+impl Drop for WorldMarks {
+    fn drop(self) {
+        let WorldMarks {
+            imports: _,
+            exports: _,
+        } = self;
+    }
+}
+
 impl ExternMarks {
     /// Nothing of so many.
     pub(crate) fn new(alloc: Global, count: usize) -> Result<ExternMarks, AllocError>

@@ -2,7 +2,7 @@
 
 ghost use Rattle.std.specs.Prelude.{◌≡◌, ◌++◌, IsTrue, codes};
 ghost use Rattle.wac_component.specs.Tree.{root_name};
-ghost use Rattle.wac_wit_validation.specs.Checking.{Gives, HasItem, HasRootName, IsFuncBehind, MarksExports, named_items};
+ghost use Rattle.wac_wit_validation.specs.Checking.{Gives, HasFuncItem, HasRootName, IsFuncBehind, IsFuncItem, MarksExports, named_items};
 ghost use Rattle.wac_wit_validation.specs.Denoted.{Setting};
 ghost use Rattle.wac_wit_validation.specs.Functions.{IsMethodOf, method_name};
 ghost use Rattle.wac_wit_validation.specs.WitSources.{ident_text};
@@ -22,7 +22,7 @@ pub(crate) fn is_next_method(
     method: &Method,
 ) -> bool
     ensures marks { let n = ident_text resource.now in IsTrue result → HasRootName names.now id.now n → (s : Setting) → Gives s n method.now → MarksExports s names.now progress.old progress.new }
-    ensures covers { IsTrue result → HasItem (named_items names.now) (method_name method.now.kind (ident_text resource.now) (ident_text method.now.name)) }
+    ensures covers { IsTrue result → HasFuncItem (named_items names.now) (method_name method.now.kind (ident_text resource.now) (ident_text method.now.name)) }
 {
     let index = progress.next_method;
     progress.next_method = index.saturating_add(1);
@@ -41,7 +41,8 @@ fn is_method_item(
     id: &ResourceId,
     method: &Method,
 ) -> bool
-    ensures { IsTrue result → (s : Setting) → IsFuncBehind s names.now index item.now (IsMethodOf s method.now (root_name names.now.types.now id.now)) }
+    ensures func { IsTrue result → IsFuncItem names.now.types.now item.now (λ f. Unit {0}) }
+    ensures behind { IsTrue result → (s : Setting) → IsFuncBehind s names.now index item.now (IsMethodOf s method.now (root_name names.now.types.now id.now)) }
 {
     match item {
         ItemKind::Func(func) => names.up_to(index).is_method(method, id, func),

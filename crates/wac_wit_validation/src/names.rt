@@ -1,15 +1,18 @@
 //! What names stand for.
 
-ghost use Rattle.std.specs.Prelude.{◌≡◌, IfSome, IsSome, IsTrue, Some, slice_get};
+ghost use Rattle.std.specs.Prelude.{◌≡◌, List, IfSome, IsSome, IsTrue, Some, slice_get};
 ghost use Rattle.wac_component.specs.declared.items.ItemKind.TheVariants.{«Type» as OfType};
 ghost use Rattle.wac_wit_validation.specs.Checking.{named_items};
 ghost use Rattle.wac_component.specs.Collection.{Collection};
 ghost use Rattle.wac_component.specs.Content.{defined_content};
 ghost use Rattle.wac_component.specs.Tree.{content_tree, root_name, value_tree};
 ghost use Rattle.wac_wit_validation.specs.Denoted.{NamesType, Setting, resource_type, value_type};
-ghost use Rattle.wac_wit_validation.specs.Reading.{StandForTypes, IsTypeNamed, type_meaning};
+ghost use Rattle.wac_wit_validation.specs.Reading.{IsTypeNamed, Renames, StandForTypes, name_by, type_meaning};
+ghost use Rattle.wac_wit_syntax.specs.declared.tree.Rename.{Rename as RenameOf};
+ghost use Rattle.wac_wit_validation.specs.WorldClauses.{imported_name};
 ghost use Rattle.wac_wit_validation.specs.WitSources.{ident_text};
 
+use super::layers::NewNames;
 use indexmap::IndexMap;
 use wac_component::{DefinedType, ItemKind, ResourceId, Type, Types, ValueType};
 use wac_wit_syntax::Ident;
@@ -21,6 +24,8 @@ pub(crate) struct NamedTypes<'n> {
     pub(crate) types: &'n Types,
     pub(crate) items: &'n IndexMap<String, ItemKind>,
     pub(crate) limit: usize,
+    /// What the names become of what is defined there, if they become others.
+    pub(crate) new_names: Option<&'n NewNames<'n>>,
 }
 
 impl<'n> NamedTypes<'n> {
@@ -71,6 +76,34 @@ impl<'n> NamedTypes<'n> {
         }
     }
 
+    /// The name that the name of what is defined becomes.
+    pub(crate) fn new_name<'m>(&self, name: &'m Ident) -> Option<&'m Ident>
+    where
+        'n: 'm,
+        ensures { IfSome result (λ i. name_by self.now.new_names (ident_text name.now) ≡ Some (ident_text i.now)) }
+    {
+        match self.new_names {
+            Some(names) => names.get(&name.name),
+            None => Some(name),
+        }
+    }
+
+    /// The name under which a type, or a function of a resource, is imported. That of a function
+    /// has the resource's new name in it already.
+    pub(crate) fn imported_name<'m>(&self, name: &'m str, item: &ItemKind) -> Option<&'m str>
+    where
+        'n: 'm,
+        ensures { IfSome result (λ n. (rss : List (List RenameOf)) → Renames self.now rss → imported_name rss name.now item.now ≡ n.now) }
+    {
+        let ItemKind::Type(_) = item else {
+            return Some(name);
+        };
+        match self.new_names {
+            Some(names) => Some(names.get(name)?.name.as_str()),
+            None => Some(name),
+        }
+    }
+
     /// Those before an index.
     pub(crate) fn up_to(&self, limit: usize) -> NamedTypes<'n>
         ensures { result ≡ record self.now { limit = limit } }
@@ -79,6 +112,7 @@ impl<'n> NamedTypes<'n> {
             types: self.types,
             items: self.items,
             limit,
+            new_names: self.new_names,
         }
     }
 

@@ -4,10 +4,10 @@ ghost use Rattle.std.specs.Prelude.{◌∷◌, [], IfOk, IsTrue};
 ghost use Rattle.wac_component.specs.Content.{world_content};
 ghost use Rattle.wac_wit_syntax.specs.declared.tree.WorldItem.TheVariants.{Export as ExportItem, Import as ImportItem};
 ghost use Rattle.wac_wit_validation.specs.Denoted.{uses_in};
-ghost use Rattle.wac_wit_validation.specs.WorldChecking.{HasNeeds, HasPathNeeds, KeepsNeeds, KeepsPathNeeds, KeepsUnexported, UsesAreThere};
+ghost use Rattle.wac_wit_validation.specs.WorldChecking.{HasNeeds, KeepsNeeds, KeepsUnexported, UsesAreThere};
+ghost use Rattle.wac_wit_validation.specs.WorldClauses.{HasPathNeeds, KeepsPathNeeds};
 
-use super::includes::WorldMarks;
-use super::marks::{ExternMark, ExternMarks};
+use super::marks::{ExternMark, ExternMarks, WorldMarks};
 use super::validator::{Validator, WorldText};
 use std::alloc::AllocError;
 use wac_component::World;

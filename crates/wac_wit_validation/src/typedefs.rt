@@ -1,12 +1,13 @@
 //! Types with names.
 
-ghost use Rattle.std.specs.Prelude.{◌≡◌, map, is_some, IsTrue, Some, string_bytes};
+ghost use Rattle.std.specs.Prelude.{◌≡◌, List, map, is_some, IsTrue, Some, string_bytes};
 ghost use Rattle.std.specs.Option.{option_map};
 ghost use Rattle.wac_component.specs.Content.{defined_content, names, types_of, case_types, named};
 ghost use Rattle.wac_component.specs.Tree.{value_tree, content_tree, root_name};
-ghost use Rattle.wac_wit_validation.specs.Denoted.{value_type, resource_type, Setting, IsValue, IsDefined, AreFieldsOf, AreCasesOf, field_names};
+ghost use Rattle.wac_wit_validation.specs.Denoted.{value_type, renamed_by, resource_type, Setting, IsValue, IsDefined, AreFieldsOf, AreCasesOf, field_names};
 ghost use Rattle.wac_wit_validation.specs.Functions.{IsReturned};
-ghost use Rattle.wac_wit_validation.specs.Reading.{StandForTypes, IsTypeDefined, IsTypeNamed, type_meaning};
+ghost use Rattle.wac_wit_validation.specs.Reading.{IsTypeDefined, IsTypeNamed, Renames, StandForTypes, type_meaning};
+ghost use Rattle.wac_wit_syntax.specs.declared.tree.Rename.{Rename as RenameOf};
 ghost use Rattle.wac_wit_validation.specs.WitSources.{ident_text};
 ghost use Rattle.wac_wit_syntax.specs.declared.tree.TypeDef.TheVariants as def;
 ghost use Rattle.wac_wit_syntax.specs.declared.tree.TypeItem.{TypeItem};
@@ -20,7 +21,7 @@ use wac_wit_syntax::{Case, Field, Ident, TypeDef, TypeExpr, TypeItem};
 impl<'n> NamedTypes<'n> {
     /// Whether a type is the one that is defined.
     pub(crate) fn is_defined(&self, item: &TypeItem, of: &Type) -> bool
-        ensures { IsTrue result → (s : Setting) → StandForTypes self.now s → IsTypeDefined s item.now self.now.types.now of.now }
+        ensures { IsTrue result → (s : Setting) → Renames self.now s.renames → StandForTypes self.now s → IsTypeDefined s item.now self.now.types.now of.now }
     {
         match &item.def {
             TypeDef::Alias(ty) => self.is_alias(ty, of),
@@ -62,12 +63,15 @@ impl<'n> NamedTypes<'n> {
         }
     }
 
-    // Whether a type is a resource that is no alias, and has this name.
+    // Whether a type is a resource that is no alias, and has what this name becomes.
     fn is_resource(&self, name: &Ident, of: &Type) -> bool
-        ensures { IsTrue result → type_meaning self.now.types.now of.now ≡ Some (resource_type (ident_text name.now)) }
+        ensures { IsTrue result → (rss : List (List RenameOf)) → Renames self.now rss → type_meaning self.now.types.now of.now ≡ Some (resource_type (renamed_by rss (ident_text name.now))) }
     {
         match of {
-            Type::Resource(id) => self.is_own_resource(name, id),
+            Type::Resource(id) => match self.new_name(name) {
+                Some(name) => self.is_own_resource(name, id),
+                None => false,
+            },
             _ => false,
         }
     }

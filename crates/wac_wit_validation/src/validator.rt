@@ -1,18 +1,19 @@
 //! What is known while interfaces are checked.
 
-ghost use Rattle.std.specs.Prelude.{◌≡◌, ◌↔◌, IfOk, IfSome, IsTrue, Some, length, slice_get};
+ghost use Rattle.std.specs.Prelude.{◌≡◌, ◌↔◌, IfOk, IfSome, IsTrue, None, Some, length, slice_get};
 ghost use Rattle.wac_component.specs.Collection.{InterfaceContent};
 ghost use Rattle.wac_wit_validation.specs.Checking.{AreNamesAt, IsKnownScope, IsSettingAt, Knows, named_items, scope_syntax};
 ghost use Rattle.wac_wit_validation.specs.Denoted.{Setting};
 ghost use Rattle.wac_wit_validation.specs.WitSources.{IsNamedPackage, IsPackageOf, IsEnabled, PathLeadsTo, WitSources, given_name, ident_text};
 
-use super::marks::ExternMarks;
+use super::layers::Layer;
+use super::marks::WorldMarks;
 use super::names::NamedTypes;
 use super::packages::{have_one_name, is_same_package};
 use super::sources::ScopeItems;
 use indexmap::IndexMap;
 use std::alloc::{AllocError, Global};
-use wac_component::{Interface, InterfaceId, Type, Types, World, WorldId};
+use wac_component::{ExternKind, Interface, InterfaceId, Type, Types, World, WorldId};
 use wac_wit_names::{Catalog, Features, FoundPlace};
 use wac_wit_syntax::{Gates, Ident, PackageName, Path, TopItem, TopUse, WorldDecl};
 
@@ -35,21 +36,24 @@ pub struct FoundInterface {
 }
 
 /// A world that is as it is written.
-pub struct FoundWorld {
+pub struct FoundWorld<'v> {
     /// Where it is written.
     pub place: ItemPlace,
     /// Its entry.
     pub id: WorldId,
-    /// What was found of its exports.
-    pub(crate) exports: ExternMarks,
+    /// What was found of its imports and exports.
+    pub(crate) marks: WorldMarks,
+    /// Itself, and the worlds that come into it and give names.
+    pub(crate) layers: Vec<Layer<'v>>,
 }
 
-impl Drop for FoundWorld {
+impl Drop for FoundWorld<'_> {
     fn drop(self) {
         let FoundWorld {
             place: _,
             id: _,
-            exports: _,
+            marks: _,
+            layers: _,
         } = self;
     }
 }
@@ -57,7 +61,7 @@ impl Drop for FoundWorld {
 /// A world as it is written, with its entry.
 #[derive(Clone, Copy)]
 pub(crate) struct WorldText<'w> {
-    pub(crate) scope: usize,
+    pub(crate) place: ItemPlace,
     pub(crate) decl: &'w WorldDecl,
     pub(crate) entry: &'w World,
 }
@@ -81,14 +85,10 @@ pub struct Validator<'v> {
     // where the worlds are written that the one that is looked at includes, by where their paths
     // begin
     pub(crate) include_places: IndexMap<usize, FoundPlace>,
-    pub(crate) worlds: Vec<FoundWorld>,
+    pub(crate) worlds: Vec<FoundWorld<'v>>,
     // where among these a world of the catalog stands, and an entry
     pub(crate) world_nodes: IndexMap<usize, usize>,
     pub(crate) world_ids: IndexMap<WorldId, usize>,
-    // worlds that include others under new names, in the same way
-    pub(crate) renaming: Vec<ItemPlace>,
-    pub(crate) renaming_nodes: IndexMap<usize, usize>,
-    pub(crate) renaming_ids: IndexMap<WorldId, usize>,
 }
 
 impl Drop for Validator<'_> {
@@ -108,9 +108,6 @@ impl Drop for Validator<'_> {
             worlds: _,
             world_nodes: _,
             world_ids: _,
-            renaming: _,
-            renaming_nodes: _,
-            renaming_ids: _,
         } = self;
     }
 }
@@ -126,28 +123,37 @@ impl<'v> Validator<'v> {
         }
     }
 
-    /// The names of an interface that was found to be as it is written, if a path leads to one.
+    /// The names of an interface that was found to be as it is written, if a path leads to one: of
+    /// its entry among the exports of the world that is looked at, if it has one there and they are
+    /// wanted.
     pub(crate) fn names_at(
         &self,
         scope: usize,
         path: &Path,
+        kind: ExternKind,
     ) -> Result<Option<NamedTypes<'v>>, AllocError>
         ensures types { IfOk result (λ o. IfSome o (λ n. n.types.now ≡ self.now.types.now)) }
         ensures named { IfOk result (λ o. IfSome o (λ n. (s : Setting) → IsSettingAt self.now scope s → AreNamesAt s path.now n)) }
     {
         match self.catalog.find_place(scope, path)? {
-            Some(place) => Ok(self.names_from(scope, path, &place)),
+            Some(place) => Ok(self.names_from(scope, path, &place, kind)),
             None => Ok(None),
         }
     }
 
     // The names of the interface at a place, if the path leads to it.
-    fn names_from(&self, scope: usize, path: &Path, place: &FoundPlace) -> Option<NamedTypes<'v>>
+    fn names_from(
+        &self,
+        scope: usize,
+        path: &Path,
+        place: &FoundPlace,
+        kind: ExternKind,
+    ) -> Option<NamedTypes<'v>>
         ensures types { IfSome result (λ n. n.types.now ≡ self.now.types.now) }
         ensures named { IfSome result (λ n. (s : Setting) → IsSettingAt self.now scope s → AreNamesAt s path.now n) }
     {
         let from = self.scopes.get(scope)?;
-        let found = self.found.get(*self.position_of(place.node)?)?;
+        let found = self.found.get(*self.position_of(place.node, kind)?)?;
         let to = self.scopes.get(found.place.scope)?;
         let TopItem::Interface(decl) = to.items.get(found.place.item)? else {
             return None;
@@ -159,10 +165,10 @@ impl<'v> Validator<'v> {
     }
 
     // Where an interface of the catalog stands among those that were taken in.
-    fn position_of(&self, node: usize) -> Option<&usize> {
-        match self.exported.get(&node) {
-            Some(position) => Some(position),
-            None => self.positions.get(&node),
+    fn position_of(&self, node: usize, kind: ExternKind) -> Option<&usize> {
+        match (kind, self.exported.get(&node)) {
+            (ExternKind::Export, Some(position)) => Some(position),
+            _ => self.positions.get(&node),
         }
     }
 
@@ -185,11 +191,13 @@ impl<'v> Validator<'v> {
         ensures types { result.types.now ≡ self.now.types.now }
         ensures items { result.items.now ≡ of.now.exports }
         ensures limit { result.limit ≡ length of.now.exports.entries }
+        ensures new_names { result.new_names ≡ None }
     {
         NamedTypes {
             types: self.types,
             items: &of.exports,
             limit: of.exports.len(),
+            new_names: None,
         }
     }
 }

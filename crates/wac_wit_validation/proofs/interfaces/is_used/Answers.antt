@@ -1,10 +1,10 @@
 use Rattle.std.proofs.Common.{sym, ap, ◌∙◌, subst}
 use Rattle.wac_component.specs.Collection.{Collection}
-use Rattle.wac_wit_validation.specs.Checking.{HasItem, named_items}
+use Rattle.wac_wit_validation.specs.Checking.{HasTypeItem, named_items}
 use Rattle.wac_wit_validation.specs.Denoted.{NamesType}
 use Rattle.wac_wit_validation.specs.Reading.{type_meaning}
 use Rattle.wac_wit_validation.specs.WitSources.{ident_text}
-use Rattle.wac_wit_validation.proofs.MarkFacts.{has_item_at, marks_one, type_exported}
+use Rattle.wac_wit_validation.proofs.MarkFacts.{has_type_at, marks_one, type_exported}
 use Rattle.wac_wit_validation.proofs.interfaces.is_used.Goals as goal
 
 pub returns-in-Some-named-clause-marks : goal.returns-in-Some-named-clause-marks
@@ -18,4 +18,4 @@ returns-in-Some-named-clause-marks c = λ same one s f all brings.
     (λ before m is. subst (λ k. NamesType s k m) (sym c.local_name.ensures) (brings m (c.in-Some-named.ensures f all m (ap (λ (d : Collection). type_meaning d used) (sym one) ∙ c.is_same_type.ensures same ∙ is)))))
 
 pub returns-in-Some-named-clause-covers : goal.returns-in-Some-named-clause-covers
-returns-in-Some-named-clause-covers c = λ same. subst (HasItem (named_items c.args.names.now)) c.local_name.ensures (has_item_at (named_items c.args.names.now) c.in-Some.index (ident_text c.local_name.result.now) _ c.in-Some.ensures.at)
+returns-in-Some-named-clause-covers c = λ same. subst (HasTypeItem (named_items c.args.names.now)) c.local_name.ensures (has_type_at (named_items c.args.names.now) c.in-Some.index (ident_text c.local_name.result.now) _ c.in-Some.ensures.at)

@@ -5,7 +5,7 @@ use Rattle.wac_wit_validation.specs.Functions.{IsMethodOf, method_name}
 use Rattle.wac_wit_validation.specs.Interfaces.{a_method}
 use Rattle.wac_wit_validation.specs.Reading.{TypesAreNamed}
 use Rattle.wac_wit_validation.specs.WitSources.{ident_text}
-use Rattle.wac_wit_validation.proofs.MarkFacts.{func_exported, has_item_at, marks_one}
+use Rattle.wac_wit_validation.proofs.MarkFacts.{func_exported, has_func_at, marks_one}
 use Rattle.wac_wit_validation.proofs.NameFacts.{item_at_index}
 use Rattle.wac_wit_validation.proofs.methods.is_next_method.Goals as goal
 
@@ -20,7 +20,7 @@ returns-then-is_method_name-clause-marks c = λ same own s gives.
     marks_one s names c.args.progress.now c.mark.new.self i c.mark.ensures.even c.mark.ensures.marked
     (func_exported s names.types.now (named_items names) i n c.in-Some.item.now (IsMethodOf s m r)
     (item_at_index names i c.in-Some.name.now c.in-Some.item.now n c.in-Some.ensures.entry text)
-    (subst (λ (t : Text). TypesAreNamed s names.types.now i (named_items names) → IsFuncItem names.types.now c.in-Some.item.now (IsMethodOf s m t)) own (c.is_method_item.ensures same s)) (λ f is. a_method (gives f is)))
+    (subst (λ (t : Text). TypesAreNamed s names.types.now i (named_items names) → IsFuncItem names.types.now c.in-Some.item.now (IsMethodOf s m t)) own (c.is_method_item.ensures.behind same s)) (λ f is. a_method (gives f is)))
 
 pub returns-then-is_method_name-clause-covers : goal.returns-then-is_method_name-clause-covers
 returns-then-is_method_name-clause-covers c = λ same.
@@ -28,4 +28,5 @@ returns-then-is_method_name-clause-covers c = λ same.
     let m = c.args.method.now in
     let n = method_name m.kind (ident_text c.args.resource.now) (ident_text m.name) in
     let text = sym c.deref.ensures ∙ c.if-is_method_name.ensures refl ∙ ap (λ (t : Text). method_name m.kind t (ident_text m.name)) c.deref-2.ensures in
-    has_item_at (named_items names) c.args.progress.now.next_method n c.in-Some.item.now (item_at_index names c.args.progress.now.next_method c.in-Some.name.now c.in-Some.item.now n c.in-Some.ensures.entry text)
+    let i = c.args.progress.now.next_method in
+    has_func_at names.types.now (λ f. Unit {0}) (named_items names) i n c.in-Some.item.now (item_at_index names i c.in-Some.name.now c.in-Some.item.now n c.in-Some.ensures.entry text) (c.is_method_item.ensures.func same)

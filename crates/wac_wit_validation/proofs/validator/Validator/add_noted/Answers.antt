@@ -1,39 +1,34 @@
-use Rattle.std.proofs.Common.{ℕ, refl, sym, ap, subst, ◌∙◌}
-use Rattle.wac_wit_syntax.specs.declared.tree.WorldDecl.{WorldDecl}
+use Rattle.std.proofs.Common.{Vec, sym, subst}
+use Rattle.std.specs.declared.alloc.Global.{Global}
 use Rattle.wac_wit_validation.specs.Placed.{PlacedWorld}
 use Rattle.wac_wit_validation.specs.WitSources.{WitSources}
-use Rattle.wac_wit_validation.specs.WorldChecking.{AreWorldSides, IsScopeAt, IsTextAt, text_content}
-use Rattle.wac_wit_validation.specs.declared.marks.ExternMarks.{ExternMarks}
+use Rattle.wac_wit_validation.specs.WorldChecking.{AreLayersOf, AreWorldSides, IsTextAt, text_content}
+use Rattle.wac_wit_validation.specs.declared.layers.Layer.{Layer}
+use Rattle.wac_wit_validation.specs.declared.marks.WorldMarks.{WorldMarks}
 use Rattle.wac_wit_validation.proofs.NameFacts.{some_told}
-use Rattle.wac_wit_validation.proofs.WorldWhole.{world_validated}
+use Rattle.wac_wit_validation.proofs.WorldWhole.{world_added}
 use Rattle.wac_wit_validation.proofs.validator.Validator.add_noted.Goals as goal
-
-pub returns-in_err-push_renaming-clause-knows : goal.returns-in_err-push_renaming-clause-knows
-returns-in_err-push_renaming-clause-knows c = λ of knows.
-    let here = c.in-Some-text_of.ensures.text of knows in
-    c.push_renaming.ensures.knows of knows (record {
-      written = here.0;
-      at = here.2;
-      renames = c.if-gives_new_names.ensures refl of here.0 (subst (λ (n : ℕ). IsScopeAt c.args.self.now n of here.0.scope) c.in-Some-text_of.ensures.scope here.1.at) (ap (λ (d : WorldDecl). d.items.items) here.1.decl ∙ sym c.deref.ensures.value);
-    })
-
-pub returns-then-gives_new_names-clause-knows : goal.returns-then-gives_new_names-clause-knows
-returns-then-gives_new_names-clause-knows c = λ of knows.
-    let here = c.in-Some-text_of.ensures.text of knows in
-    c.push_renaming.ensures.knows of knows (record {
-      written = here.0;
-      at = here.2;
-      renames = c.if-gives_new_names.ensures refl of here.0 (subst (λ (n : ℕ). IsScopeAt c.args.self.now n of here.0.scope) c.in-Some-text_of.ensures.scope here.1.at) (ap (λ (d : WorldDecl). d.items.items) here.1.decl ∙ sym c.deref.ensures.value);
-    })
-
-pub returns-in_err-push_world-clause-knows : goal.returns-in_err-push_world-clause-knows
-returns-in_err-push_world-clause-knows c = λ of knows.
-    let here = c.in-Some-text_of.ensures.text of knows in
-    let sides = some_told c.in_ok-exports.field-0 c.in-Some-2.exports (λ (m : ExternMarks). (of : WitSources) (w : PlacedWorld) → IsTextAt c.args.self.now c.in-Some-text_of.text of w → AreWorldSides of c.world_exports.new.self w (text_content c.in-Some-text_of.text) m) c.in-Some-2.is c.in_ok-exports.ensures.items of here.0 here.1 in
-    c.push_world.ensures.knows of (c.world_exports.ensures.stays.knows of knows) (world_validated of c.args.self.now c.world_exports.new.self c.world_exports.ensures.stays c.in-Some.place c.args.id (text_content c.in-Some-text_of.text) here.0 here.2 c.in-Some-text_of.ensures.entry c.in-Some-2.exports sides)
 
 pub returns-clause-knows : goal.returns-clause-knows
 returns-clause-knows c = λ of knows.
+    let v = c.args.self.now in
+    let x = c.world_marks.new.self in
+    let text = c.in-Some-text_of.text in
+    let content = text_content text in
     let here = c.in-Some-text_of.ensures.text of knows in
-    let sides = some_told c.in_ok-exports.field-0 c.in-Some-2.exports (λ (m : ExternMarks). (of : WitSources) (w : PlacedWorld) → IsTextAt c.args.self.now c.in-Some-text_of.text of w → AreWorldSides of c.world_exports.new.self w (text_content c.in-Some-text_of.text) m) c.in-Some-2.is c.in_ok-exports.ensures.items of here.0 here.1 in
-    c.push_world.ensures.knows of (c.world_exports.ensures.stays.knows of knows) (world_validated of c.args.self.now c.world_exports.new.self c.world_exports.ensures.stays c.in-Some.place c.args.id (text_content c.in-Some-text_of.text) here.0 here.2 c.in-Some-text_of.ensures.entry c.in-Some-2.exports sides)
+    let layers = some_told c.in_ok-layers.field-0 c.in-Some-2.layers (λ (ls : Vec Layer Global). (of : WitSources) (w : PlacedWorld) → IsTextAt v text of w → AreLayersOf of v w ls.items) c.in-Some-2.is c.in_ok-layers.ensures of here.0 here.1 in
+    let sides = some_told c.in_ok-marks.field-0 c.in-Some-3.marks (λ (m : WorldMarks). (of : WitSources) (w : PlacedWorld) → IsTextAt x text of w → AreLayersOf of x w c.deref.result.now → AreWorldSides of x w content m) c.in-Some-3.is c.in_ok-marks.ensures.sides of here.0 in
+    c.push_world.ensures.knows of (c.world_marks.ensures.stays.knows of knows) (world_added of v x c.world_marks.ensures.stays (record { place = c.in-Some.place; id = c.args.id; marks = c.in-Some-3.marks; layers = c.in-Some-2.layers }) text here.0 here.1 c.in-Some-text_of.ensures.place
+    c.in-Some-text_of.ensures.entry layers (λ at ls. sides at (subst (AreLayersOf of x here.0) (sym c.deref.ensures.value) ls)))
+
+pub returns-in_err-push_world-clause-knows : goal.returns-in_err-push_world-clause-knows
+returns-in_err-push_world-clause-knows c = λ of knows.
+    let v = c.args.self.now in
+    let x = c.world_marks.new.self in
+    let text = c.in-Some-text_of.text in
+    let content = text_content text in
+    let here = c.in-Some-text_of.ensures.text of knows in
+    let layers = some_told c.in_ok-layers.field-0 c.in-Some-2.layers (λ (ls : Vec Layer Global). (of : WitSources) (w : PlacedWorld) → IsTextAt v text of w → AreLayersOf of v w ls.items) c.in-Some-2.is c.in_ok-layers.ensures of here.0 here.1 in
+    let sides = some_told c.in_ok-marks.field-0 c.in-Some-3.marks (λ (m : WorldMarks). (of : WitSources) (w : PlacedWorld) → IsTextAt x text of w → AreLayersOf of x w c.deref.result.now → AreWorldSides of x w content m) c.in-Some-3.is c.in_ok-marks.ensures.sides of here.0 in
+    c.push_world.ensures.knows of (c.world_marks.ensures.stays.knows of knows) (world_added of v x c.world_marks.ensures.stays (record { place = c.in-Some.place; id = c.args.id; marks = c.in-Some-3.marks; layers = c.in-Some-2.layers }) text here.0 here.1 c.in-Some-text_of.ensures.place
+    c.in-Some-text_of.ensures.entry layers (λ at ls. sides at (subst (AreLayersOf of x here.0) (sym c.deref.ensures.value) ls)))

@@ -5,6 +5,7 @@ use Rattle.wac_wit_validation.specs.Denoted.{interface_setting}
 use Rattle.wac_wit_validation.specs.declared.sources.ScopeItems.{ScopeItems}
 use Rattle.wac_wit_validation.proofs.ItemFacts.{all_exported, items_offered, offered_items}
 use Rattle.wac_wit_validation.proofs.MarkFacts.{AllBelow-contains, AllBelow-more, AllBelow-none, among_at, marks_none, marks_then}
+use Rattle.wac_wit_validation.proofs.NameFacts.{Renames-none}
 use Rattle.wac_wit_validation.proofs.validator.Validator.is_interface.Goals as goal
 
 same_some : (x y : ScopeItems) → Some x ≡ Some y → x ≡ y
@@ -12,17 +13,17 @@ same_some x y e = cc
 
 pub loop-item-init : goal.loop-item-init
 loop-item-init c = record {
-  marks = λ one s at offers. marks_none s c.names_of-names.result c.in_ok-progress.progress;
-  covers = λ of knows. AllBelow-none (IsRepresented of (named_items c.names_of-names.result)) c.args.items.now;
+  marks = λ one s at renames offers. marks_none s c.names_of-names.result c.in_ok-progress.progress;
+  covers = λ s knows renames. AllBelow-none (IsRepresented s (named_items c.names_of-names.result)) c.args.items.now;
 }
 
 pub loop-item-preserved : goal.loop-item-preserved
 loop-item-preserved c = record {
-  marks = λ one s at offers.
+  marks = λ one s at renames offers.
       let among = among_at c.args.items.now c.loop-item.item-index c.item-item.result c.loop-item-test.true c.item-item.is in
-      marks_then s c.names_of-names.result c.in_ok-progress.progress c.loop-item.progress c.is_item.new.progress (c.loop-item.invariant.marks one s at offers) (c.in_ok-is_item.ensures.marks c.if-not-branch.false one s at (offers c.item-item.result among));
-  covers = λ of knows.
-      AllBelow-more (IsRepresented of (named_items c.names_of-names.result)) c.args.items.now c.loop-item.item-index c.item-item.result c.loop-item-test.true c.item-item.is (c.loop-item.invariant.covers of knows) (c.in_ok-is_item.ensures.covers c.if-not-branch.false of knows);
+      marks_then s c.names_of-names.result c.in_ok-progress.progress c.loop-item.progress c.is_item.new.progress (c.loop-item.invariant.marks one s at renames offers) (c.in_ok-is_item.ensures.marks c.if-not-branch.false one s at renames (offers c.item-item.result among));
+  covers = λ s knows renames.
+      AllBelow-more (IsRepresented s (named_items c.names_of-names.result)) c.args.items.now c.loop-item.item-index c.item-item.result c.loop-item-test.true c.item-item.is (c.loop-item.invariant.covers s knows renames) (c.in_ok-is_item.ensures.covers c.if-not-branch.false s knows renames);
 }
 
 pub returns : goal.returns
@@ -31,6 +32,7 @@ returns c = λ done of knows w at.
     let items = c.args.items.now in
     let s = interface_setting of (scope_syntax w) items in
     let setting : IsSettingAt c.args.self.now c.args.scope s = record { knows = knows; at = λ x h. ap scope_syntax (same_some w x (sym at ∙ h)) } in
-    let marks = c.loop-item.invariant.marks c.names_of-names.ensures.types s setting (items_offered of (scope_syntax w) items) in
-    let covers : (x : InterfaceItem) → Offers s x → IsRepresented of (named_items names) x = λ x offered. AllBelow-contains (IsRepresented of (named_items names)) items c.loop-item.item-index x c.loop-item-test.false (c.loop-item.invariant.covers of knows) (offered_items of (scope_syntax w) items x offered) in
+    let renames = Renames-none names c.names_of-names.ensures.new_names in
+    let marks = c.loop-item.invariant.marks c.names_of-names.ensures.types s setting renames (items_offered of (scope_syntax w) items) in
+    let covers : (x : InterfaceItem) → Offers s x → IsRepresented s (named_items names) x = λ x offered. AllBelow-contains (IsRepresented s (named_items names)) items c.loop-item.item-index x c.loop-item-test.false (c.loop-item.invariant.covers s knows renames) (offered_items of (scope_syntax w) items x offered) in
     rw (← c.names_of-names.ensures.types, ← c.names_of-names.ensures.items) (all_exported s names c.in_ok-progress.progress c.loop-item.progress c.in_ok-progress.ensures.even c.in_ok-progress.ensures.none marks (c.is_done.ensures done) covers)

@@ -7,7 +7,7 @@ use Rattle.wac_wit_validation.proofs.NameFacts.{some_told}
 use Rattle.wac_wit_validation.proofs.validator.Validator.is_use.Goals as goal
 
 pub returns-in-Some-clause-marks : goal.returns-in-Some-clause-marks
-returns-in-Some-clause-marks c = λ same one s at among.
+returns-in-Some-clause-marks c = λ same one s at renames among.
     let item = c.args.item.now in
     let from = c.in-Some.from in
     let there = (c.is_there.ensures s.sources at.knows).0 c.if-not-is_there.false in

@@ -23,4 +23,4 @@ returns-in-Some c = λ is of w x at marks i uses.
     let one = at.knows.interfaces.unambiguous.interfaces x path led.interface i led.scope led.leads (one_use of x c.args.item.now i uses).1 in
     let mark = some_there c.found_at.result _ c.found_at.ensures.some (sym is ∙ c.is_some.ensures) in
     let here = marks.each c.in-Some.led.index (Found mark.0) mark.1 in
-    inr (record { interface = here.0; exports = here.2; identifier = same_name es c.in-Some.led.index _ _ _ _ here.1.at led.is.at ∙ ap placed_identifier one })
+    inr (record { renames = here.2.renames; inside = here.2.inside; brings = here.2.brings; interface = here.0; exports = here.2.says; identifier = same_name es c.in-Some.led.index _ _ _ _ here.1.at led.is.at ∙ ap placed_identifier one })

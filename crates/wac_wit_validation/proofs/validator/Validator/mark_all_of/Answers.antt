@@ -1,22 +1,20 @@
 use Rattle.std.proofs.Common.{refl}
 use Rattle.wac_component.specs.Content.{world_content}
-use Rattle.wac_wit_validation.specs.Placed.{placed_identifier}
+use Rattle.wac_component.specs.declared.worlds.ExternKind.TheVariants.{Export, Import}
 use Rattle.wac_wit_validation.proofs.validator.Validator.mark_all_of.Goals as goal
 
-pub returns-then-mark_same-clause-marks : goal.returns-then-mark_same-clause-marks
-returns-then-mark_same-clause-marks c = λ is of w valid knows includes old.
-    let content = world_content c.index-of.result.now in
+pub returns-then-mark_interfaces_of-clause-marks : goal.returns-then-mark_interfaces_of-clause-marks
+returns-then-mark_interfaces_of-clause-marks c = λ is of w valid i knows says old.
+    let sides = valid.sides (world_content c.index-of.result.now) c.index-of.ensures.entry in
     record {
-      imports = c.if-mark_same.ensures.marks refl of c.args.self.now w valid.written (valid.imports content c.index-of.ensures.entry) includes old.imports;
-      exports = c.mark_exports_of.ensures.marks is of w valid.written knows (valid.exports content c.index-of.ensures.entry) includes old.exports;
+      imports = c.if-mark_interfaces_of.ensures.marks refl of Import w valid.written i knows sides.imports says old.imports;
+      exports = c.mark_interfaces_of-then-mark_interfaces_of.ensures.marks is of Export w valid.written i knows sides.exports says old.exports;
     }
 
-pub returns-then-mark_same-clause-covers : goal.returns-then-mark_same-clause-covers
-returns-then-mark_same-clause-covers c = λ is of valid.
-    let content = world_content c.index-of.result.now in
-    let exports = valid.exports content c.index-of.ensures.entry in
+pub returns-then-mark_interfaces_of-clause-covers : goal.returns-then-mark_interfaces_of-clause-covers
+returns-then-mark_interfaces_of-clause-covers c = λ is of valid.
+    let sides = valid.sides (world_content c.index-of.result.now) c.index-of.ensures.entry in
     record {
-      imports = λ n t has. c.if-mark_same.ensures.covers refl n ((valid.imports content c.index-of.ensures.entry).all n t has);
-      exports = λ n t has. c.mark_exports_of.ensures.covers is n (exports.items.all n t has);
-      interfaces = λ i has. c.mark_exports_of.ensures.covers is (placed_identifier i) (exports.interfaces i has);
+      imports = c.if-mark_interfaces_of.ensures.covers refl of Import valid.written sides.imports;
+      exports = c.mark_interfaces_of-then-mark_interfaces_of.ensures.covers is of Export valid.written sides.exports;
     }

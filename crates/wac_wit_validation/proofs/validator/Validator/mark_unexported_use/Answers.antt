@@ -9,7 +9,7 @@ use Rattle.wac_wit_validation.proofs.NameFacts.{some_told}
 use Rattle.wac_wit_validation.specs.Placed.{placed_identifier}
 use Rattle.wac_wit_validation.specs.Worlds.{used_by_export}
 use Rattle.wac_wit_validation.proofs.NameFacts.{named_at}
-use Rattle.wac_wit_validation.proofs.WorldFacts.{AreMarksOf-marked, IsMarkOf-found, not_looked_up, same_name, use_of}
+use Rattle.wac_wit_validation.proofs.WorldFacts.{AreMarksOf-marked, IsMarkOf-found, not_looked_up, own_interface, same_name, use_of}
 use Rattle.wac_wit_validation.specs.Checking.{HasItem}
 use Rattle.wac_wit_validation.proofs.validator.Validator.mark_unexported_use.Goals as goal
 
@@ -22,4 +22,4 @@ returns-then-is_none c = λ is of w x at there used.
     let types = (c.if-not-uses_types.ensures of at.knows).0 refl in
     let name = named_at c.args.entry.now.imports.entries c.in-Some.led.index c.in-Some-get_index.name.now c.in-Some-get_index.field-0-1.now (sym c.in-Some-get_index.ensures.entry) in
     AreMarksOf-marked of v w Import es c.args.marks.now c.mark.new.self c.in-Some.led.index (Found c.in-Some.led.found) c.mark.ensures.even c.mark.ensures.marked
-    (IsMarkOf-found of v w Import es c.in-Some.led.index c.in-Some.led.found led.interface led.is (used_by_export (used led.interface (use_of of x item led.interface types led.leads)) (λ h. not_looked_up c.get.result c.as_str.result.now (placed_identifier led.interface) c.args.entry.now.exports.entries (c.as_str.ensures.value ∙ same_name es c.in-Some.led.index _ _ _ _ name led.is.at) c.get.ensures.value (c.if-is_none.ensures) (subst (HasItem (named (λ k. k) c.args.entry.now.exports.entries)) h.identifier (there h.interface h.exports)))))
+    (IsMarkOf-found of v w Import es c.in-Some.led.index c.in-Some.led.found led.interface led.is (own_interface of w Import led.interface (used_by_export (used led.interface (use_of of x item led.interface types led.leads)) (λ h. not_looked_up c.get.result c.as_str.result.now (placed_identifier led.interface) c.args.entry.now.exports.entries (c.as_str.ensures.value ∙ same_name es c.in-Some.led.index _ _ _ _ name led.is.at) c.get.ensures.value (c.if-is_none.ensures) (subst (HasItem (named (λ k. k) c.args.entry.now.exports.entries)) h.identifier (there h.interface (record { renames = h.renames; inside = h.inside; brings = h.brings; says = h.exports })))))))

@@ -1,5 +1,4 @@
 use Rattle.wac_wit_validation.specs.declared.validator.FoundWorld.{FoundWorld}
-use Rattle.wac_wit_validation.specs.declared.validator.ItemPlace.{ItemPlace}
 use Rattle.std.proofs.Common.{◌≡◌, Contains, List, refl, subst}
 use Rattle.wac_wit_validation.specs.Ambiguity.{GiveNamesOnce, HasScope}
 use Rattle.wac_wit_validation.specs.Checking.{IsKnownScope}
@@ -44,5 +43,4 @@ returns-clause-knows c = record {
     one_meaning = returns-clause-one_meaning c;
   };
   worlds = λ f among. Contains-nothing f (subst (λ (l : List FoundWorld). Contains l f) c.new-6.ensures.items among);
-  renaming = λ p among. Contains-nothing p (subst (λ (l : List ItemPlace). Contains l p) c.new-9.ensures.items among);
 }

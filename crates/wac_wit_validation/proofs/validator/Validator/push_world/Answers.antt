@@ -6,14 +6,14 @@ use Rattle.wac_wit_validation.proofs.WorldFacts.{KnowsWorlds-kept}
 use Rattle.wac_wit_validation.proofs.validator.Validator.push_world.Goals as goal
 
 pub returns-in_err-insert-clause-knows : goal.returns-in_err-insert-clause-knows
-returns-in_err-insert-clause-knows c = λ of knows here. KnowsWorlds-kept of c.args.self.now _ refl refl refl refl knows (λ f among. inl among) (λ p among. inl among)
+returns-in_err-insert-clause-knows c = λ of knows here. KnowsWorlds-kept of c.args.self.now _ refl refl refl refl knows (λ f among. inl among)
 
 pub returns-in_err-insert-2-clause-knows : goal.returns-in_err-insert-2-clause-knows
-returns-in_err-insert-2-clause-knows c = λ of knows here. KnowsWorlds-kept of c.args.self.now _ refl refl refl refl knows (λ f among. inl among) (λ p among. inl among)
+returns-in_err-insert-2-clause-knows c = λ of knows here. KnowsWorlds-kept of c.args.self.now _ refl refl refl refl knows (λ f among. inl among)
 
 pub returns-in_err-push-clause-knows : goal.returns-in_err-push-clause-knows
-returns-in_err-push-clause-knows c = λ of knows here. KnowsWorlds-kept of c.args.self.now _ refl refl refl refl knows (λ f among. inl (subst (λ (l : List FoundWorld). Contains l f) c.in_err-push.ensures.items among)) (λ p among. inl among)
+returns-in_err-push-clause-knows c = λ of knows here. KnowsWorlds-kept of c.args.self.now _ refl refl refl refl knows (λ f among. inl (subst (λ (l : List FoundWorld). Contains l f) c.in_err-push.ensures.items among))
 
 pub returns-clause-knows : goal.returns-clause-knows
 returns-clause-knows c = λ of knows here. KnowsWorlds-kept of c.args.self.now _ refl refl refl refl knows (λ f among.
-    elim (Contains-last c.args.self.now.worlds.items c.args.found f (subst (λ (l : List FoundWorld). Contains l f) c.in_ok-push.ensures.items among)) [ inl old ↦ inl old | inr same ↦ inr (subst (IsValidatedWorld of c.args.self.now) same here) ]) (λ p among. inl among)
+    elim (Contains-last c.args.self.now.worlds.items c.args.found f (subst (λ (l : List FoundWorld). Contains l f) c.in_ok-push.ensures.items among)) [ inl old ↦ inl old | inr same ↦ inr (subst (IsValidatedWorld of c.args.self.now) same here) ])
