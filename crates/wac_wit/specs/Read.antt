@@ -1,5 +1,6 @@
 -- What read packages are: what the texts of their files say.
-use Rattle.std.specs.Prelude.{◌≡◌, Contains, List, Option, String, string_bytes}
+use Rattle.std.specs.Prelude.{◌≡◌, Contains, IsSome, List, Option, String, string_bytes}
+use Rattle.std.specs.HashMap.{get_by_text}
 use Rattle.std.specs.Option.{option_map}
 use Rattle.std.specs.declared.alloc.Global.{Global}
 use Rattle.wac_model.specs.Text.{Text}
@@ -9,8 +10,11 @@ use Rattle.wac_wit_names.specs.declared.features.Features.{Features}
 use Rattle.wac_wit_names.specs.declared.sources.SourceFile.{SourceFile}
 use Rattle.wac_wit_syntax.specs.declared.tree.Document.{Document}
 use Rattle.wac_wit_validation.specs.WorldChecking.{KnowsWorlds}
-use Rattle.wac_wit_validation.specs.WitSources.{WitSources, sources_of}
-use Rattle.wac_wit_validation.specs.Validated.{IsInterfaceOf, IsWorldOf}
+use Rattle.wac_wit_validation.specs.WitSources.{HasInterface, PackageId, ScopeSyntax, WitSources, sources_of}
+use Rattle.wac_wit_validation.specs.Placed.{HasWorld}
+use Rattle.wac_wit_syntax.specs.declared.tree.InterfaceDecl.{InterfaceDecl}
+use Rattle.wac_wit_syntax.specs.declared.tree.WorldDecl.{WorldDecl}
+use Rattle.wac_wit_validation.specs.Validated.{IsInterfaceOf, IsWorldOf, package_text}
 use Rattle.wac_wit_validation.specs.declared.validator.Validator.{Validator}
 use Rattle.wac_wit.specs.Parsed.{AreParsed}
 use Rattle.wac_wit.specs.declared.packages.Wit.{Wit}
@@ -33,8 +37,26 @@ pub record IsReadPackage (of : WitSources) (c : Collection) (p : WitPackage) : T
   pub interfaces : AreReadInterfaces of c p
   pub worlds : AreReadWorlds of c p
 
-abbrev pub AreReadPackages : WitSources → Collection → Wit → Type 0
-AreReadPackages of c wit = (p : WitPackage) → Contains wit.packages.items p → IsReadPackage of c p
+abbrev pub IsEachRead : WitSources → Collection → Wit → Type 0
+IsEachRead of c wit = (p : WitPackage) → Contains wit.packages.items p → IsReadPackage of c p
+
+-- one of the packages has this name and this version, and this holds of it
+pub record HasPackage (ps : List WitPackage) (q : PackageId) (Has : WitPackage → Type 0) : Type 0 where
+  pub is : WitPackage
+  pub among : Contains ps is
+  pub name : package_text q ≡ string_bytes is.name
+  pub version : q.version ≡ version_bytes is
+  pub has : Has is
+
+-- nothing is left out: each interface and each world that is read is in the package of its name and version
+pub record ListsAll (of : WitSources) (ps : List WitPackage) : Type 0 where
+  pub interfaces : (w : ScopeSyntax) (n : Text) (d : InterfaceDecl) → HasInterface of w n d → HasPackage ps w.«package» (λ p. IsSome (get_by_text p.interfaces n))
+  pub worlds : (w : ScopeSyntax) (n : Text) (d : WorldDecl) → HasWorld of w n d → HasPackage ps w.«package» (λ p. IsSome (get_by_text p.worlds n))
+
+-- each is so, and they are all
+pub record AreReadPackages (of : WitSources) (c : Collection) (wit : Wit) : Type 0 where
+  pub each : IsEachRead of c wit
+  pub all : ListsAll of wit.packages.items
 
 -- the packages are those of files: there is a document of each file, which its text says, and the interfaces and the worlds are what
 -- these documents denote

@@ -5,6 +5,7 @@
 
 mod adding;
 mod builder;
+mod complete;
 mod elaborating;
 mod exports;
 mod functions;

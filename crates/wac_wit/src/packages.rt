@@ -1,12 +1,13 @@
 //! Makes packages of files, and says whether they are what the texts denote.
 
 ghost use Rattle.std.specs.Prelude.{◌≡◌, IfOk, IsTrue};
-ghost use Rattle.wac_wit.specs.Read.{AreReadInterfaces, AreReadPackages, AreReadWorlds, IsReadPackage, KeepsKnowing};
+ghost use Rattle.wac_wit.specs.Read.{AreReadInterfaces, AreReadWorlds, IsEachRead, IsReadPackage, KeepsKnowing};
 ghost use Rattle.wac_wit.specs.Reading.{ResolvesSources};
 ghost use Rattle.wac_wit_validation.specs.WorldChecking.{KnowsWorlds};
 ghost use Rattle.wac_wit_validation.specs.WitSources.{WitSources};
 
 use super::builder::Site;
+use super::complete::lists_all;
 use super::interfaces::make_interface;
 use super::made::{KnownEntries, MadeEntry};
 use super::worlds::make_world;
@@ -103,7 +104,7 @@ impl<'a> Resolved<'a> {
         })
     }
 
-    /// Whether the interfaces of the packages are what their texts denote.
+    /// Whether the packages are what their texts denote, and have all that is there.
     pub(crate) fn is_denoted(&self, alloc: Global, types: &Types) -> Result<bool, AllocError>
         ensures { IfOk result (λ is. IsTrue is → ResolvesSources types.now self.now) }
     {
@@ -113,7 +114,10 @@ impl<'a> Resolved<'a> {
         if !are_added(&mut validator, &self.order, &self.made)? {
             return Ok(false);
         }
-        Ok(are_listed(&validator, &self.wit))
+        if !are_listed(&validator, &self.wit) {
+            return Ok(false);
+        }
+        lists_all(alloc, &validator, &self.wit.packages)
     }
 
     /// The packages.
@@ -164,7 +168,7 @@ fn is_added(
 
 // Whether all interfaces and all worlds of packages are among those that were taken in.
 fn are_listed(validator: &Validator<'_>, wit: &Wit) -> bool
-    ensures { IsTrue result → (of : WitSources) → KnowsWorlds of validator.now → AreReadPackages of validator.now.types.now wit.now }
+    ensures { IsTrue result → (of : WitSources) → KnowsWorlds of validator.now → IsEachRead of validator.now.types.now wit.now }
 {
     for package in &wit.packages {
         if !is_listed(validator, package) {

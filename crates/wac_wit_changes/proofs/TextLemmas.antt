@@ -145,9 +145,11 @@ texts_compared old new features c t olds news grows reports = record {
   new_trees = news.documents;
   old_parsed = olds.parsed;
   new_parsed = news.parsed;
+  old_all = olds.listed.all;
+  new_all = news.listed.all;
   each =
       let of_old = sources_of old olds.documents features in
       let of_new = sources_of new news.documents features in
       AllZip-leads (IsReportOn t.types t.new.packages.items) (IsTextReportOn t.types of_old of_new t.new.packages.items) t.old.packages.items t.reports.items
-      (λ p r among on. text_report c t.types grows of_old of_new p (olds.listed p among) t.new.packages.items r news.listed on) reports;
+      (λ p r among on. text_report c t.types grows of_old of_new p (olds.listed.each p among) t.new.packages.items r news.listed.each on) reports;
 }

@@ -11,6 +11,7 @@ use Rattle.wac_types.specs.ItemTree.{ItemTree}
 use Rattle.wac_types.specs.Order.{Fits}
 use Rattle.wac_types.specs.Text.{Text}
 use Rattle.wac_wit.specs.Parsed.{AreParsed}
+use Rattle.wac_wit.specs.Read.{ListsAll}
 use Rattle.wac_wit.specs.declared.packages.WitPackage.{WitPackage}
 use Rattle.wac_wit_names.specs.declared.features.Features.{Features}
 use Rattle.wac_wit_names.specs.declared.sources.SourceFile.{SourceFile}
@@ -88,11 +89,13 @@ pub record IsTextReportOn (c : Collection) (olds news : WitSources) (others : Li
   pub name : string_bytes r.name ≡ string_bytes old.name
   pub about : IsReportOfOne old r ⊎ ((new : WitPackage) × Contains others new × IsTextReportOfBoth c olds news old new r)
 
--- what became of the packages of old files, beside those of new files: each file's text says its tree, and there is a
--- report on each old package, in their order, about what these trees denote
+-- what became of the packages of old files, beside those of new files: each file's text says its tree, nothing in these
+-- trees is left out of the packages, and there is a report on each old package, in their order, about what they denote
 pub record ComparesTexts (old new : List SourceFile) (features : Features) (t : ComparedTexts) : Type 0 where
   pub old_trees : List Document
   pub new_trees : List Document
   pub old_parsed : AreParsed old old_trees
   pub new_parsed : AreParsed new new_trees
+  pub old_all : ListsAll (sources_of old old_trees features) t.old.packages.items
+  pub new_all : ListsAll (sources_of new new_trees features) t.new.packages.items
   pub each : AllZip (IsTextReportOn t.types (sources_of old old_trees features) (sources_of new new_trees features) t.new.packages.items) t.old.packages.items t.reports.items

@@ -22,7 +22,8 @@ use Rattle.wac_wit_syntax.specs.declared.tree.TopItem.TheVariants as top
 use Rattle.wac_wit_syntax.specs.declared.tree.TopUse.{TopUse}
 use Rattle.wac_wit_validation.proofs.PathFacts.{no_value}
 use Rattle.wac_wit_validation.proofs.ScopeFacts.{file_syntax}
-use Rattle.wac_wit_validation.specs.Ambiguity.{GiveNamesOnce, KeepsNoted, HasAllScopes, HasFileScopes, HasFreeUses, HasGroup, HasGroups, HasScope, HasScopes, IsFreeUse, NotesItems, item_identifier, item_use_name, use_name}
+use Rattle.wac_wit_validation.specs.Ambiguity.{GiveNamesOnce, KeepsNoted, HasAllScopes, HasFileScopes, HasFreeUses, HasGroup, HasGroups, HasScopes, IsFreeUse, NotesItems, item_identifier, item_use_name, use_name}
+use Rattle.wac_wit_validation.specs.Checking.{HasScope}
 use Rattle.wac_wit_validation.specs.Checking.{scope_syntax}
 use Rattle.wac_wit_validation.specs.Placed.{IsUnambiguous}
 use Rattle.wac_wit_validation.specs.WitSources.{FileSyntax, HaveOneName, IsNamedPackage, IsOnlyVersion, IsPackageOf, IsScopeOf, PackageId, PathLeadsTo, ScopeSyntax, WitSources, a_file, a_nested, alone, by_use, directly, exactly, ident_text, interface_identifier, package_id, sources_of}

@@ -44,6 +44,7 @@ pub knows_kept : (of : WitSources) (v w : Validator) → v.features ≡ w.featur
 knows_kept of v w features scopes types knows found = record {
   features = rw (← features) knows.features;
   scopes = rw (← scopes) knows.scopes;
+  all_scopes = rw (← scopes) knows.all_scopes;
   found = λ f among. elim (found f among) [ inl old ↦ found_kept of v w scopes types f (knows.found f old) | inr new ↦ found_kept of v w scopes types f new ];
   unambiguous = knows.unambiguous;
   one_meaning = knows.one_meaning;

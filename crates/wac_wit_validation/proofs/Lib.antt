@@ -13,5 +13,6 @@ pub mod WorldFacts
 pub mod WorldWhole
 pub mod AmbiguityFacts
 pub mod LayerFacts
+pub mod ListingFacts
 pub mod OneMeaning
 pub mod OnceFacts

@@ -12,7 +12,8 @@ use Rattle.wac_wit_syntax.specs.declared.tree.TypeItem.{TypeItem}
 use Rattle.wac_wit_syntax.specs.declared.tree.UseItem.{UseItem}
 use Rattle.wac_wit_validation.proofs.AmbiguityFacts.{slice_get-among}
 use Rattle.wac_wit_validation.proofs.ItemFacts.{offered_items}
-use Rattle.wac_wit_validation.specs.Ambiguity.{HasScope, KeepsNoted}
+use Rattle.wac_wit_validation.specs.Ambiguity.{KeepsNoted}
+use Rattle.wac_wit_validation.specs.Checking.{HasScope}
 use Rattle.wac_wit_validation.specs.Denoted.{Setting, interface_setting}
 use Rattle.wac_wit_validation.specs.Once.{HasFeatures, InsideGivesOnce, ItemsGiveOnce, NotesInner}
 use Rattle.wac_wit_validation.specs.OneMeaning.{AllGiveOnce, GivesOnce, GivesType, GivesUse}

@@ -9,9 +9,9 @@ use Rattle.wac_wit_syntax.specs.declared.tree.PackageName.{PackageName}
 use Rattle.wac_wit_syntax.specs.declared.tree.TopItem.{TopItem}
 use Rattle.wac_wit_syntax.specs.declared.tree.TopItem.TheVariants as top
 use Rattle.wac_wit_syntax.specs.declared.tree.TopUse.{TopUse}
-use Rattle.wac_wit_validation.specs.Checking.{scope_syntax}
+use Rattle.wac_wit_validation.specs.Checking.{HasScope}
 use Rattle.wac_wit_validation.specs.Naming.{scope_in}
-use Rattle.wac_wit_validation.specs.WitSources.{PackageId, ScopeSyntax, given_name, ident_text, interface_identifier, package_id}
+use Rattle.wac_wit_validation.specs.WitSources.{PackageId, given_name, ident_text, interface_identifier, package_id}
 use Rattle.wac_wit_validation.specs.declared.sources.ScopeItems.{ScopeItems}
 use Rattle.wac_wit_validation.specs.declared.validator.ItemPlace.{ItemPlace}
 
@@ -26,12 +26,6 @@ pub record HasGroup (known : ℕ → Option (Bor PackageName)) (group : ℕ) (n 
 -- each group of which a file names the package is known
 abbrev pub HasGroups : (ℕ → Option (Bor PackageName)) → List SourceFile → List Document → Type 0
 HasGroups known files documents = (i : ℕ) (f : SourceFile) (d : Document) → slice_get files i ≡ Some f → slice_get documents i ≡ Some d → (n : PackageName) → d.package ≡ Some n → HasGroup known f.group n
-
--- a scope is one of those that were found
-pub record HasScope (ws : List ScopeItems) (w : ScopeSyntax) : Type 0 where
-  pub scope : ScopeItems
-  pub among : Contains ws scope
-  pub is : scope_syntax scope ≡ w
 
 abbrev pub HasNestedScopes : List ScopeItems → List NestedPackage → Type 0
 HasNestedScopes ws ps = (p : NestedPackage) → Contains ps p → HasScope ws (scope_in p.name p.items.items)

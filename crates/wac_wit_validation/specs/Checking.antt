@@ -116,11 +116,18 @@ pub record IsValidated (of : WitSources) (v : Validator) (f : FoundInterface) : 
   pub exports : (content : InterfaceContent) → slice_get v.types.now.interfaces f.id.index ≡ Some content → AreExportsOf (interface_setting of (scope_syntax scope) decl.items.items) v.types.now content.exports
   pub tree : IsInterfaceTree of (scope_syntax scope) decl.items.items (item_tree v.types.now (Instance f.id))
 
+-- a scope is one of those that were found
+pub record HasScope (ws : List ScopeItems) (w : ScopeSyntax) : Type 0 where
+  pub scope : ScopeItems
+  pub among : Contains ws scope
+  pub is : scope_syntax scope ≡ w
+
 -- what is known is so of what is read
 pub record Knows (of : WitSources) (v : Validator) : Type 0 where
   pub features : (n : Text) → of.is_on n ≡ has_feature v.features n
   pub unambiguous : IsUnambiguous of
   pub scopes : (i : ℕ) (w : ScopeItems) → slice_get v.scopes.items i ≡ Some w → IsKnownScope of w
+  pub all_scopes : (w : ScopeSyntax) → IsScopeOf of w → HasScope v.scopes.items w
   pub found : (f : FoundInterface) → Contains v.found.items f → IsValidated of v f
   pub one_meaning : HaveOneMeaning of
 

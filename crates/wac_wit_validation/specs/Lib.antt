@@ -9,6 +9,7 @@ pub mod Checking
 pub mod WorldChecking
 pub mod WorldClauses
 pub mod Validated
+pub mod Listing
 pub mod Naming
 pub mod Ambiguity
 pub mod OneMeaning

@@ -9,6 +9,7 @@ mod imports;
 mod includes;
 mod interfaces;
 mod layers;
+mod listing;
 mod marks;
 mod methods;
 mod names;
@@ -26,4 +27,5 @@ mod values;
 mod worlds;
 
 pub use checks::SourceTrees;
+pub use listing::PackageListing;
 pub use validator::Validator;

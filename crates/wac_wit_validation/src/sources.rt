@@ -3,7 +3,8 @@
 ghost use Rattle.std.specs.Prelude.{◌≡◌, ℕ, IfOk, IfSome, OnOk, Some, nat_eq, slice_get};
 ghost use Rattle.indexmap.specs.IndexMap.{get, get_by_text};
 ghost use Rattle.wac_wit_names.specs.declared.features.Features.{Features};
-ghost use Rattle.wac_wit_validation.specs.Ambiguity.{HasAllScopes, HasNestedScopes, HasScope, HasScopes};
+ghost use Rattle.wac_wit_validation.specs.Ambiguity.{HasAllScopes, HasNestedScopes, HasScopes};
+ghost use Rattle.wac_wit_validation.specs.Checking.{HasScope};
 ghost use Rattle.wac_wit_validation.specs.Checking.{IsKnownScope};
 ghost use Rattle.wac_wit_validation.specs.Naming.{AddsScopes, AreScopes, HasFile, HasNested, NamesGroup, scope_in};
 ghost use Rattle.wac_wit_validation.specs.WitSources.{IsScopeOf, ScopeSyntax, WitSources, sources_of};

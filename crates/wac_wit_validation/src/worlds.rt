@@ -322,7 +322,7 @@ impl<'v> Validator<'v> {
                 return Ok(false);
             }
         }
-        if false {
+        if !marks.imports.are_all() {
             return Ok(false);
         }
         self.is_closed(&text.entry.imports, &marks.imports)

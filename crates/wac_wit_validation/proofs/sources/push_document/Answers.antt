@@ -1,7 +1,8 @@
 use Rattle.std.proofs.Common.{List, sym, subst}
 use Rattle.std.proofs.lemmas.Result.{on_ok_weaker}
 use Rattle.wac_wit_syntax.specs.declared.tree.TopItem.{TopItem}
-use Rattle.wac_wit_validation.specs.Ambiguity.{HasNestedScopes, HasScope}
+use Rattle.wac_wit_validation.specs.Ambiguity.{HasNestedScopes}
+use Rattle.wac_wit_validation.specs.Checking.{HasScope}
 use Rattle.wac_wit_validation.specs.Naming.{scope_in}
 use Rattle.wac_wit_validation.proofs.ScopeFacts.{file_scope, on_ok_both}
 use Rattle.wac_wit_validation.proofs.sources.push_document.Goals as goal

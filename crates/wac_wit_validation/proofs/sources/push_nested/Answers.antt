@@ -2,7 +2,7 @@ use Rattle.std.proofs.Common.{refl, sym, subst, List, Contains}
 use Rattle.std.proofs.lemmas.Option.{slice_get_read}
 use Rattle.wac_wit_syntax.specs.declared.tree.NestedPackage.{NestedPackage}
 use Rattle.wac_wit_syntax.specs.declared.tree.TopItem.{TopItem}
-use Rattle.wac_wit_validation.specs.Ambiguity.{HasScope}
+use Rattle.wac_wit_validation.specs.Checking.{HasScope}
 use Rattle.wac_wit_validation.specs.WitSources.{IsScopeOf, a_nested}
 use Rattle.wac_wit_validation.specs.Naming.{scope_in}
 use Rattle.wac_wit_validation.proofs.PathFacts.{contains_at}

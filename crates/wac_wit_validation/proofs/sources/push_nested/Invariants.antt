@@ -2,7 +2,7 @@ use Rattle.std.proofs.Common.{take}
 use Rattle.std.specs.Prelude.{All}
 use Rattle.indexmap.specs.IndexMap.{get_by_text}
 use Rattle.wac_wit_syntax.specs.declared.tree.NestedPackage.{NestedPackage}
-use Rattle.wac_wit_validation.specs.Ambiguity.{HasScope}
+use Rattle.wac_wit_validation.specs.Checking.{HasScope}
 use Rattle.wac_wit_validation.specs.Naming.{AddsScopes, HasNested, scope_in}
 use Rattle.wac_wit_validation.specs.WitSources.{ScopeSyntax, WitSources}
 use Rattle.wac_wit_validation.proofs.sources.push_nested.Given as goal

@@ -1,14 +1,17 @@
-use Rattle.std.proofs.Common.{subst, ◌∙◌}
+use Rattle.std.proofs.Common.{refl, subst, ◌∙◌}
 use Rattle.wac_component.specs.Collection.{Collection}
-use Rattle.wac_wit.specs.Read.{AreReadPackages}
+use Rattle.wac_wit.specs.Read.{IsEachRead, ListsAll}
 use Rattle.wac_wit.specs.Reading.{sources_in}
-use Rattle.wac_wit.proofs.Listing.{some_of}
+use Rattle.wac_wit.proofs.Listing.{some_of, told_of}
 use Rattle.wac_wit.proofs.packages.Resolved.is_denoted.Goals as goal
 
 pub returns : goal.returns
-returns c = λ listed.
+returns c = told_of c.lists_all.result _ _ c.lists_all.ensures (λ b told is.
     let wit = c.args.self.now.wit in
     let of = sources_in c.args.self.now.sources in
-    let told = some_of c.in_ok-validator.field-0 c.in-Some.validator _ c.in-Some.is c.in_ok-validator.ensures.types in
-    let knows = some_of c.in_ok-validator.field-0 c.in-Some.validator _ c.in-Some.is c.in_ok-validator.ensures.knows in
-    subst (λ (d : Collection). AreReadPackages of d wit) (c.are_added.ensures.types ∙ told) (c.are_listed.ensures listed of (c.are_added.ensures.knows of knows))
+    let types = some_of c.in_ok-validator.field-0 c.in-Some.validator _ c.in-Some.is c.in_ok-validator.ensures.types in
+    let knows = c.are_added.ensures.knows of (some_of c.in_ok-validator.field-0 c.in-Some.validator _ c.in-Some.is c.in_ok-validator.ensures.knows) in
+    record {
+      each = subst (λ (d : Collection). IsEachRead of d wit) (c.are_added.ensures.types ∙ types) (c.if-not-are_listed.ensures refl of knows);
+      all = subst (ListsAll of) c.deref-3.ensures.value (told is of knows);
+    })

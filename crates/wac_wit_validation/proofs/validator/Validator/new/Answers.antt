@@ -1,6 +1,7 @@
 use Rattle.wac_wit_validation.specs.declared.validator.FoundWorld.{FoundWorld}
 use Rattle.std.proofs.Common.{◌≡◌, Contains, List, refl, subst}
-use Rattle.wac_wit_validation.specs.Ambiguity.{GiveNamesOnce, HasScope}
+use Rattle.wac_wit_validation.specs.Ambiguity.{GiveNamesOnce}
+use Rattle.wac_wit_validation.specs.Checking.{HasScope}
 use Rattle.wac_wit_validation.specs.Checking.{IsKnownScope}
 use Rattle.wac_wit_validation.specs.Once.{ItemsGiveOnce}
 use Rattle.wac_wit_validation.specs.declared.sources.ScopeItems.{ScopeItems}
@@ -38,6 +39,8 @@ returns-clause-knows c = record {
     features = λ n. refl;
     scopes = some_told c.in_ok-scopes.field-0 c.in-Some.scopes (λ (ws : Vec ScopeItems Global). (features : Features) (i : ℕ) (w : ScopeItems) → slice_get ws.items i ≡ Some w → IsKnownScope (sources_of c.args.sources.now.files.now c.args.sources.now.documents.now features) w)
         c.in-Some.is c.in_ok-scopes.ensures.known c.args.sources.now.features;
+    all_scopes = some_told c.in_ok-scopes.field-0 c.in-Some.scopes (λ (ws : Vec ScopeItems Global). (features : Features) (w : ScopeSyntax) → IsScopeOf (sources_of c.args.sources.now.files.now c.args.sources.now.documents.now features) w → HasScope ws.items w)
+        c.in-Some.is c.in_ok-scopes.ensures.all c.args.sources.now.features;
     found = λ f among. Contains-nothing f (subst (λ (l : List FoundInterface). Contains l f) c.new.ensures.items among);
     unambiguous = returns-clause-unambiguous c;
     one_meaning = returns-clause-one_meaning c;

@@ -1,0 +1,8 @@
+use Rattle.std.proofs.Common.{Contains}
+use Rattle.wac_wit.specs.Reading.{IsListing}
+use Rattle.wac_wit.specs.declared.packages.WitPackage.{WitPackage}
+use Rattle.wac_wit_validation.specs.declared.listing.PackageListing.{PackageListing}
+use Rattle.wac_wit.proofs.complete.listings.Given as goal
+
+abbrev pub invariant-loop-package : goal.invariant-loop-package
+invariant-loop-package l = (x : PackageListing) → Contains l.listed.items x → (p : WitPackage) × Contains l.packages p × IsListing x p

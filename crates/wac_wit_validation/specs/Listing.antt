@@ -1,0 +1,45 @@
+-- What is said that packages have, and that nothing is left out there.
+use Rattle.std.specs.Prelude.{◌≡◌, List, Contains, IsSome, string_bytes}
+use Rattle.std.specs.HashMap.{get_by_text}
+use Rattle.std.specs.Option.{option_map}
+use Rattle.wac_model.specs.Text.{Text}
+use Rattle.wac_wit_syntax.specs.declared.tree.InterfaceDecl.{InterfaceDecl}
+use Rattle.wac_wit_syntax.specs.declared.tree.TopItem.{TopItem}
+use Rattle.wac_wit_syntax.specs.declared.tree.TopItem.TheVariants as top
+use Rattle.wac_wit_syntax.specs.declared.tree.WorldDecl.{WorldDecl}
+use Rattle.wac_wit_validation.specs.Placed.{HasWorld}
+use Rattle.wac_wit_validation.specs.Validated.{package_text}
+use Rattle.wac_wit_validation.specs.WitSources.{HasInterface, IsEnabled, PackageId, ScopeSyntax, WitSources, ident_text}
+use Rattle.wac_wit_validation.specs.declared.listing.PackageListing.{PackageListing}
+
+-- what is said is said of the package
+pub record IsListingOf (l : PackageListing) (p : PackageId) : Type 0 where
+  pub name : package_text p ≡ l.«package».now
+  pub version : p.version ≡ option_map string_bytes l.version.now
+
+abbrev pub ListsInterface : PackageListing → Text → Type 0
+ListsInterface l n = IsSome (get_by_text l.interfaces.now n)
+
+abbrev pub ListsWorld : PackageListing → Text → Type 0
+ListsWorld l n = IsSome (get_by_text l.worlds.now n)
+
+-- some of these is said of the package, and this holds of it
+abbrev pub HasListing : List PackageListing → PackageId → (PackageListing → Type 0) → Type 0
+HasListing ls p Has = (l : PackageListing) × Contains ls l × IsListingOf l p × Has l
+
+-- each interface and each world that is read is listed, under its name in its package
+pub record AreAllListed (of : WitSources) (ls : List PackageListing) : Type 0 where
+  pub interfaces : (w : ScopeSyntax) (n : Text) (d : InterfaceDecl) → HasInterface of w n d → HasListing ls w.«package» (λ l. ListsInterface l n)
+  pub worlds : (w : ScopeSyntax) (n : Text) (d : WorldDecl) → HasWorld of w n d → HasListing ls w.«package» (λ l. ListsWorld l n)
+
+-- ---- facts of clauses
+
+-- an item is listed, if it is an interface or a world that is there
+abbrev pub IsItemListed : WitSources → PackageListing → TopItem → Type 0
+IsItemListed of l (top.Use u) = Unit {0}
+IsItemListed of l (top.Interface d) = IsEnabled of d.gates → ListsInterface l (ident_text d.name)
+IsItemListed of l (top.World d) = IsEnabled of d.gates → ListsWorld l (ident_text d.name)
+
+-- those of a package are
+abbrev pub IsScopeListed : WitSources → List PackageListing → ScopeSyntax → Type 0
+IsScopeListed of ls w = HasListing ls w.«package» (λ l. (t : TopItem) → Contains w.items t → IsItemListed of l t)
