@@ -1,5 +1,5 @@
 -- What a comparison of packages says.
-use Rattle.std.specs.Prelude.{◌≡◌, ◌↔◌, ◌++◌, ◌⊎◌, ◌==◌, Bool, true, false, List, [], ◌∷◌, Some, None, All, Contains, if◌then◌else◌, option_map, string_bytes, String}
+use Rattle.std.specs.Prelude.{◌≡◌, ◌↔◌, ◌++◌, ◌⊎◌, ◌==◌, Bool, true, false, List, [], ◌∷◌, Some, None, All, Contains, codes, if◌then◌else◌, option_map, string_bytes, String}
 use Rattle.std.specs.HashMap.{get_by_text}
 use Rattle.std.specs.List.{AllZip}
 use Rattle.std.specs.declared.alloc.Global.{Global}
@@ -9,6 +9,8 @@ use Rattle.wac_component.specs.Tree.{item_tree}
 use Rattle.wac_component.specs.declared.items.ItemKind.TheVariants.{Instance}
 use Rattle.wac_types.specs.Order.{Fits}
 use Rattle.wac_types.specs.Text.{Text}
+use Rattle.wac_types.specs.Track.{IsCompatible}
+use Rattle.wac_wit_validation.specs.WitSources.{version_part}
 use Rattle.wac_wit.specs.declared.packages.WitPackage.{WitPackage}
 use Rattle.wac_wit_changes.specs.Worlds.{RunsIn}
 use Rattle.wac_wit_changes.specs.declared.report.ComparedItem.{ComparedItem}
@@ -61,6 +63,19 @@ pub record AreItemsOnPackage (types : Collection) (old new : WitPackage) (p : Pr
   pub interfaces : AllZip (IsComparedInterface types new) old.interfaces.entries firsts
   pub worlds : AllZip (IsComparedWorld types new p) old.worlds.entries rest
 
+-- the identifier of an interface in a package
+abbrev pub identifier_in : WitPackage → Text → Text
+identifier_in p n = string_bytes p.name ++ codes "/" ++ n ++ version_part (option_map string_bytes p.version)
+
+-- the packages are of one version, or their versions are on one track of SemVer: so an interface of one has one of the other
+-- on its track
+abbrev pub AreOnTrack : WitPackage → WitPackage → Type 0
+AreOnTrack old new = IsCompatible (identifier_in old (codes "a")) (identifier_in new (codes "a"))
+
+-- nothing may break where the versions are on one track, and elsewhere anything may
+abbrev pub IsPromiseOf : WitPackage → WitPackage → Promise → Type 0
+IsPromiseOf old new p = ((p ≡ Same) × AreOnTrack old new) ⊎ ((p ≡ Other) × (AreOnTrack old new → ⊥))
+
 -- the report is about an old package that no new one belongs to: nothing is compared
 pub record IsReportOfOne (old : WitPackage) (r : PackageReport) : Type 0 where
   pub version : r.new_version ≡ None
@@ -71,7 +86,7 @@ pub record IsReportOfOne (old : WitPackage) (r : PackageReport) : Type 0 where
 pub record IsReportOfBoth (types : Collection) (old new : WitPackage) (r : PackageReport) : Type 0 where
   pub same : string_bytes new.name ≡ string_bytes old.name
   pub version : option_map string_bytes r.new_version ≡ option_map string_bytes new.version
-  pub promise : (r.promise ≡ Same) ⊎ (r.promise ≡ Other)
+  pub promise : IsPromiseOf old new r.promise
   pub compared : AreItemsOnPackage types old new r.promise r.compared.items
 
 -- the report is about an old package, alone or beside one of the new packages

@@ -22,11 +22,11 @@ use Rattle.wac_wit_validation.specs.Placed.{PlacedWorld}
 use Rattle.wac_wit_validation.specs.Validated.{IsWorldNamed, package_text}
 use Rattle.wac_wit_validation.specs.WitSources.{HasInterface, ScopeSyntax, WitSources, sources_of}
 use Rattle.wac_wit_validation.specs.Worlds.{IsWorldTree}
-use Rattle.wac_wit_changes.specs.Comparing.{HasTarget, IsReportOfOne}
+use Rattle.wac_wit_changes.specs.Comparing.{HasTarget, IsPromiseOf, IsReportOfOne}
 use Rattle.wac_wit_changes.specs.declared.report.ComparedItem.{ComparedItem}
 use Rattle.wac_wit_changes.specs.declared.report.PackageReport.{PackageReport}
 use Rattle.wac_wit_changes.specs.declared.report.Promise.{Promise}
-use Rattle.wac_wit_changes.specs.declared.report.Promise.TheVariants.{Same, Other}
+use Rattle.wac_wit_changes.specs.declared.report.Promise.TheVariants.{Same}
 use Rattle.wac_wit_changes.specs.declared.report.ReportSort.TheVariants.{Interface, World}
 use Rattle.wac_wit_changes.specs.declared.texts.ComparedTexts.{ComparedTexts}
 
@@ -77,7 +77,7 @@ pub record IsTextWorld (c : Collection) (olds news : WitSources) (old new : WitP
 pub record IsTextReportOfBoth (c : Collection) (olds news : WitSources) (old new : WitPackage) (r : PackageReport) : Type 0 where
   pub same : string_bytes new.name ≡ string_bytes old.name
   pub version : option_map string_bytes r.new_version ≡ option_map string_bytes new.version
-  pub promise : (r.promise ≡ Same) ⊎ (r.promise ≡ Other)
+  pub promise : IsPromiseOf old new r.promise
   pub firsts : List ComparedItem
   pub about : AllZip (IsTextItem olds news old new) (keys old.interfaces) firsts
   pub rest : List ComparedItem

@@ -1,11 +1,11 @@
 //! Compares packages with older ones.
 
-ghost use Rattle.std.specs.Prelude.{◌≡◌, ◌≢◌, ◌↔◌, ◌⊎◌, List, [], Some, All, Contains, IfOk, IsTrue, IsFalse, option_map, string_bytes};
+ghost use Rattle.std.specs.Prelude.{◌≡◌, ◌≢◌, ◌↔◌, List, [], Some, All, Contains, IfOk, IsTrue, IsFalse, option_map, string_bytes};
 ghost use Rattle.std.specs.List.{AllZip};
 ghost use Rattle.wac_component.specs.Collection.{Collection};
 ghost use Rattle.wac_component.specs.Growth.{Extends};
 ghost use Rattle.wac_wit.specs.declared.packages.WitPackage.{WitPackage};
-ghost use Rattle.wac_wit_changes.specs.Comparing.{IsComparedInterface, IsComparedWorld, AreItemsOnPackage, IsReportOfBoth, IsReportOn};
+ghost use Rattle.wac_wit_changes.specs.Comparing.{IsComparedInterface, IsComparedWorld, AreItemsOnPackage, IsPromiseOf, IsReportOfBoth, IsReportOn};
 ghost use Rattle.wac_wit_changes.specs.Sides.{olds_of, IsMove};
 ghost use Rattle.wac_wit_changes.specs.Worlds.{RunsIn};
 ghost use Rattle.wac_wit_changes.specs.declared.report.Promise.{Promise};
@@ -14,7 +14,7 @@ ghost use Rattle.wac_wit_changes.specs.declared.tracks.Counterpart.{Counterpart}
 use super::comparing::ComparedPair;
 use super::problem::Problem;
 use super::report::{Added, ComparedItem, PackageReport, Promise, ReportSort};
-use super::tracks::{Counterpart, NewPackages, by_tracks, moved_world, on_track};
+use super::tracks::{Counterpart, NewPackages, are_on_track, by_tracks, moved_world, on_track};
 use super::worlds::{ComparedWorlds, Question};
 use indexmap::IndexMap;
 use std::alloc::{AllocError, Global};
@@ -268,12 +268,26 @@ fn package_report(
         return Ok(lost_report(pair.alloc, of.old)?);
     };
     let new = named_at(new, found.index, &of.old.name)?;
-    let promise = if found.is_on_track {
-        Promise::Same
-    } else {
-        Promise::Other
-    };
+    let promise = promise_of(pair.alloc, of.old, new, found.is_on_track)?;
     report_of_both(pair, of, new, promise)
+}
+
+// What the versions of two packages promise, where it was found out already whether they are on one
+// track.
+fn promise_of(
+    alloc: Global,
+    old: &WitPackage,
+    new: &WitPackage,
+    is_on_track: bool,
+) -> Result<Promise, EntryError>
+    ensures promise { IfOk result (IsPromiseOf old.now new.now) }
+    ensures own { IfOk result (λ p. p ≡ Promise.Same → IsTrue is_on_track) }
+{
+    match (are_on_track(alloc, old, new)?, is_on_track) {
+        (true, true) => Ok(Promise::Same),
+        (false, false) => Ok(Promise::Other),
+        _ => Err(EntryError::Missing),
+    }
 }
 
 // The package at an index, which has to be of this name.
@@ -311,7 +325,7 @@ fn report_of_both(
     new: &WitPackage,
     promise: Promise,
 ) -> Result<PackageReport, EntryError>
-    requires promise { (promise ≡ Promise.Same) ⊎ (promise ≡ Promise.Other) }
+    requires promise { IsPromiseOf of.now.old.now new.now promise }
     requires own { promise ≡ Promise.Same → of.now.moved.entries ≡ [] }
     requires name { string_bytes new.now.name ≡ string_bytes of.now.old.now.name }
     ensures { IfOk result (λ r. IsReportOfBoth pair.now.types.now of.now.old.now new.now r × (string_bytes r.name ≡ string_bytes of.now.old.now.name)) }

@@ -1,11 +1,15 @@
 //! Which packages of two versions belong together, and what their versions promise.
 
+ghost use Rattle.std.specs.Prelude.{◌≡◌, ◌↔◌, ◌++◌, IfOk, IsTrue, OnOk, codes, string_bytes};
+ghost use Rattle.std.specs.Option.{option_map};
 ghost use Rattle.wac_component.specs.Growth.{Extends};
+ghost use Rattle.wac_wit_changes.specs.Comparing.{AreOnTrack, identifier_in};
+ghost use Rattle.wac_wit_validation.specs.WitSources.{version_part};
 
 use indexmap::IndexMap;
 use std::alloc::{AllocError, Global};
 use wac_component::{ItemKind, Types, WorldId};
-use wac_types::{NameMap, NameMapNoIntern, track_of};
+use wac_types::{NameMap, NameMapNoIntern, are_semver_compatible, track_of};
 use wac_wit::{Wit, WitPackage};
 use wac_wit_entries::{EntryError, parts_of, version_of, world};
 
@@ -104,6 +108,41 @@ fn id_in(alloc: Global, package: &str, version: Option<&str>) -> Result<String, 
         Some(version) => format!(in alloc; "{package}/a@{version}"),
         None => format!(in alloc; "{package}/a"),
     }
+}
+
+/// Whether two packages are of one version, or of versions on one track of SemVer.
+pub(crate) fn are_on_track(
+    alloc: Global,
+    old: &WitPackage,
+    new: &WitPackage,
+) -> Result<bool, AllocError>
+    ensures { IfOk result (λ is. IsTrue is ↔ AreOnTrack old.now new.now) }
+{
+    let old = identifier_in(old)?;
+    let new = identifier_in(new)?;
+    are_semver_compatible(alloc, &old, &new)
+}
+
+// The identifier of an interface `a` in a package.
+fn identifier_in(of: &WitPackage) -> Result<String, AllocError>
+    ensures { IfOk result (λ t. string_bytes t ≡ identifier_in of.now (codes "a")) }
+{
+    let mut text = of.name.clone()?;
+    text.push_str("/")?;
+    text.push_str("a")?;
+    push_version(&mut text, &of.version)?;
+    Ok(text)
+}
+
+fn push_version(text: &mut String, version: &Option<String>) -> Result<(), AllocError>
+    ensures { OnOk result (string_bytes text.new ≡ string_bytes text.old ++ version_part (option_map string_bytes version.now)) }
+{
+    let Some(version) = version else {
+        return Ok(());
+    };
+    text.push_str("@")?;
+    text.push_str(version)?;
+    Ok(())
 }
 
 /// A world whose imports and exports have the versions that new packages have, where no new package

@@ -170,6 +170,10 @@ pub record IsFuncItem (c : Collection) (kind : ItemKind) (P : FuncTree → Type 
 abbrev pub AreExportsAt : Validator → ℕ → List InterfaceItem → List (Text × ItemKind) → Type 0
 AreExportsAt v scope is es = (of : WitSources) → Knows of v → (w : ScopeItems) → slice_get v.scopes.items scope ≡ Some w → AreExportsOf (interface_setting of (scope_syntax w) is) v.types.now es
 
+-- in a setting that has the type, exports alone were marked
+abbrev pub MarksDefined : Setting → NamedTypes → TypeItem → ExportMarks → ExportMarks → Type 0
+MarksDefined s names t old new = Renames names s.renames → Contains s.types t → IsEnabled s.sources t.gates → MarksExports s names old new
+
 -- in each setting of a scope that has something, exports alone were marked
 abbrev pub MarksAt : Validator → ℕ → (Setting → Type 0) → NamedTypes → ExportMarks → ExportMarks → Type 0
 MarksAt v scope Has names old new = names.types.now ≡ v.types.now → (s : Setting) → IsSettingAt v scope s → Renames names s.renames → Has s → MarksExports s names old new

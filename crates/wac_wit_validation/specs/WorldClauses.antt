@@ -29,7 +29,7 @@ use Rattle.wac_wit_validation.specs.declared.validator.FoundInterface.{FoundInte
 use Rattle.wac_wit_validation.specs.declared.validator.FoundWorld.{FoundWorld}
 use Rattle.wac_wit_validation.specs.declared.validator.ItemPlace.{ItemPlace}
 use Rattle.wac_wit_validation.specs.declared.validator.Validator.{Validator}
-use Rattle.wac_wit_validation.specs.WorldChecking.{AreInterfacesThere, AreLayersOf, AreMarksOf, AreSideOf, AreWorldSides, ExportNeeds, HasAllNeeds, HasInterfacesOf, HasNamed, IsLayerIn, IsLayerOf, IsMarkedAs, IsNamedThere, IsPathThere, IsPlacedAt, IsReadyFor, IsScopeAt, IsTextAt, IsValidatedWorld, IsWorldAt, KeepsBoth, KeepsExterns, KnowsWorlds, side_items, text_content}
+use Rattle.wac_wit_validation.specs.WorldChecking.{AreInterfacesThere, AreLayersOf, AreMarksOf, AreSideOf, AreWorldSides, ExportNeeds, HasAllNeeds, HasInterfacesOf, HasNamed, IsLayerIn, IsLayerOf, IsMarkedAs, IsNamedThere, IsPathThere, IsPlacedAt, IsReadyFor, IsScopeAt, IsTextAt, IsValidatedWorld, IsWorldAt, KeepsBoth, KeepsExterns, KeepsPaths, KnowsWorlds, side_items, text_content}
 
 -- what an item says under a name of its own is there
 abbrev pub CoversExtern : Validator → WorldSide → ExternItem → Type 0
@@ -42,6 +42,19 @@ CoversItem v side item = (of : WitSources) (rss : List (List Rename)) → Knows 
 abbrev pub CoversPath : Validator → ℕ → List (Text × ItemKind) → ExternItem → Type 0
 CoversPath v scope es e = (of : WitSources) (w : ScopeSyntax) → IsScopeAt v scope of w → IsEnabled of e.gates → IsPathThere of w es e.what
 
+-- marks of either side stay so in a world that has the item there
+abbrev pub KeepsSaidPath : Validator → ℕ → List (Text × ItemKind) → ExternItem → ExternMarks → ExternMarks → Type 0
+KeepsSaidPath v scope es e old new = (k : ExternKind) → KeepsPaths v scope k es (λ of w. Contains w.decl.items.items (extern_item k e)) old new
+
+-- and in one that says the path there
+abbrev pub KeepsPath : Validator → ℕ → List (Text × ItemKind) → Path → ExternMarks → ExternMarks → Type 0
+KeepsPath v scope es p old new = (k : ExternKind) → KeepsPaths v scope k es (λ of w. SaysExtern of w k (extern.Path p)) old new
+
+-- the interface that a path leads to is there
+abbrev pub HasPath : Validator → ℕ → List (Text × ItemKind) → Path → Type 0
+HasPath v scope es p = (of : WitSources) (w : ScopeSyntax) → IsScopeAt v scope of w → IsPathThere of w es (extern.Path p)
+
+-- each interface that an item says on this side is there, and each that items say
 abbrev pub CoversPathItem : Validator → ℕ → ExternKind → List (Text × ItemKind) → WorldItem → Type 0
 CoversPathItem v scope k es item = (of : WitSources) (w : ScopeSyntax) → IsScopeAt v scope of w → (e : ExternItem) → item ≡ extern_item k e → IsEnabled of e.gates → IsPathThere of w es e.what
 
@@ -118,6 +131,9 @@ CoversOwn side = (rss : List (List Rename)) → Renames side.names rss → (n : 
 abbrev pub KeepsLayer : Validator → WorldContent → Layer → WorldMarks → WorldMarks → Type 0
 KeepsLayer v e l old new = (of : WitSources) (w : PlacedWorld) → KnowsWorlds of v → IsLayerIn of v w l → KeepsBoth of v w e old new
 
+abbrev pub KeepsLayers : Validator → WorldContent → List Layer → WorldMarks → WorldMarks → Type 0
+KeepsLayers v e ls old new = (of : WitSources) (w : PlacedWorld) → KnowsWorlds of v → ((l : Layer) → Contains ls l → IsLayerIn of v w l) → KeepsBoth of v w e old new
+
 -- what a layer's world says has items
 abbrev pub CoversLayer : Validator → WorldContent → Layer → Type 0
 CoversLayer v e l = (of : WitSources) (rss : List (List Rename)) (x : PlacedWorld) → KnowsWorlds of v → IsLayerOf of v l rss x → HasNamed of rss x e
@@ -128,6 +144,9 @@ HasExportMarks v text ls m = (of : WitSources) (w : PlacedWorld) → IsTextAt v 
 
 abbrev pub HasImportsFor : Validator → WorldText → WorldMarks → WorldMarks → Type 0
 HasImportsFor v text old new = (of : WitSources) (w : PlacedWorld) → IsTextAt v text of w → IsReadyFor of v w (text_content text) old → AreWorldSides of v w (text_content text) new
+
+abbrev pub HasWorldMarks : Validator → WorldText → List Layer → WorldMarks → Type 0
+HasWorldMarks v text ls m = (of : WitSources) (w : PlacedWorld) → IsTextAt v text of w → AreLayersOf of v w ls → AreWorldSides of v w (text_content text) m
 
 abbrev pub KeepsAllNeeds : Validator → WorldText → ExternMarks → ExternMarks → Type 0
 KeepsAllNeeds v text old new = (of : WitSources) (w : PlacedWorld) → IsTextAt v text of w → AreInterfacesThere of Export w (text_content text).exports → KeepsExterns of v w Import (text_content text).imports old new

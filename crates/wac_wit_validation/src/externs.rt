@@ -2,9 +2,8 @@
 
 ghost use Rattle.std.specs.Borrow.{Bor};
 ghost use Rattle.std.specs.Prelude.{◌≡◌, ◌≢◌, ℕ, Contains, IfOk, IfSome, IsNone, IsTrue, List, Some, slice_get};
-ghost use Rattle.wac_component.specs.declared.worlds.ExternKind.{ExternKind as KindOf};
 ghost use Rattle.wac_component.specs.Content.{named};
-ghost use Rattle.wac_wit_syntax.specs.declared.tree.Extern.TheVariants.{Func as FuncExtern, Inline as InlineExtern, «Path» as PathExtern};
+ghost use Rattle.wac_wit_syntax.specs.declared.tree.Extern.TheVariants.{Func as FuncExtern, Inline as InlineExtern};
 ghost use Rattle.wac_wit_syntax.specs.declared.tree.ExternItem.{ExternItem as ExternSyntax};
 ghost use Rattle.wac_wit_syntax.specs.declared.tree.Rename.{Rename as RenameOf};
 ghost use Rattle.wac_wit_syntax.specs.declared.tree.WorldItem.{WorldItem as ItemOf};
@@ -12,8 +11,8 @@ ghost use Rattle.wac_wit_validation.specs.Checking.{HasItem};
 ghost use Rattle.wac_wit_validation.specs.Denoted.{renamed_by};
 ghost use Rattle.wac_wit_validation.specs.Reading.{Renames};
 ghost use Rattle.wac_wit_validation.specs.WitSources.{ScopeSyntax, WitSources, ident_text};
-ghost use Rattle.wac_wit_validation.specs.WorldChecking.{IsNamedThere, IsPathThere, IsScopeAt, KeepsPaths, KeepsSide, LeadsToExtern, side_items};
-ghost use Rattle.wac_wit_validation.specs.WorldClauses.{CoversExtern, CoversItem, CoversPath, CoversPathItem, CoversPaths};
+ghost use Rattle.wac_wit_validation.specs.WorldChecking.{IsNamedThere, IsScopeAt, KeepsPaths, KeepsSide, LeadsToExtern, side_items};
+ghost use Rattle.wac_wit_validation.specs.WorldClauses.{CoversExtern, CoversItem, CoversPath, CoversPathItem, CoversPaths, HasPath, KeepsPath, KeepsSaidPath};
 ghost use Rattle.wac_wit_validation.specs.Worlds.{SaysExtern, extern_item};
 ghost use Rattle.wac_wit_validation.specs.declared.validator.Validator.{Validator as ValidatorOf};
 
@@ -229,7 +228,7 @@ impl<'v> Validator<'v> {
         marks: &mut ExternMarks,
         item: &ExternItem,
     ) -> Result<bool, AllocError>
-        ensures marks { IfOk result (λ is. IsTrue is → (k : KindOf) → KeepsPaths self.now scope k (named (λ k. k) externs.now.entries) (λ of w. Contains w.decl.items.items (extern_item k item.now)) marks.old marks.new) }
+        ensures marks { IfOk result (λ is. IsTrue is → KeepsSaidPath self.now scope (named (λ k. k) externs.now.entries) item.now marks.old marks.new) }
         ensures covers { IfOk result (λ is. IsTrue is → CoversPath self.now scope (named (λ k. k) externs.now.entries) item.now) }
     {
         if !self.is_there(&item.gates) {
@@ -248,8 +247,8 @@ impl<'v> Validator<'v> {
         marks: &mut ExternMarks,
         path: &Path,
     ) -> Result<bool, AllocError>
-        ensures marks { IfOk result (λ is. IsTrue is → (k : KindOf) → KeepsPaths self.now scope k (named (λ k. k) externs.now.entries) (λ of w. SaysExtern of w k (PathExtern path.now)) marks.old marks.new) }
-        ensures covers { IfOk result (λ is. IsTrue is → (of : WitSources) (w : ScopeSyntax) → IsScopeAt self.now scope of w → IsPathThere of w (named (λ k. k) externs.now.entries) (PathExtern path.now)) }
+        ensures marks { IfOk result (λ is. IsTrue is → KeepsPath self.now scope (named (λ k. k) externs.now.entries) path.now marks.old marks.new) }
+        ensures covers { IfOk result (λ is. IsTrue is → HasPath self.now scope (named (λ k. k) externs.now.entries) path.now) }
     {
         match self.led(scope, path, externs)? {
             Some(led) => {

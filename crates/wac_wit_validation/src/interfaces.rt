@@ -1,19 +1,16 @@
 //! Interfaces.
 
-ghost use Rattle.std.specs.Prelude.{◌≡◌, [], Contains, IfOk, IfSome, IsTrue, Some, Vec, slice_get};
-ghost use Rattle.std.specs.declared.alloc.Global.{Global};
+ghost use Rattle.std.specs.Prelude.{◌≡◌, [], Contains, IfOk, IfSome, IsTrue, Some};
 ghost use Rattle.wac_component.specs.Content.{interface_content};
-ghost use Rattle.wac_component.specs.Tree.{root_name};
 ghost use Rattle.wac_wit_syntax.specs.declared.tree.InterfaceItem.TheVariants.{«Type» as TypeOf, Use as UseOf};
 ghost use Rattle.wac_wit_syntax.specs.declared.tree.Method.{Method};
 ghost use Rattle.wac_wit_syntax.specs.declared.tree.Rename.{Rename as Renamed};
 ghost use Rattle.wac_wit_syntax.specs.declared.tree.TypeDef.TheVariants.{Resource};
-ghost use Rattle.wac_wit_validation.specs.Checking.{AreExportsAt, Brings, BringsAll, HasAllMethods, HasItem, HasMethodItem, HasMethods, HasRootName, HasTypeItem, HaveOneCollection, IsFuncBehind, Knows, MarksAt, MarksExports, MarksIn, Offers, OffersMethod, OffersMethods, RepresentsNames, named_items};
-ghost use Rattle.wac_wit_validation.specs.Denoted.{Setting, interface_setting};
+ghost use Rattle.wac_wit_validation.specs.Checking.{AreExportsAt, Brings, BringsAll, HasAllMethods, HasItem, HasMethodItem, HasMethods, HasRootName, HasTypeItem, HaveOneCollection, IsFuncBehind, Knows, MarksAt, MarksDefined, MarksExports, MarksIn, Offers, OffersMethod, OffersMethods, RepresentsNames, named_items};
+ghost use Rattle.wac_wit_validation.specs.Denoted.{Setting};
 ghost use Rattle.wac_wit_validation.specs.Functions.{IsFuncOf};
 ghost use Rattle.wac_wit_validation.specs.Reading.{Renames, StandForTypes};
 ghost use Rattle.wac_wit_validation.specs.WitSources.{IsEnabled, WitSources, given_name, ident_text};
-ghost use Rattle.wac_wit_validation.specs.declared.sources.ScopeItems.{ScopeItems};
 
 use super::methods::is_next_method;
 use super::names::NamedTypes;
@@ -112,7 +109,7 @@ impl<'v> Validator<'v> {
         item: &TypeItem,
         of: &Type,
     ) -> bool
-        ensures marks { IsTrue result → (s : Setting) → Knows s.sources self.now → Renames names.now s.renames → Contains s.types item.now → IsEnabled s.sources item.now.gates → MarksExports s names.now progress.old progress.new }
+        ensures marks { IsTrue result → (s : Setting) → Knows s.sources self.now → MarksDefined s names.now item.now progress.old progress.new }
         ensures covers { IsTrue result → (s : Setting) → Knows s.sources self.now → Renames names.now s.renames → HasAllMethods s (named_items names.now) item.now }
     {
         match (&item.def, of) {
@@ -177,7 +174,7 @@ fn is_typedef<'n>(
     progress: &mut ExportMarks,
     item: &TypeItem,
 ) -> Option<&'n Type>
-    ensures marks { IfSome result (λ of. (s : Setting) → Renames names.now s.renames → Contains s.types item.now → IsEnabled s.sources item.now.gates → MarksExports s names.now progress.old progress.new) }
+    ensures marks { IfSome result (λ of. (s : Setting) → MarksDefined s names.now item.now progress.old progress.new) }
     ensures named { IfSome result (λ of. HasTypeItem (named_items names.now) (ident_text item.now.name)) }
 {
     let (index, of) = names.type_at(&item.name)?;

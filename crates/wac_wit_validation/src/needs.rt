@@ -8,7 +8,7 @@ ghost use Rattle.wac_wit_validation.specs.WorldChecking.{HasNeeds, KeepsNeeds, K
 ghost use Rattle.wac_wit_validation.specs.WorldClauses.{HasPathNeeds, KeepsPathNeeds};
 
 use super::marks::{ExternMark, ExternMarks, WorldMarks};
-use super::validator::{Validator, WorldText};
+use super::validator::Validator;
 use std::alloc::AllocError;
 use wac_component::World;
 use wac_wit_syntax::{Extern, ExternItem, InterfaceItem, Path, UseItem, WorldItem};

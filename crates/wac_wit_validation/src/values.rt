@@ -1,6 +1,6 @@
 //! Types where they are used.
 
-ghost use Rattle.std.specs.Prelude.{◌≡◌, map, IsTrue};
+ghost use Rattle.std.specs.Prelude.{map, IsTrue};
 ghost use Rattle.std.specs.Option.{option_map};
 ghost use Rattle.wac_component.specs.Content.{defined_content};
 ghost use Rattle.wac_component.specs.Tree.{value_tree, content_tree};

@@ -7,10 +7,9 @@ ghost use Rattle.wac_wit_validation.specs.Checking.{MarksAt};
 ghost use Rattle.wac_wit_validation.specs.Placed.{PlacedWorld};
 ghost use Rattle.wac_wit_validation.specs.Validated.{IsWorldOf};
 ghost use Rattle.wac_wit_validation.specs.WitSources.{WitSources};
-ghost use Rattle.wac_wit_validation.specs.WorldChecking.{AreLayersOf, AreWorldSides, IsEntryOf, IsLayerIn, IsTextAt, IsValidatedWorld, KeepsBoth, KeepsPaths, KnowsWorlds, OffersItem, RepresentsItem, StaysAs, text_content};
-ghost use Rattle.wac_wit_validation.specs.WorldClauses.{AreOwnTypes, CoversLayer, CoversOwn, CoversPaths, CoversType, HasExportMarks, HasImportsFor, HasNeedsOf, KeepsAllNeeds, KeepsLayer, KeepsOwn, KeepsType};
+ghost use Rattle.wac_wit_validation.specs.WorldChecking.{IsEntryOf, IsTextAt, IsValidatedWorld, KnowsWorlds, OffersItem, RepresentsItem, StaysAs, text_content};
+ghost use Rattle.wac_wit_validation.specs.WorldClauses.{AreOwnTypes, CoversLayer, CoversOwn, CoversType, HasExportMarks, HasImportsFor, HasNeedsOf, HasWorldMarks, KeepsAllNeeds, KeepsLayer, KeepsLayers, KeepsOwn, KeepsType};
 ghost use Rattle.wac_wit_validation.specs.declared.layers.Layer.{Layer as LayerOf};
-ghost use Rattle.wac_wit_validation.specs.declared.validator.FoundWorld.{FoundWorld as FoundOf};
 
 use super::externs::WorldSide;
 use super::includes::is_same_item;
@@ -98,7 +97,7 @@ impl<'v> Validator<'v> {
         layers: &[Layer<'v>],
     ) -> Result<Option<WorldMarks>, AllocError>
         ensures stays { StaysAs self.old self.new }
-        ensures sides { IfOk result (λ o. IfSome o (λ m. (of : WitSources) (w : PlacedWorld) → IsTextAt self.new text.now of w → AreLayersOf of self.new w layers.now → AreWorldSides of self.new w (text_content text.now) m)) }
+        ensures sides { IfOk result (λ o. IfSome o (HasWorldMarks self.new text.now layers.now)) }
     {
         self.exported = IndexMap::new(self.alloc);
         self.add_exported(text.entry)?;
@@ -110,7 +109,7 @@ impl<'v> Validator<'v> {
         text: &WorldText<'v>,
         layers: &[Layer<'v>],
     ) -> Result<Option<WorldMarks>, AllocError>
-        ensures { IfOk result (λ o. IfSome o (λ m. (of : WitSources) (w : PlacedWorld) → IsTextAt self.now text.now of w → AreLayersOf of self.now w layers.now → AreWorldSides of self.now w (text_content text.now) m)) }
+        ensures { IfOk result (λ o. IfSome o (HasWorldMarks self.now text.now layers.now)) }
     {
         let Some(mut marks) = self.exports_marked(text, layers)? else {
             return Ok(None);
@@ -197,7 +196,7 @@ impl<'v> Validator<'v> {
         own: &[IndexMap<String, ItemKind>],
         marks: &mut WorldMarks,
     ) -> Result<bool, AllocError>
-        ensures marks { IfOk result (λ is. IsTrue is → (of : WitSources) (w : PlacedWorld) → KnowsWorlds of self.now → ((l : LayerOf) → Contains layers.now l → IsLayerIn of self.now w l) → KeepsBoth of self.now w (world_content entry.now) marks.old marks.new) }
+        ensures marks { IfOk result (λ is. IsTrue is → KeepsLayers self.now (world_content entry.now) layers.now marks.old marks.new) }
         ensures covers { IfOk result (λ is. IsTrue is → (l : LayerOf) → Contains layers.now l → CoversLayer self.now (world_content entry.now) l) }
     {
         for (index, layer) in layers.iter().enumerate() {
