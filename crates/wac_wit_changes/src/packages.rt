@@ -14,7 +14,7 @@ ghost use Rattle.wac_wit_changes.specs.declared.tracks.Counterpart.{Counterpart}
 use super::comparing::ComparedPair;
 use super::problem::Problem;
 use super::report::{Added, ComparedItem, PackageReport, Promise, ReportSort};
-use super::tracks::{Counterpart, NewPackages, are_on_track, by_tracks, moved_world, on_track};
+use super::tracks::{Counterpart, NewPackages, by_tracks, moved_world, on_track, promise_of};
 use super::worlds::{ComparedWorlds, Question};
 use indexmap::IndexMap;
 use std::alloc::{AllocError, Global};
@@ -270,24 +270,6 @@ fn package_report(
     let new = named_at(new, found.index, &of.old.name)?;
     let promise = promise_of(pair.alloc, of.old, new, found.is_on_track)?;
     report_of_both(pair, of, new, promise)
-}
-
-// What the versions of two packages promise, where it was found out already whether they are on one
-// track.
-fn promise_of(
-    alloc: Global,
-    old: &WitPackage,
-    new: &WitPackage,
-    is_on_track: bool,
-) -> Result<Promise, EntryError>
-    ensures promise { IfOk result (IsPromiseOf old.now new.now) }
-    ensures own { IfOk result (λ p. p ≡ Promise.Same → IsTrue is_on_track) }
-{
-    match (are_on_track(alloc, old, new)?, is_on_track) {
-        (true, true) => Ok(Promise::Same),
-        (false, false) => Ok(Promise::Other),
-        _ => Err(EntryError::Missing),
-    }
 }
 
 // The package at an index, which has to be of this name.

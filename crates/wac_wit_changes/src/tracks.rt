@@ -3,9 +3,11 @@
 ghost use Rattle.std.specs.Prelude.{◌≡◌, ◌↔◌, ◌++◌, IfOk, IsTrue, OnOk, codes, string_bytes};
 ghost use Rattle.std.specs.Option.{option_map};
 ghost use Rattle.wac_component.specs.Growth.{Extends};
-ghost use Rattle.wac_wit_changes.specs.Comparing.{AreOnTrack, identifier_in};
+ghost use Rattle.wac_wit_changes.specs.Comparing.{AreOnTrack, IsPromiseOf, identifier_in};
+ghost use Rattle.wac_wit_changes.specs.declared.report.Promise.{Promise};
 ghost use Rattle.wac_wit_validation.specs.WitSources.{version_part};
 
+use super::report::Promise;
 use indexmap::IndexMap;
 use std::alloc::{AllocError, Global};
 use wac_component::{ItemKind, Types, WorldId};
@@ -110,12 +112,26 @@ fn id_in(alloc: Global, package: &str, version: Option<&str>) -> Result<String, 
     }
 }
 
-/// Whether two packages are of one version, or of versions on one track of SemVer.
-pub(crate) fn are_on_track(
+/// What the versions of two packages promise, where it was found out already whether they are on
+/// one track.
+pub(crate) fn promise_of(
     alloc: Global,
     old: &WitPackage,
     new: &WitPackage,
-) -> Result<bool, AllocError>
+    is_on_track: bool,
+) -> Result<Promise, EntryError>
+    ensures promise { IfOk result (IsPromiseOf old.now new.now) }
+    ensures own { IfOk result (λ p. p ≡ Promise.Same → IsTrue is_on_track) }
+{
+    match (are_on_track(alloc, old, new)?, is_on_track) {
+        (true, true) => Ok(Promise::Same),
+        (false, false) => Ok(Promise::Other),
+        _ => Err(EntryError::Missing),
+    }
+}
+
+// Whether two packages are of one version, or of versions on one track of SemVer.
+fn are_on_track(alloc: Global, old: &WitPackage, new: &WitPackage) -> Result<bool, AllocError>
     ensures { IfOk result (λ is. IsTrue is ↔ AreOnTrack old.now new.now) }
 {
     let old = identifier_in(old)?;
