@@ -5,7 +5,7 @@ use Rattle.wac_wit.specs.Read.{ListsAll}
 use Rattle.wac_wit.specs.Reading.{IsListing}
 use Rattle.wac_wit.specs.declared.packages.WitPackage.{WitPackage}
 use Rattle.wac_wit_validation.specs.Listing.{AreAllListed}
-use Rattle.wac_wit_validation.specs.WitSources.{WitSources}
+use Rattle.wac_wit_validation.specs.WitSources.{IsInGroup, WitSources}
 use Rattle.wac_wit_validation.specs.declared.listing.PackageListing.{PackageListing}
 
 pub ListsAll-listed : (of : WitSources) (ps : List WitPackage) (ls : List PackageListing) → ((l : PackageListing) → Contains ls l → (p : WitPackage) × Contains ps p × IsListing l p) → AreAllListed of ls → ListsAll of ps
@@ -13,9 +13,9 @@ ListsAll-listed of ps ls each all = record {
   interfaces = λ w n d has.
       let l = all.interfaces w n d has in
       let p = each l.0 l.1 in
-      record { is = p.0; among = p.1; name = l.2.name ∙ p.2.name; version = l.2.version ∙ ap (option_map string_bytes) p.2.version; has = subst (λ m. IsSome (get_by_text m n)) p.2.interfaces l.3 };
+      record { is = p.0; among = p.1; name = l.2.name ∙ p.2.name; version = l.2.version ∙ ap (option_map string_bytes) p.2.version; group = subst (IsInGroup of (w.«package»)) p.2.group l.2.group; has = subst (λ m. IsSome (get_by_text m n)) p.2.interfaces l.3 };
   worlds = λ w n d has.
       let l = all.worlds w n d has in
       let p = each l.0 l.1 in
-      record { is = p.0; among = p.1; name = l.2.name ∙ p.2.name; version = l.2.version ∙ ap (option_map string_bytes) p.2.version; has = subst (λ m. IsSome (get_by_text m n)) p.2.worlds l.3 };
+      record { is = p.0; among = p.1; name = l.2.name ∙ p.2.name; version = l.2.version ∙ ap (option_map string_bytes) p.2.version; group = subst (IsInGroup of (w.«package»)) p.2.group l.2.group; has = subst (λ m. IsSome (get_by_text m n)) p.2.worlds l.3 };
 }

@@ -10,7 +10,7 @@ use Rattle.wac_wit_names.specs.declared.features.Features.{Features}
 use Rattle.wac_wit_names.specs.declared.sources.SourceFile.{SourceFile}
 use Rattle.wac_wit_syntax.specs.declared.tree.Document.{Document}
 use Rattle.wac_wit_validation.specs.WorldChecking.{KnowsWorlds}
-use Rattle.wac_wit_validation.specs.WitSources.{HasInterface, PackageId, ScopeSyntax, WitSources, sources_of}
+use Rattle.wac_wit_validation.specs.WitSources.{HasInterface, IsInGroup, PackageId, ScopeSyntax, WitSources, sources_of}
 use Rattle.wac_wit_validation.specs.Placed.{HasWorld}
 use Rattle.wac_wit_syntax.specs.declared.tree.InterfaceDecl.{InterfaceDecl}
 use Rattle.wac_wit_syntax.specs.declared.tree.WorldDecl.{WorldDecl}
@@ -40,18 +40,19 @@ pub record IsReadPackage (of : WitSources) (c : Collection) (p : WitPackage) : T
 abbrev pub IsEachRead : WitSources → Collection → Wit → Type 0
 IsEachRead of c wit = (p : WitPackage) → Contains wit.packages.items p → IsReadPackage of c p
 
--- one of the packages has this name and this version, and this holds of it
-pub record HasPackage (ps : List WitPackage) (q : PackageId) (Has : WitPackage → Type 0) : Type 0 where
+-- one of the packages has this name and this version, and the group of its files, and this holds of it
+pub record HasPackage (of : WitSources) (ps : List WitPackage) (q : PackageId) (Has : WitPackage → Type 0) : Type 0 where
   pub is : WitPackage
   pub among : Contains ps is
   pub name : package_text q ≡ string_bytes is.name
   pub version : q.version ≡ version_bytes is
+  pub group : IsInGroup of q is.group
   pub has : Has is
 
 -- nothing is left out: each interface and each world that is read is in the package of its name and version
 pub record ListsAll (of : WitSources) (ps : List WitPackage) : Type 0 where
-  pub interfaces : (w : ScopeSyntax) (n : Text) (d : InterfaceDecl) → HasInterface of w n d → HasPackage ps w.«package» (λ p. IsSome (get_by_text p.interfaces n))
-  pub worlds : (w : ScopeSyntax) (n : Text) (d : WorldDecl) → HasWorld of w n d → HasPackage ps w.«package» (λ p. IsSome (get_by_text p.worlds n))
+  pub interfaces : (w : ScopeSyntax) (n : Text) (d : InterfaceDecl) → HasInterface of w n d → HasPackage of ps w.«package» (λ p. IsSome (get_by_text p.interfaces n))
+  pub worlds : (w : ScopeSyntax) (n : Text) (d : WorldDecl) → HasWorld of w n d → HasPackage of ps w.«package» (λ p. IsSome (get_by_text p.worlds n))
 
 -- each is so, and they are all
 pub record AreReadPackages (of : WitSources) (c : Collection) (wit : Wit) : Type 0 where

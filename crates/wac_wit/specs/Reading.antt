@@ -20,5 +20,6 @@ ResolvesSources c r = AreReadPackages (sources_in r.sources) c r.wit
 pub record IsListing (l : PackageListing) (p : WitPackage) : Type 0 where
   pub name : l.«package».now ≡ string_bytes p.name
   pub version : l.version.now ≡ p.version
+  pub group : l.group ≡ p.group
   pub interfaces : l.interfaces.now ≡ p.interfaces
   pub worlds : l.worlds.now ≡ p.worlds

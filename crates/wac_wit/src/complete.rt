@@ -44,6 +44,7 @@ fn listing(package: &WitPackage) -> PackageListing<'_>
     PackageListing {
         package: &package.name,
         version: &package.version,
+        group: package.group,
         interfaces: &package.interfaces,
         worlds: &package.worlds,
     }

@@ -17,7 +17,7 @@ use Rattle.wac_wit_syntax.specs.declared.tree.PackageName.{PackageName}
 use Rattle.wac_wit_syntax.specs.declared.tree.TopItem.{TopItem}
 use Rattle.wac_wit_validation.proofs.PathFacts.{contains_at}
 use Rattle.wac_wit_validation.specs.Naming.{IsKnownName, KnowsAllNames, KnowsNamesOf, NamesGroup, HasFile, common_name, scope_in}
-use Rattle.wac_wit_validation.specs.WitSources.{FileSyntax, HaveOneName, IsScopeOf, WitSources, a_file, a_nested, package_id, sources_of, version_text}
+use Rattle.wac_wit_validation.specs.WitSources.{FileSyntax, HaveOneName, IsInGroup, IsScopeOf, WitSources, a_file, a_nested, named_there, package_id, sources_of, version_text}
 use Rattle.wac_wit_validation.specs.declared.packages.Versions.{Versions}
 
 module _ {A : Type 0} (xs : List A) (i : ℕ) where
@@ -103,6 +103,10 @@ module _ (known after : Text → Option Versions) (p : PackageName) (k : Text) (
       by : (b : Bool) → bytes_eq k (common_name (package_id n)) ≡ b → IsKnownName after n
       by true e = record { versions = v; at = at_name n true e; same = same r (at ∙ ap known ((bytes_eq-Decides k (common_name (package_id n))).0 e) ∙ h.at) from }
       by false e = record { versions = h.versions; at = at_name n false e ∙ h.at; same = h.same }
+
+-- the package that a file of a group names is in it
+pub group_named : (of : WitSources) (group : ℕ) (n : PackageName) → NamesGroup of group n → IsInGroup of (package_id n) group
+group_named of group n names = named_there names.file n names.among names.in_group names.names refl
 
 -- the scope of a file
 pub file_scope : (of : WitSources) (group : ℕ) (n : PackageName) (d : Document) (items : List TopItem) → HasFile of group d → NamesGroup of group n → items ≡ d.items.items → IsScopeOf of (scope_in n items)

@@ -14,7 +14,7 @@ use Rattle.wac_component.specs.declared.items.ItemKind.TheVariants.{Func, Instan
 use Rattle.wac_component.specs.declared.items.Type.{«Type» as TypeOf}
 use Rattle.wac_wit_names.specs.Features.{has_feature}
 use Rattle.wac_wit_validation.specs.Placed.{IsUnambiguous}
-use Rattle.wac_wit_validation.specs.WitSources.{WitSources, ScopeSyntax, IsOnlyVersion, IsScopeOf, IsEnabled, HasInterface, PathLeadsTo, ident_text, given_name, interface_identifier, package_id}
+use Rattle.wac_wit_validation.specs.WitSources.{WitSources, ScopeSyntax, IsInGroup, IsOnlyVersion, IsScopeOf, IsEnabled, HasInterface, PathLeadsTo, ident_text, given_name, interface_identifier, package_id}
 use Rattle.wac_wit_validation.specs.Denoted.{Denoted, Setting, NamesType, interface_setting, type_name}
 use Rattle.wac_wit_validation.specs.Functions.{IsMethodOf, HasMethod, method_name}
 use Rattle.wac_wit_validation.specs.Interfaces.{HasExportOf, IsInterfaceTree}
@@ -99,9 +99,11 @@ pub record AreExportsOf (s : Setting) (c : Collection) (es : List (Text × ItemK
 abbrev pub scope_syntax : ScopeItems → ScopeSyntax
 scope_syntax w = record { «package» = package_id w.package.now; items = w.items.now }
 
--- where the items of a scope of what is read stand, and whether it is said that no other version is there, which is so
+-- where the items of a scope of what is read stand, in which group of files, and whether it is said that no other version is
+-- there, which is so
 pub record IsKnownScope (of : WitSources) (w : ScopeItems) : Type 0 where
   pub is_scope : IsScopeOf of (scope_syntax w)
+  pub in_group : IsInGroup of (package_id w.package.now) w.group
   pub alone : w.is_alone ≡ true → IsOnlyVersion of (package_id w.package.now)
 
 -- an interface that was found to be as it is written

@@ -9,13 +9,14 @@ use Rattle.wac_wit_syntax.specs.declared.tree.TopItem.TheVariants as top
 use Rattle.wac_wit_syntax.specs.declared.tree.WorldDecl.{WorldDecl}
 use Rattle.wac_wit_validation.specs.Placed.{HasWorld}
 use Rattle.wac_wit_validation.specs.Validated.{package_text}
-use Rattle.wac_wit_validation.specs.WitSources.{HasInterface, IsEnabled, PackageId, ScopeSyntax, WitSources, ident_text}
+use Rattle.wac_wit_validation.specs.WitSources.{HasInterface, IsEnabled, IsInGroup, PackageId, ScopeSyntax, WitSources, ident_text}
 use Rattle.wac_wit_validation.specs.declared.listing.PackageListing.{PackageListing}
 
--- what is said is said of the package
-pub record IsListingOf (l : PackageListing) (p : PackageId) : Type 0 where
+-- what is said is said of the package, and of the group of files that it is in
+pub record IsListingOf (of : WitSources) (l : PackageListing) (p : PackageId) : Type 0 where
   pub name : package_text p ≡ l.«package».now
   pub version : p.version ≡ option_map string_bytes l.version.now
+  pub group : IsInGroup of p l.group
 
 abbrev pub ListsInterface : PackageListing → Text → Type 0
 ListsInterface l n = IsSome (get_by_text l.interfaces.now n)
@@ -24,13 +25,13 @@ abbrev pub ListsWorld : PackageListing → Text → Type 0
 ListsWorld l n = IsSome (get_by_text l.worlds.now n)
 
 -- some of these is said of the package, and this holds of it
-abbrev pub HasListing : List PackageListing → PackageId → (PackageListing → Type 0) → Type 0
-HasListing ls p Has = (l : PackageListing) × Contains ls l × IsListingOf l p × Has l
+abbrev pub HasListing : WitSources → List PackageListing → PackageId → (PackageListing → Type 0) → Type 0
+HasListing of ls p Has = (l : PackageListing) × Contains ls l × IsListingOf of l p × Has l
 
 -- each interface and each world that is read is listed, under its name in its package
 pub record AreAllListed (of : WitSources) (ls : List PackageListing) : Type 0 where
-  pub interfaces : (w : ScopeSyntax) (n : Text) (d : InterfaceDecl) → HasInterface of w n d → HasListing ls w.«package» (λ l. ListsInterface l n)
-  pub worlds : (w : ScopeSyntax) (n : Text) (d : WorldDecl) → HasWorld of w n d → HasListing ls w.«package» (λ l. ListsWorld l n)
+  pub interfaces : (w : ScopeSyntax) (n : Text) (d : InterfaceDecl) → HasInterface of w n d → HasListing of ls w.«package» (λ l. ListsInterface l n)
+  pub worlds : (w : ScopeSyntax) (n : Text) (d : WorldDecl) → HasWorld of w n d → HasListing of ls w.«package» (λ l. ListsWorld l n)
 
 -- ---- facts of clauses
 
@@ -42,4 +43,4 @@ IsItemListed of l (top.World d) = IsEnabled of d.gates → ListsWorld l (ident_t
 
 -- those of a package are
 abbrev pub IsScopeListed : WitSources → List PackageListing → ScopeSyntax → Type 0
-IsScopeListed of ls w = HasListing ls w.«package» (λ l. (t : TopItem) → Contains w.items t → IsItemListed of l t)
+IsScopeListed of ls w = HasListing of ls w.«package» (λ l. (t : TopItem) → Contains w.items t → IsItemListed of l t)

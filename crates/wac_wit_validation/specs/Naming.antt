@@ -15,9 +15,9 @@ use Rattle.wac_wit_validation.specs.declared.sources.ScopeItems.{ScopeItems}
 abbrev pub HasFile : WitSources → ℕ → Document → Type 0
 HasFile of group d = Contains of.files (record { group = group; document = d })
 
--- the packages are those inside of a file
-abbrev pub HasNested : WitSources → List NestedPackage → Type 0
-HasNested of ps = (f : FileSyntax) × Contains of.files f × (f.document.packages.items ≡ ps)
+-- the packages are those inside of a file of the group
+abbrev pub HasNested : WitSources → ℕ → List NestedPackage → Type 0
+HasNested of group ps = (f : FileSyntax) × Contains of.files f × (f.group ≡ group) × (f.document.packages.items ≡ ps)
 
 -- items in a package
 abbrev pub scope_in : PackageName → List TopItem → ScopeSyntax

@@ -1,7 +1,7 @@
 -- What the validator says of an entry: it is an interface of the packages that were read.
 use Rattle.std.specs.Prelude.{◌≡◌, ◌++◌, Option, Some, codes, slice_get}
 use Rattle.wac_model.specs.Text.{Text}
-use Rattle.wac_component.specs.Collection.{Collection, InterfaceContent}
+use Rattle.wac_component.specs.Collection.{Collection, InterfaceContent, WorldContent}
 use Rattle.wac_component.specs.Id.{Id}
 use Rattle.wac_component.specs.Key.{Stands, interface_key, world_key}
 use Rattle.wac_component.specs.Tree.{item_tree}
@@ -34,10 +34,11 @@ pub record IsWorldNamed (of : WitSources) («package» : Text) (version : Option
   pub of_package : package_text w.scope.package ≡ «package»
   pub of_version : w.scope.package.version ≡ version
 
--- the entry is that of the world of this name, in a package of this name and version: its tree is what the world's text
--- denotes
+-- the entry is that of the world of this name, in a package of this name and version: it has the world's identifier, and its
+-- tree is what the world's text denotes
 pub record IsWorldOf (of : WitSources) (c : Collection) («package» : Text) (version : Option Text) (name : Text) (id : Id) : Type 0 where
   pub written : PlacedWorld
   pub is : IsWorldNamed of «package» version name written
   pub stands : Stands c (world_key id)
+  pub identified : (content : WorldContent) → slice_get c.worlds id.index ≡ Some content → content.id ≡ Some (interface_identifier written.scope.package name)
   pub tree : IsWorldTree of written (item_tree c (Component id))

@@ -77,6 +77,11 @@ pub data IsScopeOf (of : WitSources) : ScopeSyntax → Type 0 where
   a_file : (f g : FileSyntax) (n : PackageName) → Contains of.files f → Contains of.files g → g.group ≡ f.group → g.document.package ≡ Some n → IsScopeOf of (record { «package» = package_id n; items = f.document.items.items })
   a_nested : (f : FileSyntax) (n : NestedPackage) → Contains of.files f → Contains f.document.packages.items n → IsScopeOf of (record { «package» = package_id n.name; items = n.items.items })
 
+-- the group of files in which a package is: of a file that names it, or inside of which it is written
+pub data IsInGroup (of : WitSources) (p : PackageId) (group : ℕ) : Type 0 where
+  named_there : (f : FileSyntax) (n : PackageName) → Contains of.files f → f.group ≡ group → f.document.package ≡ Some n → package_id n ≡ p → IsInGroup of p group
+  nested_there : (f : FileSyntax) (n : NestedPackage) → Contains of.files f → f.group ≡ group → Contains f.document.packages.items n → package_id n.name ≡ p → IsInGroup of p group
+
 -- an item is there, unless it asks for a feature that is off (WIT.md, "Feature Gates")
 abbrev pub IsEnabled : WitSources → Gates → Type 0
 IsEnabled of g = (f : Gate) → g.unstable ≡ Some f → of.is_on (string_bytes f.text) ≡ true

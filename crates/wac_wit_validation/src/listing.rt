@@ -2,7 +2,7 @@
 
 ghost use Rattle.std.specs.Prelude.{Contains, IfSome, IsTrue};
 ghost use Rattle.wac_wit_syntax.specs.declared.tree.TopItem.{TopItem as ItemOf};
-ghost use Rattle.wac_wit_validation.specs.Checking.{Knows, scope_syntax};
+ghost use Rattle.wac_wit_validation.specs.Checking.{IsKnownScope, Knows, scope_syntax};
 ghost use Rattle.wac_wit_validation.specs.Listing.{AreAllListed, IsItemListed, IsListingOf, IsScopeListed};
 ghost use Rattle.wac_wit_validation.specs.WitSources.{WitSources};
 ghost use Rattle.wac_wit_validation.specs.WorldChecking.{KnowsWorlds};
@@ -21,6 +21,8 @@ pub struct PackageListing<'l> {
     pub package: &'l str,
     /// Its version, if it has one.
     pub version: &'l Option<String>,
+    /// The group of its files.
+    pub group: usize,
     /// Its interfaces, by their names.
     pub interfaces: &'l IndexMap<String, InterfaceId>,
     /// Its worlds, by their names.
@@ -29,7 +31,7 @@ pub struct PackageListing<'l> {
 
 impl Validator<'_> {
     /// Whether each interface and each world that is there is listed under its name, in its
-    /// package. The packages stand in the catalog's order.
+    /// package, and with the group of its files. The packages stand in the catalog's order.
     pub fn lists_all(&self, listed: &[PackageListing<'_>]) -> bool
         ensures { IsTrue result → (of : WitSources) → KnowsWorlds of self.now → AreAllListed of listed.now }
     {
@@ -47,7 +49,7 @@ impl Validator<'_> {
         scope: &ScopeItems<'_>,
         listed: &[PackageListing<'_>],
     ) -> bool
-        ensures { IsTrue result → (of : WitSources) → Knows of self.now → IsScopeListed of listed.now (scope_syntax scope.now) }
+        ensures { IsTrue result → (of : WitSources) → Knows of self.now → IsKnownScope of scope.now → IsScopeListed of listed.now (scope_syntax scope.now) }
     {
         match self.listed_of(index, scope, listed) {
             Some(of) => self.are_items_listed(scope.items, of),
@@ -63,16 +65,19 @@ impl Validator<'_> {
         listed: &'l [PackageListing<'p>],
     ) -> Option<&'l PackageListing<'p>>
         ensures among { IfSome result (λ l. Contains listed.now l.now) }
-        ensures is { IfSome result (λ l. IsListingOf l.now (scope_syntax scope.now).package) }
+        ensures is { IfSome result (λ l. (of : WitSources) → IsKnownScope of scope.now → IsListingOf of l.now (scope_syntax scope.now).package) }
     {
         let Ok(place) = self.catalog.scope(index) else {
             return None;
         };
         let of = listed.get(place.package)?;
-        if !is_package_text(scope.package, of.package) {
+        if of.group != scope.group || !is_package_text(scope.package, of.package) {
             return None;
         }
-        is_version_text(scope.package, of.version).then_some(of)
+        if !is_version_text(scope.package, of.version) {
+            return None;
+        }
+        Some(of)
     }
 
     fn are_items_listed(&self, items: &[TopItem], listed: &PackageListing<'_>) -> bool

@@ -7,7 +7,7 @@ ghost use Rattle.wac_wit_validation.specs.Ambiguity.{HasAllScopes, HasNestedScop
 ghost use Rattle.wac_wit_validation.specs.Checking.{HasScope};
 ghost use Rattle.wac_wit_validation.specs.Checking.{IsKnownScope};
 ghost use Rattle.wac_wit_validation.specs.Naming.{AddsScopes, AreScopes, HasFile, HasNested, NamesGroup, scope_in};
-ghost use Rattle.wac_wit_validation.specs.WitSources.{IsScopeOf, ScopeSyntax, WitSources, sources_of};
+ghost use Rattle.wac_wit_validation.specs.WitSources.{IsInGroup, IsScopeOf, ScopeSyntax, WitSources, package_id, sources_of};
 ghost use Rattle.wac_wit_validation.specs.declared.sources.ScopeItems.{ScopeItems as Scopes};
 
 use super::packages::{Versions, groups_of, is_alone, versions_in};
@@ -22,6 +22,8 @@ pub(crate) struct ScopeItems<'s> {
     /// The package that they are in.
     pub(crate) package: &'s PackageName,
     pub(crate) items: &'s [TopItem],
+    /// The group of files that the package is in.
+    pub(crate) group: usize,
     /// Whether no other version of the package is there.
     pub(crate) is_alone: bool,
 }
@@ -64,7 +66,7 @@ fn scopes_in<'s>(
         let Some(package) = groups.get(&file.group) else {
             return Ok(None);
         };
-        push_document(alloc, &mut scopes, versions, package, document)?;
+        push_document(alloc, &mut scopes, versions, file.group, package, document)?;
     }
     Ok(Some(scopes))
 }
@@ -74,29 +76,31 @@ fn push_document<'s>(
     alloc: Global,
     scopes: &mut Vec<ScopeItems<'s>>,
     versions: &IndexMap<String, Versions<'s>>,
+    group: usize,
     package: &'s PackageName,
     document: &'s Document,
 ) -> Result<(), AllocError>
-    ensures known { OnOk result ((of : WitSources) (g : ℕ) → HasFile of g document.now → NamesGroup of g «package».now → AddsScopes of (get_by_text versions.now) scopes.old.items scopes.new.items) }
+    ensures known { OnOk result ((of : WitSources) → HasFile of group document.now → NamesGroup of group «package».now → AddsScopes of (get_by_text versions.now) scopes.old.items scopes.new.items) }
     ensures keeps { OnOk result ((w : ScopeSyntax) → HasScope scopes.old.items w → HasScope scopes.new.items w) }
     ensures has { OnOk result (HasScopes scopes.new.items «package».now document.now) }
 {
-    push_scope(alloc, scopes, versions, package, &document.items)?;
-    push_nested(alloc, scopes, versions, &document.packages)
+    push_scope(alloc, scopes, versions, group, package, &document.items)?;
+    push_nested(alloc, scopes, versions, group, &document.packages)
 }
 
 fn push_nested<'s>(
     alloc: Global,
     scopes: &mut Vec<ScopeItems<'s>>,
     versions: &IndexMap<String, Versions<'s>>,
+    group: usize,
     packages: &'s [NestedPackage],
 ) -> Result<(), AllocError>
-    ensures known { OnOk result ((of : WitSources) → HasNested of packages.now → AddsScopes of (get_by_text versions.now) scopes.old.items scopes.new.items) }
+    ensures known { OnOk result ((of : WitSources) → HasNested of group packages.now → AddsScopes of (get_by_text versions.now) scopes.old.items scopes.new.items) }
     ensures keeps { OnOk result ((w : ScopeSyntax) → HasScope scopes.old.items w → HasScope scopes.new.items w) }
     ensures has { OnOk result (HasNestedScopes scopes.new.items packages.now) }
 {
     for nested in packages {
-        push_scope(alloc, scopes, versions, &nested.name, &nested.items)?;
+        push_scope(alloc, scopes, versions, group, &nested.name, &nested.items)?;
     }
     Ok(())
 }
@@ -105,10 +109,11 @@ fn push_scope<'s>(
     alloc: Global,
     scopes: &mut Vec<ScopeItems<'s>>,
     versions: &IndexMap<String, Versions<'s>>,
+    group: usize,
     package: &'s PackageName,
     items: &'s [TopItem],
 ) -> Result<(), AllocError>
-    ensures known { OnOk result ((of : WitSources) → IsScopeOf of (scope_in «package».now items.now) → AddsScopes of (get_by_text versions.now) scopes.old.items scopes.new.items) }
+    ensures known { OnOk result ((of : WitSources) → IsScopeOf of (scope_in «package».now items.now) → IsInGroup of (package_id «package».now) group → AddsScopes of (get_by_text versions.now) scopes.old.items scopes.new.items) }
     ensures keeps { OnOk result ((w : ScopeSyntax) → HasScope scopes.old.items w → HasScope scopes.new.items w) }
     ensures has { OnOk result (HasScope scopes.new.items (scope_in «package».now items.now)) }
 {
@@ -116,6 +121,7 @@ fn push_scope<'s>(
     scopes.push(ScopeItems {
         package,
         items,
+        group,
         is_alone,
     })?;
     Ok(())

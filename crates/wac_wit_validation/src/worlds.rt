@@ -18,7 +18,7 @@ use super::marks::{ExternMark, ExternMarks, WorldMarks};
 use super::names::NamedTypes;
 use super::own::own_types;
 use super::progress::ExportMarks;
-use super::texts::{is_package_text, is_version_text, is_word};
+use super::texts::{is_identifier_of, is_package_text, is_version_text, is_word};
 use super::validator::{FoundWorld, ItemPlace, Validator, WorldText};
 use indexmap::IndexMap;
 use std::alloc::AllocError;
@@ -344,10 +344,13 @@ impl<'v> Validator<'v> {
         let Some((scope, decl)) = self.world_at(&found.place) else {
             return false;
         };
-        if !is_word(&decl.name.name, name) {
+        if !is_word(&decl.name.name, name) || !self.types.contains(Type::World(id)) {
             return false;
         }
-        is_package_text(scope.package, package) && is_version_text(scope.package, version)
+        if !is_package_text(scope.package, package) || !is_version_text(scope.package, version) {
+            return false;
+        }
+        is_identifier_of(scope.package, name, &self.types[id].id)
     }
 
     // A world that was taken in, by its entry.

@@ -1,16 +1,17 @@
-use Rattle.std.proofs.Common.{List, sym, subst}
+use Rattle.std.proofs.Common.{List, refl, sym, subst}
 use Rattle.std.proofs.lemmas.Result.{on_ok_weaker}
 use Rattle.wac_wit_syntax.specs.declared.tree.TopItem.{TopItem}
 use Rattle.wac_wit_validation.specs.Ambiguity.{HasNestedScopes}
 use Rattle.wac_wit_validation.specs.Checking.{HasScope}
 use Rattle.wac_wit_validation.specs.Naming.{scope_in}
-use Rattle.wac_wit_validation.proofs.ScopeFacts.{file_scope, on_ok_both}
+use Rattle.wac_wit_validation.proofs.ScopeFacts.{file_scope, group_named, on_ok_both}
 use Rattle.wac_wit_validation.proofs.sources.push_document.Goals as goal
 
 pub returns-clause-known : goal.returns-clause-known
-returns-clause-known c = on_ok_weaker c.push_nested.result (λ pushes of group among names knows all.
+returns-clause-known c = on_ok_weaker c.push_nested.result (λ pushes of among names knows all.
+    let group = c.args.group in
     let scope = file_scope of group c.args.package.now c.args.document.now c.deref.result.now among names c.deref.ensures.value in
-    pushes of (_, among, sym c.deref-2.ensures.value) knows (c.in_ok-push_scope.ensures.known of scope knows all)) c.push_nested.ensures.known
+    pushes of (_, among, refl, sym c.deref-2.ensures.value) knows (c.in_ok-push_scope.ensures.known of scope (group_named of group c.args.package.now names) knows all)) c.push_nested.ensures.known
 
 pub returns-clause-keeps : goal.returns-clause-keeps
 returns-clause-keeps c = on_ok_weaker c.push_nested.result (λ keeps w h. keeps w (c.in_ok-push_scope.ensures.keeps w h)) c.push_nested.ensures.keeps

@@ -3,7 +3,7 @@ use Rattle.std.proofs.lemmas.Option.{slice_get_read}
 use Rattle.wac_wit_syntax.specs.declared.tree.NestedPackage.{NestedPackage}
 use Rattle.wac_wit_syntax.specs.declared.tree.TopItem.{TopItem}
 use Rattle.wac_wit_validation.specs.Checking.{HasScope}
-use Rattle.wac_wit_validation.specs.WitSources.{IsScopeOf, a_nested}
+use Rattle.wac_wit_validation.specs.WitSources.{IsScopeOf, a_nested, nested_there}
 use Rattle.wac_wit_validation.specs.Naming.{scope_in}
 use Rattle.wac_wit_validation.proofs.PathFacts.{contains_at}
 use Rattle.wac_wit_validation.proofs.ScopeFacts.{All-end, All-next}
@@ -18,8 +18,10 @@ loop-nested-preserved c =
     record {
       known = λ of written knows all.
           let among = contains_at packages index nested (slice_get_read packages _ index nested refl c.loop-nested-test.true c.nested-item.is) in
-          let scope = a_nested written.0 nested written.1 (subst (λ (ps : List NestedPackage). Contains ps nested) (sym written.2) among) in
-          done.known of (subst (λ (ts : List TopItem). IsScopeOf of (scope_in nested.name ts)) (sym c.deref.ensures.value) scope) knows (c.loop-nested.invariant.known of written knows all);
+          let inside = subst (λ (ps : List NestedPackage). Contains ps nested) (sym written.3) among in
+          let scope = a_nested written.0 nested written.1 inside in
+          let there = nested_there written.0 nested written.1 written.2 inside refl in
+          done.known of (subst (λ (ts : List TopItem). IsScopeOf of (scope_in nested.name ts)) (sym c.deref.ensures.value) scope) there knows (c.loop-nested.invariant.known of written knows all);
       keeps = λ w h. done.keeps w (c.loop-nested.invariant.keeps w h);
       has = All-next packages index (λ (p : NestedPackage). HasScope c.loop-nested.scopes.items (scope_in p.name p.items.items)) (λ (p : NestedPackage). HasScope c.push_scope.new.scopes.items (scope_in p.name p.items.items)) nested
           c.loop-nested-test.true c.nested-item.is (λ p. done.keeps (scope_in p.name p.items.items)) c.loop-nested.invariant.has (subst (λ (ts : List TopItem). HasScope c.push_scope.new.scopes.items (scope_in nested.name ts)) c.deref.ensures.value done.has);

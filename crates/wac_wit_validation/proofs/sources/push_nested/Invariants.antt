@@ -9,7 +9,7 @@ use Rattle.wac_wit_validation.proofs.sources.push_nested.Given as goal
 
 abbrev pub invariant-loop-nested : goal.invariant-loop-nested
 invariant-loop-nested l = record {
-  known : (of : WitSources) → HasNested of l.packages → AddsScopes of (get_by_text l.versions) l.initial.scopes.items l.scopes.items;
+  known : (of : WitSources) → HasNested of l.group l.packages → AddsScopes of (get_by_text l.versions) l.initial.scopes.items l.scopes.items;
   keeps : (w : ScopeSyntax) → HasScope l.initial.scopes.items w → HasScope l.scopes.items w;
   has : All (λ (p : NestedPackage). HasScope l.scopes.items (scope_in p.name p.items.items)) (take l.nested-index l.packages);
 }

@@ -1,6 +1,9 @@
-use Rattle.std.proofs.Common.{List, sym, subst}
-use Rattle.wac_wit_validation.specs.Checking.{HasScope}
+use Rattle.std.proofs.Common.{◌∙◌, List, sym, subst}
+use Rattle.std.specs.Prelude.{All}
+use Rattle.std.proofs.lemmas.List.Elements.{All-push}
+use Rattle.wac_wit_validation.specs.Checking.{HasScope, IsKnownScope}
 use Rattle.wac_wit_validation.specs.Naming.{scope_in}
+use Rattle.wac_wit_validation.specs.WitSources.{HaveOneName, package_id}
 use Rattle.wac_wit_validation.specs.declared.sources.ScopeItems.{ScopeItems}
 use Rattle.wac_wit_validation.proofs.AmbiguityFacts.{HasScope-last, HasScope-push}
 use Rattle.wac_wit_validation.proofs.sources.push_scope.Goals as goal
@@ -10,3 +13,14 @@ returns-clause-keeps c = λ w h. subst (λ (ws : List ScopeItems). HasScope ws w
 
 pub returns-clause-has : goal.returns-clause-has
 returns-clause-has c = subst (λ (ws : List ScopeItems). HasScope ws (scope_in c.args.package.now c.args.items.now)) (sym c.in_ok-push.ensures.items) (HasScope-last c.args.scopes.now.items _)
+
+pub returns-clause-known : goal.returns-clause-known
+returns-clause-known c = λ of scope there knows all.
+    let alone = c.in_ok-is_alone.ensures in
+    subst (All (IsKnownScope of)) (sym c.in_ok-push.ensures.items) (All-push (IsKnownScope of) _ _ all (record {
+      is_scope = scope;
+      in_group = there;
+      alone = λ is v inside same.
+          let known = knows v inside in
+          known.1 ∙ alone is known.0 known.2 (subst (λ q. HaveOneName q (package_id c.args.package.now)) known.1 same);
+    }))

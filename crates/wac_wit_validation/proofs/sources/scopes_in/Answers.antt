@@ -20,7 +20,7 @@ loop-index-preserved c =
     record {
       known = λ features groups knows.
           let named = groups file.group c.in-Some-get.package.now (sym c.in-Some-get.ensures.value) in
-          done.known (sources_of files documents features) file.group (file_among files documents features index file document file_at document_at) named knows (c.loop-index.invariant.known features groups knows);
+          done.known (sources_of files documents features) (file_among files documents features index file document file_at document_at) named knows (c.loop-index.invariant.known features groups knows);
       all = HasScopesBelow-more files documents (get nat_eq c.args.groups.now) c.loop-index.scopes.items c.push_document.new.scopes.items index file document c.in-Some-get.package.now file_at document_at done.keeps (sym c.in-Some-get.ensures.value) done.has c.loop-index.invariant.all;
     }
 
