@@ -20,6 +20,7 @@ use Rattle.wac_wit_validation.specs.Checking.{AreExportsOf, HasItem, IsValidated
 use Rattle.wac_wit_validation.specs.Validated.{IsInterfaceOf, package_text}
 use Rattle.wac_wit_validation.specs.Denoted.{interface_setting}
 use Rattle.wac_wit_validation.specs.Interfaces.{HasExportOf, IsInterfaceTree}
+use Rattle.wac_wit_validation.specs.Origins.{AreUsesOf}
 use Rattle.wac_wit_validation.specs.WitSources.{IsEnabled, ScopeSyntax, WitSources, ident_text, interface_identifier, package_id, version_text}
 use Rattle.wac_wit_validation.specs.declared.sources.ScopeItems.{ScopeItems}
 use Rattle.wac_wit_validation.specs.declared.validator.FoundInterface.{FoundInterface}
@@ -36,6 +37,9 @@ found_kept of v w scopes types f h = record {
   stands = rw (← types) h.stands;
   identified = rw (← types) h.identified;
   exports = rw (← types) h.exports;
+  uses = rw (← types) h.uses;
+  origins = rw (← types) h.origins;
+  owners = rw (← types) h.owners;
   tree = rw (← types) h.tree;
 }
 
@@ -110,6 +114,8 @@ interface_of_found of v f knows found w d p n version at_scope at_item of_p of_v
   stands = found.stands;
   identified = λ e h. found.identified e h ∙ ap (λ (k : ScopeItems × InterfaceDecl). Some (interface_identifier (package_id k.0.package.now) (ident_text k.1.name))) both ∙ ap (λ (k : Text). Some (interface_identifier (package_id w.package.now) k)) named;
   tree = subst (λ (k : ScopeItems × InterfaceDecl). IsInterfaceTree of (scope_syntax k.0) k.1.items.items (item_tree v.types.now (Instance f.id))) both found.tree;
+  uses = λ e h. subst (λ (k : ScopeItems × InterfaceDecl). AreUsesOf v.types.now (interface_setting of (scope_syntax k.0) k.1.items.items) e.uses) both (found.uses e h);
+  owners = found.owners;
 }
   where
     scope : found.scope ≡ w

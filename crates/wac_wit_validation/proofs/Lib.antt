@@ -16,3 +16,4 @@ pub mod LayerFacts
 pub mod ListingFacts
 pub mod OneMeaning
 pub mod OnceFacts
+pub mod OriginFacts

@@ -95,7 +95,7 @@ pub IsPlacedAt-valid : (of : WitSources) (v : Validator) (f : FoundInterface) (h
 IsPlacedAt-valid of v f h = record { scope = h.scope; at_scope = h.at_scope; at_item = h.at_item; is = refl }
 
 module _ (of : WitSources) (v : Validator) (f : FoundInterface) (i : PlacedInterface) (found : IsFoundAs of v f i) where
-  valid_is : ◌≡◌ {A = PlacedInterface} (record { scope = scope_syntax found.valid.scope; decl = found.valid.decl }) i
+  pub valid_is : ◌≡◌ {A = PlacedInterface} (record { scope = scope_syntax found.valid.scope; decl = found.valid.decl }) i
   valid_is = IsPlacedAt-one v f.place _ i (IsPlacedAt-valid of v f found.valid) found.at
 
   pub tree_found : IsInterfaceTree of i.scope i.decl.items.items (item_tree v.types.now (Instance f.id))

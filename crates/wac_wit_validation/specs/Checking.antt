@@ -4,7 +4,7 @@ use Rattle.std.specs.declared.alloc.Global.{Global}
 use Rattle.wac_model.specs.ItemTree.{ItemTree}
 use Rattle.wac_model.specs.Text.{Text}
 use Rattle.wac_model.specs.ValueTree.{FuncTree}
-use Rattle.wac_component.specs.Collection.{Collection, InterfaceContent}
+use Rattle.wac_component.specs.Collection.{Collection, InterfaceContent, UseContent}
 use Rattle.wac_component.specs.Content.{named}
 use Rattle.wac_component.specs.Key.{Stands, interface_key}
 use Rattle.wac_component.specs.Id.{Id}
@@ -13,7 +13,8 @@ use Rattle.wac_component.specs.declared.items.ItemKind.{ItemKind}
 use Rattle.wac_component.specs.declared.items.ItemKind.TheVariants.{Func, Instance, «Type» as OfType}
 use Rattle.wac_component.specs.declared.items.Type.{«Type» as TypeOf}
 use Rattle.wac_wit_names.specs.Features.{has_feature}
-use Rattle.wac_wit_validation.specs.Placed.{IsUnambiguous}
+use Rattle.wac_wit_validation.specs.Origins.{AreOwnersOf, AreUsesOf, ComesFrom, placed_setting, use_at}
+use Rattle.wac_wit_validation.specs.Placed.{IsUnambiguous, PlacedInterface, placed_identifier}
 use Rattle.wac_wit_validation.specs.WitSources.{WitSources, ScopeSyntax, IsInGroup, IsOnlyVersion, IsScopeOf, IsEnabled, HasInterface, PathLeadsTo, ident_text, given_name, interface_identifier, package_id}
 use Rattle.wac_wit_validation.specs.Denoted.{Denoted, Setting, NamesType, interface_setting, type_name}
 use Rattle.wac_wit_validation.specs.Functions.{IsMethodOf, HasMethod, method_name}
@@ -106,6 +107,23 @@ pub record IsKnownScope (of : WitSources) (w : ScopeItems) : Type 0 where
   pub in_group : IsInGroup of (package_id w.package.now) w.group
   pub alone : w.is_alone ≡ true → IsOnlyVersion of (package_id w.package.now)
 
+-- an entry is that of an interface
+pub record IsInterfaceEntry (of : WitSources) (c : Collection) (i : PlacedInterface) (e : InterfaceContent) : Type 0 where
+  pub identified : e.id ≡ Some (placed_identifier i)
+  pub uses : AreUsesOf c (placed_setting of i) e.uses
+  pub exports : AreExportsOf (placed_setting of i) c e.exports
+
+-- what is said of a name: it comes from an interface, whose entry is the one that is said
+pub record HasOrigin (c : Collection) (s : Setting) (n : Text) (u : UseContent) : Type 0 where
+  pub interface : PlacedInterface
+  pub from : ComesFrom s n interface
+  pub entry : InterfaceContent
+  pub at : slice_get c.interfaces u.interface.index ≡ Some entry
+  pub is : IsInterfaceEntry s.sources c interface entry
+
+abbrev pub HaveOrigins : Collection → Setting → List (Text × UseContent) → Type 0
+HaveOrigins c s us = (n : Text) (u : UseContent) → use_at us n ≡ Some u → HasOrigin c s n u
+
 -- an interface that was found to be as it is written
 pub record IsValidated (of : WitSources) (v : Validator) (f : FoundInterface) : Type 0 where
   pub scope : ScopeItems
@@ -116,6 +134,9 @@ pub record IsValidated (of : WitSources) (v : Validator) (f : FoundInterface) : 
   pub stands : Stands v.types.now (interface_key f.id)
   pub identified : (content : InterfaceContent) → slice_get v.types.now.interfaces f.id.index ≡ Some content → content.id ≡ Some (interface_identifier (package_id scope.package.now) (ident_text decl.name))
   pub exports : (content : InterfaceContent) → slice_get v.types.now.interfaces f.id.index ≡ Some content → AreExportsOf (interface_setting of (scope_syntax scope) decl.items.items) v.types.now content.exports
+  pub uses : (content : InterfaceContent) → slice_get v.types.now.interfaces f.id.index ≡ Some content → AreUsesOf v.types.now (interface_setting of (scope_syntax scope) decl.items.items) content.uses
+  pub origins : (content : InterfaceContent) → slice_get v.types.now.interfaces f.id.index ≡ Some content → HaveOrigins v.types.now (interface_setting of (scope_syntax scope) decl.items.items) content.uses
+  pub owners : (content : InterfaceContent) → slice_get v.types.now.interfaces f.id.index ≡ Some content → AreOwnersOf v.types.now content.uses content.exports
   pub tree : IsInterfaceTree of (scope_syntax scope) decl.items.items (item_tree v.types.now (Instance f.id))
 
 -- a scope is one of those that were found
@@ -132,6 +153,15 @@ pub record Knows (of : WitSources) (v : Validator) : Type 0 where
   pub all_scopes : (w : ScopeSyntax) → IsScopeOf of w → HasScope v.scopes.items w
   pub found : (f : FoundInterface) → Contains v.found.items f → IsValidated of v f
   pub one_meaning : HaveOneMeaning of
+
+-- a path leads to an interface that was found
+pub record LeadsToFound (v : Validator) (s : Setting) (path : Path) (f : FoundInterface) : Type 0 where
+  pub scope : ScopeItems
+  pub decl : InterfaceDecl
+  pub among : Contains v.found.items f
+  pub at_scope : slice_get v.scopes.items f.place.scope ≡ Some scope
+  pub at_item : slice_get scope.items.now f.place.item ≡ Some (top.Interface decl)
+  pub leads : PathLeadsTo s.sources s.scope path (scope_syntax scope) (ident_text decl.name)
 
 -- the names are those of an interface that a path leads to
 pub record AreNamesAt (s : Setting) (path : Path) (names : NamedTypes) : Type 0 where

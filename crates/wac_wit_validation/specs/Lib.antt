@@ -4,8 +4,10 @@ pub mod Denoted
 pub mod Functions
 pub mod Interfaces
 pub mod Worlds
+pub mod Origins
 pub mod Reading
 pub mod Checking
+pub mod OriginClauses
 pub mod WorldChecking
 pub mod WorldClauses
 pub mod Validated

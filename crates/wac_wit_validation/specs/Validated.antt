@@ -7,7 +7,9 @@ use Rattle.wac_component.specs.Key.{Stands, interface_key, world_key}
 use Rattle.wac_component.specs.Tree.{item_tree}
 use Rattle.wac_component.specs.declared.items.ItemKind.TheVariants.{Component, Instance}
 use Rattle.wac_wit_syntax.specs.declared.tree.InterfaceDecl.{InterfaceDecl}
+use Rattle.wac_wit_validation.specs.Denoted.{interface_setting}
 use Rattle.wac_wit_validation.specs.Interfaces.{IsInterfaceTree}
+use Rattle.wac_wit_validation.specs.Origins.{AreOwnersOf, AreUsesOf}
 use Rattle.wac_wit_validation.specs.Placed.{HasWorld, PlacedWorld}
 use Rattle.wac_wit_validation.specs.Worlds.{IsWorldTree}
 use Rattle.wac_wit_validation.specs.WitSources.{HasInterface, PackageId, ScopeSyntax, WitSources, interface_identifier}
@@ -17,7 +19,7 @@ abbrev pub package_text : PackageId → Text
 package_text p = p.namespace ++ codes ":" ++ p.name
 
 -- the entry is that of the interface of this name, in a package of this name and version: it has the interface's
--- identifier, and its tree is what the interface's text denotes
+-- identifier, its tree is what the interface's text denotes, and it says of its types where they come from
 pub record IsInterfaceOf (of : WitSources) (c : Collection) («package» : Text) (version : Option Text) (name : Text) (id : Id) : Type 0 where
   pub scope : ScopeSyntax
   pub decl : InterfaceDecl
@@ -27,6 +29,8 @@ pub record IsInterfaceOf (of : WitSources) (c : Collection) («package» : Text)
   pub stands : Stands c (interface_key id)
   pub identified : (content : InterfaceContent) → slice_get c.interfaces id.index ≡ Some content → content.id ≡ Some (interface_identifier scope.package name)
   pub tree : IsInterfaceTree of scope decl.items.items (item_tree c (Instance id))
+  pub uses : (content : InterfaceContent) → slice_get c.interfaces id.index ≡ Some content → AreUsesOf c (interface_setting of scope decl.items.items) content.uses
+  pub owners : (content : InterfaceContent) → slice_get c.interfaces id.index ≡ Some content → AreOwnersOf c content.uses content.exports
 
 -- the world of this name, in a package of this name and version
 pub record IsWorldNamed (of : WitSources) («package» : Text) (version : Option Text) (name : Text) (w : PlacedWorld) : Type 0 where

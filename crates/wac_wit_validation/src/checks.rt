@@ -149,7 +149,10 @@ impl<'v> Validator<'v> {
         if !is_identifier_of(scope.package, &decl.name.name, &entry.id) {
             return Ok(false);
         }
-        self.is_interface(found.place.scope, &decl.items, entry, kind)
+        if !self.is_interface(found.place.scope, &decl.items, entry, kind)? {
+            return Ok(false);
+        }
+        self.tells_origins(found.place.scope, &decl.items, entry, kind)
     }
 
     /// Whether an entry that was taken in is that of the interface of a name, in the package of a

@@ -16,6 +16,7 @@ mod names;
 mod needs;
 mod noting;
 mod once;
+mod origins;
 mod own;
 mod packages;
 mod progress;

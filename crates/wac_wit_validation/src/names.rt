@@ -130,8 +130,8 @@ impl<'n> NamedTypes<'n> {
     }
 }
 
-// Whether a name of WIT can stand for a type.
-fn has_meaning(ty: &Type) -> bool
+/// Whether a name of WIT can stand for a type.
+pub(crate) fn has_meaning(ty: &Type) -> bool
     ensures { IsTrue result → (c : Collection) → IsSome (type_meaning c ty.now) }
 {
     matches!(ty, Type::Value(_) | Type::Resource(_))

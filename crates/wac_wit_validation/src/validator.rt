@@ -2,7 +2,7 @@
 
 ghost use Rattle.std.specs.Prelude.{◌≡◌, ◌↔◌, IfOk, IfSome, IsTrue, None, Some, length, slice_get};
 ghost use Rattle.wac_component.specs.Collection.{InterfaceContent};
-ghost use Rattle.wac_wit_validation.specs.Checking.{AreNamesAt, IsKnownScope, IsSettingAt, Knows, named_items, scope_syntax};
+ghost use Rattle.wac_wit_validation.specs.Checking.{AreNamesAt, IsKnownScope, IsSettingAt, Knows, LeadsToFound, named_items, scope_syntax};
 ghost use Rattle.wac_wit_validation.specs.Denoted.{Setting};
 ghost use Rattle.wac_wit_validation.specs.WitSources.{IsNamedPackage, IsPackageOf, IsEnabled, PathLeadsTo, WitSources, given_name, ident_text};
 
@@ -135,22 +135,37 @@ impl<'v> Validator<'v> {
         ensures types { IfOk result (λ o. IfSome o (λ n. n.types.now ≡ self.now.types.now)) }
         ensures named { IfOk result (λ o. IfSome o (λ n. (s : Setting) → IsSettingAt self.now scope s → AreNamesAt s path.now n)) }
     {
-        match self.catalog.find_place(scope, path)? {
-            Some(place) => Ok(self.names_from(scope, path, &place, kind)),
+        match self.found_at(scope, path, kind)? {
+            Some(found) => Ok(self.names_with(found.id)),
             None => Ok(None),
         }
     }
 
-    // The names of the interface at a place, if the path leads to it.
-    fn names_from(
+    /// An interface that was found to be as it is written, if a path leads to it: its entry among
+    /// the exports of the world that is looked at, if it has one there and that is wanted.
+    pub(crate) fn found_at(
+        &self,
+        scope: usize,
+        path: &Path,
+        kind: ExternKind,
+    ) -> Result<Option<FoundInterface>, AllocError>
+        ensures { IfOk result (λ o. IfSome o (λ f. (s : Setting) → IsSettingAt self.now scope s → LeadsToFound self.now s path.now f)) }
+    {
+        match self.catalog.find_place(scope, path)? {
+            Some(place) => Ok(self.found_from(scope, path, &place, kind)),
+            None => Ok(None),
+        }
+    }
+
+    // The interface at a place, if the path leads to it.
+    fn found_from(
         &self,
         scope: usize,
         path: &Path,
         place: &FoundPlace,
         kind: ExternKind,
-    ) -> Option<NamedTypes<'v>>
-        ensures types { IfSome result (λ n. n.types.now ≡ self.now.types.now) }
-        ensures named { IfSome result (λ n. (s : Setting) → IsSettingAt self.now scope s → AreNamesAt s path.now n) }
+    ) -> Option<FoundInterface>
+        ensures { IfSome result (λ f. (s : Setting) → IsSettingAt self.now scope s → LeadsToFound self.now s path.now f) }
     {
         let from = self.scopes.get(scope)?;
         let found = self.found.get(*self.position_of(place.node, kind)?)?;
@@ -161,7 +176,7 @@ impl<'v> Validator<'v> {
         if !leads(from, path, place.via, to, &decl.name) {
             return None;
         }
-        self.names_with(found.id)
+        Some(*found)
     }
 
     // Where an interface of the catalog stands among those that were taken in.

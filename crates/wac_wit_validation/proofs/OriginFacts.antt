@@ -1,0 +1,375 @@
+-- Where types come from, by what an entry was found to say.
+use Rattle.std.proofs.Common.{◌≡◌, ◌≢◌, ◌∙◌, ◌⊎◌, inl, inr, arith, ℕ, ◌≤◌, Bool, true, false, cond, List, [], ◌∷◌, Contains, Option, Some, None, IsSome, IsTrue, Global, is_some, length, map, not, refl, sym, ap, subst}
+use Rattle.std.specs.Prelude.{String, slice_get, string_bytes}
+use Rattle.std.specs.Map.{lookup}
+use Rattle.std.specs.Borrow.{Bor}
+use Rattle.std.specs.Option.{option_copied, option_map, unwrap_or}
+use Rattle.std.specs.Str.{bytes_eq}
+use Rattle.std.proofs.lemmas.Map.Views.{Contains-from_lookup}
+use Rattle.std.proofs.lemmas.List.{length-map}
+use Rattle.std.proofs.lemmas.Option.{same_Some, slice_get-get_or, slice_get-map}
+use Rattle.std.proofs.lemmas.Slice.Eq.{bytes_eq-Decides}
+use Rattle.wac_model.specs.Text.{Text}
+use Rattle.wac_model.specs.ValueTree.{ValueTree}
+use Rattle.wac_component.specs.Collection.{Collection, InterfaceContent, ResourceContent, UseContent}
+use Rattle.wac_component.specs.Content.{named, use_content}
+use Rattle.wac_component.specs.Id.{Id}
+use Rattle.wac_component.specs.declared.interfaces.UsedType.{UsedType}
+use Rattle.wac_component.specs.declared.items.ItemKind.{ItemKind}
+use Rattle.wac_component.specs.declared.items.ItemKind.TheVariants.{«Type» as OfType}
+use Rattle.wac_component.specs.declared.items.Type.{«Type» as TypeOf}
+use Rattle.wac_component.specs.declared.items.Type.TheVariants.{Resource as TypeResource}
+use Rattle.wac_component.specs.Key.{Stands, interface_key}
+use Rattle.wac_component.specs.Tree.{externs, interface_externs, item_tree}
+use Rattle.wac_wit_syntax.specs.declared.tree.Ident.{Ident}
+use Rattle.wac_wit_syntax.specs.declared.tree.InterfaceDecl.{InterfaceDecl}
+use Rattle.wac_wit_syntax.specs.declared.tree.InterfaceItem.{InterfaceItem}
+use Rattle.wac_wit_syntax.specs.declared.tree.InterfaceItem.TheVariants as inside
+use Rattle.wac_wit_syntax.specs.declared.tree.Rename.{Rename}
+use Rattle.wac_wit_syntax.specs.declared.tree.TopItem.TheVariants as top
+use Rattle.wac_wit_syntax.specs.declared.tree.TypeDef.{TypeDef}
+use Rattle.wac_wit_syntax.specs.declared.tree.TypeDef.TheVariants as def
+use Rattle.wac_wit_syntax.specs.declared.tree.TypeExpr.{TypeExpr}
+use Rattle.wac_wit_syntax.specs.declared.tree.TypeExpr.TheVariants as ty
+use Rattle.wac_wit_syntax.specs.declared.tree.TypeItem.{TypeItem}
+use Rattle.wac_wit_syntax.specs.declared.tree.UseItem.{UseItem}
+use Rattle.wac_wit_validation.specs.Checking.{AreExportsOf, HasOrigin, HaveOrigins, IsInterfaceEntry, IsValidated, Knows, LeadsToFound, Offers, scope_syntax}
+use Rattle.wac_wit_validation.specs.Denoted.{Denoted, IsDefined, NamesType, Setting, a_record, a_resource, a_variant, alias, an_enum, another_name, defined, interface_setting, some_flags, used}
+use Rattle.wac_wit_validation.specs.OneMeaning.{GivesType, GivesUse}
+use Rattle.wac_wit_validation.specs.OriginClauses.{HasOwner, HasRoot, TellsItem, TellsName, TellsOrigins, TellsUsed, origin_at}
+use Rattle.wac_wit_validation.specs.Origins.{AreOwnersOf, AreUsesOf, ComesFrom, IsOriginOf, IsOwnName, IsOwnerOf, defined_here, named_here, named_so, placed_setting, use_at, used_from, used_through}
+use Rattle.wac_wit_validation.specs.Placed.{LeadsToInterface, PlacedInterface, placed_identifier}
+use Rattle.wac_wit_validation.specs.Reading.{IsTypeNamed, type_meaning}
+use Rattle.wac_wit_validation.specs.WitSources.{HasInterface, IsEnabled, IsScopeOf, WitSources, given_name, ident_text, interface_identifier, package_id}
+use Rattle.wac_wit_validation.specs.WorldChecking.{IsFoundAs}
+use Rattle.wac_wit_validation.specs.declared.sources.ScopeItems.{ScopeItems}
+use Rattle.wac_wit_validation.specs.declared.validator.FoundInterface.{FoundInterface}
+use Rattle.wac_wit_validation.specs.declared.validator.Validator.{Validator}
+use Rattle.wac_wit_validation.proofs.FoundFacts.{among_got, tree_of_exports}
+use Rattle.wac_wit_validation.proofs.WorldFacts.{has_found, valid_is}
+
+-- ---- what is noted under a name
+
+-- what is found under a name in a map, as entries whose names are texts
+pub lookup-named : {V W : Type 0} (f : V → W) (es : List (String Global × V)) (n : Text) → lookup (bytes_eq n) (named f es) ≡ option_map f (lookup (λ k. bytes_eq n (string_bytes k)) es)
+lookup-named f [] n = refl
+lookup-named f (e ∷ es) n = by (bytes_eq n (string_bytes e.0)) refl (lookup-named f es n)
+  where
+    by : (b : Bool) → bytes_eq n (string_bytes e.0) ≡ b → lookup (bytes_eq n) (named f es) ≡ option_map f (lookup (λ k. bytes_eq n (string_bytes k)) es)
+        → cond b (Some (f e.1)) (lookup (bytes_eq n) (named f es)) ≡ option_map f (cond b (Some e.1) (lookup (λ k. bytes_eq n (string_bytes k)) es))
+    by true is rest = refl
+    by false is rest = rest
+
+-- what is found under a name is an entry
+pub found_among : {V : Type 0} (es : List (Text × V)) (n : Text) (x : V) → lookup (bytes_eq n) es ≡ Some x → Contains es (n, x)
+found_among es n x at = Contains-from_lookup {eq = bytes_eq} (λ a b is. (bytes_eq-Decides a b).0 is) n x es at
+
+-- the same of an entry in a map
+pub found_entry : {V W : Type 0} (f : V → W) (es : List (String Global × V)) (n : Text) (x : V) → lookup (λ k. bytes_eq n (string_bytes k)) es ≡ Some x → Contains (named f es) (n, f x)
+found_entry f es n x at = found_among (named f es) n (f x) (lookup-named f es n ∙ ap (option_map f) at)
+
+-- what `get` answers is what is found
+pub got : {V : Type 0} (r : Option (Bor V)) (x : Bor V) (o : Option V) → option_copied r ≡ o → r ≡ Some x → o ≡ Some x.now
+got r x o value is = sym value ∙ ap option_copied is
+
+pub got_nothing : {V : Type 0} (r : Option (Bor V)) (o : Option V) → option_copied r ≡ o → r ≡ None → o ≡ None
+got_nothing r o value is = sym value ∙ ap option_copied is
+
+-- an entry by its place, with its name as a text
+pub entry_at_place : {V W : Type 0} (f : V → W) (es : List (String Global × V)) (i : ℕ) (k : String Global) (v : V) → slice_get es i ≡ Some (k, v) → slice_get (named f es) i ≡ Some (string_bytes k, f v)
+entry_at_place {V} f es i k v at = slice_get-map (λ e. (string_bytes e.0, f e.1)) es i ∙ ap (option_map (λ (e : String Global × V). (string_bytes e.0, f e.1))) at
+
+pub entries_past : {V W : Type 0} (f : V → W) (es : List (String Global × V)) (n i : ℕ) → n ≡ length es → n ≤ i → length (named f es) ≤ i
+entries_past {V} {W} f es n i is past = omega (arith, is, past, length-map {B = Text × W} es (λ (e : String Global × V). (string_bytes e.0, f e.1)))
+
+some_mapped : {A B : Type 0} (f : A → B) (o : Option A) (y : B) → option_map f o ≡ Some y → (x : A) × (o ≡ Some x) × (f x ≡ y)
+some_mapped f None y is = absurd (cc)
+some_mapped f (Some x) y is = (x, refl, same_Some _ _ is)
+
+pub none_mapped : {A B : Type 0} (f : A → B) (o : Option A) → option_map f o ≡ None → o ≡ None
+none_mapped f None is = refl
+none_mapped f (Some x) is = absurd (cc)
+
+-- what `is_none` tells
+pub none_if : {A : Type 0} (o : Option A) (b : Bool) → is_some o ≡ not b → IsTrue b → o ≡ None
+none_if None b is none = refl
+none_if (Some x) true is none = absurd (cc)
+none_if (Some x) false is none = absurd (cc)
+
+some_of : {A : Type 0} (o : Option A) → IsSome o → (x : A) × (o ≡ Some x)
+some_of None is = absurd (cc)
+some_of (Some x) is = (x, refl)
+
+some_is : {A : Type 0} (o : Option A) (x : A) → o ≡ Some x → IsSome o
+some_is {A} o x is = subst (λ (p : Option A). IsSome p) (sym is) refl
+
+no_some : {A B : Type 0} (o : Option A) → o ≡ None → IsSome o → B
+no_some None none is = absurd (cc)
+no_some (Some x) none is = absurd (cc)
+
+-- there is something, or there is nothing
+some_or_none : {A : Type 0} (o : Option A) → (o ≡ None) ⊎ ((x : A) × (o ≡ Some x))
+some_or_none None = inl refl
+some_or_none (Some x) = inr (x, refl)
+
+-- what is said of a name of which an origin is told
+told_use : (us : List (Text × UseContent)) (n : Text) (id : Id) → origin_at us n ≡ Some id → (u : UseContent) × (use_at us n ≡ Some u) × (u.interface ≡ id)
+told_use us n id is = some_mapped (λ (u : UseContent). u.interface) (use_at us n) id is
+
+pub told_nothing : (us : List (Text × UseContent)) (n : Text) → origin_at us n ≡ None → use_at us n ≡ None
+told_nothing us n is = none_mapped (λ (u : UseContent). u.interface) (use_at us n) is
+
+-- the origin that is told of a name in a map
+pub origin_some : (es : List (String Global × UsedType)) (n : Text) (u : UsedType) → lookup (λ k. bytes_eq n (string_bytes k)) es ≡ Some u → origin_at (named use_content es) n ≡ Some u.interface
+origin_some es n u at = ap (option_map (λ (x : UseContent). x.interface)) (lookup-named use_content es n ∙ ap (option_map use_content) at)
+
+pub origin_none : (es : List (String Global × UsedType)) (n : Text) → lookup (λ k. bytes_eq n (string_bytes k)) es ≡ None → origin_at (named use_content es) n ≡ None
+origin_none es n none = ap (option_map (λ (x : UseContent). x.interface)) (lookup-named use_content es n ∙ ap (option_map use_content) none)
+
+resource_same : (t : TypeOf) (r : Id) → OfType t ≡ OfType (TypeResource r) → t ≡ TypeResource r
+resource_same t r e = cc
+
+one_resource : (r q : Id) → TypeResource r ≡ TypeResource q → r ≡ q
+one_resource r q e = cc
+
+-- the owner of an export that is a resource, or another type
+pub owner_here : (c : Collection) (us : List (Text × UseContent)) (n : Text) (t : TypeOf) (id : Id) → t ≡ TypeResource id → ((r : ResourceContent) → slice_get c.resources id.index ≡ Some r → IsOwnerOf us n r) → HasOwner c us n (OfType t)
+owner_here c us n t id is has q same r at = has r (subst (λ (x : Id). slice_get c.resources x.index ≡ Some r) (one_resource q id (sym (resource_same t q same) ∙ is)) at)
+
+pub no_owner : (c : Collection) (us : List (Text × UseContent)) (n : Text) (t : TypeOf) → ((id : Id) → t ≢ TypeResource id) → HasOwner c us n (OfType t)
+no_owner c us n t isnt q same r at = absurd (isnt q (resource_same t q same))
+
+-- ---- induction on what a name stands for
+
+pub alias_name : (e : TypeExpr) (id : Ident) → def.Alias e ≡ def.Alias (ty.Name id) → e ≡ ty.Name id
+alias_name e id is = cc
+
+module _ (P : Setting → Text → Type 0)
+    (own : (s : Setting) (n : Text) (t : TypeItem) → GivesType s n t → ((id : Ident) → t.def ≢ def.Alias (ty.Name id)) → P s n)
+    (another : (s : Setting) (n : Text) (t : TypeItem) (id : Ident) → GivesType s n t → t.def ≡ def.Alias (ty.Name id) → P s (ident_text id) → P s n)
+    (used_type : (s : Setting) (n : Text) (u : UseItem) (r : Rename) (i : PlacedInterface) (m : Denoted) → GivesUse s n u r → LeadsToInterface s.sources s.scope u.path i → NamesType (placed_setting s.sources i) (ident_text r.name) m
+    → P (placed_setting s.sources i) (ident_text r.name) → P s n) where
+  mutual
+    by_name : (s : Setting) (n : Text) (m : Denoted) → NamesType s n m → P s n
+    by_name s n m (defined t among there is h) = by_definition s n t m (record { among = among; there = there; named = is }) h
+    by_name s n m (used {i = i} {v = v} u r d among there within is to has h) =
+        used_type s n u r (record { scope = v; decl = d }) m (record { among = among; there = there; within = within; named = is }) (record { name = i; leads = to; has = has }) h
+        (by_name (interface_setting s.sources v d.items.items) (ident_text r.name) m h)
+
+    by_definition : (s : Setting) (n : Text) (t : TypeItem) (m : Denoted) → GivesType s n t → IsDefined s t m → P s n
+    by_definition s n t m gives (another_name id is h) = another s n t id gives is (by_name s (ident_text id) m h)
+    by_definition s n t _ gives (alias e is isnt h) = own s n t gives (λ id k. isnt id (alias_name e id (sym is ∙ k)))
+    by_definition s n t _ gives (a_record fs is h) = own s n t gives (λ id k. let both = sym is ∙ k in absurd (cc))
+    by_definition s n t _ gives (a_variant of is h) = own s n t gives (λ id k. let both = sym is ∙ k in absurd (cc))
+    by_definition s n t _ gives (some_flags ns is) = own s n t gives (λ id k. let both = sym is ∙ k in absurd (cc))
+    by_definition s n t _ gives (an_enum ns is) = own s n t gives (λ id k. let both = sym is ∙ k in absurd (cc))
+    by_definition s n t _ gives (a_resource ms is) = own s n t gives (λ id k. let both = sym is ∙ k in absurd (cc))
+
+-- a name of a type is of one that is defined there, or comes from another interface
+abbrev IsOwnOrComes : Setting → Text → Type 0
+IsOwnOrComes s n = IsOwnName s n ⊎ ((i : PlacedInterface) × ComesFrom s n i)
+
+pub own_or_comes : (s : Setting) (n : Text) (m : Denoted) → NamesType s n m → IsOwnOrComes s n
+own_or_comes = by_name IsOwnOrComes
+    (λ s n t gives isnt. inl (defined_here t gives.among gives.there gives.named isnt))
+    (λ s n t id gives is h. elim h [ inl own ↦ inl (named_here t id gives.among gives.there gives.named is own) | inr from ↦ inr (from.0, named_so t id gives.among gives.there gives.named is from.1) ])
+    (λ s n u r i m gives leads names h. elim h [
+      | inl own ↦ inr (i, used_from u r gives.among gives.there gives.within gives.named leads own)
+      | inr from ↦ inr (from.0, used_through u r gives.among gives.there gives.within gives.named leads from.1)
+    ])
+
+-- a name of which nothing is said is of a type that is defined there
+own_if_none : (c : Collection) (s : Setting) (us : List (Text × UseContent)) (n : Text) (m : Denoted) → AreUsesOf c s us → use_at us n ≡ None → NamesType s n m → IsOwnName s n
+own_if_none c s us n m uses none names = elim (own_or_comes s n m names) [ inl own ↦ own | inr from ↦ no_some (use_at us n) none (uses.all n from.0 from.1) ]
+
+-- ---- what the entry of an interface says that was found
+
+-- the interface that a path leads to
+pub placed_found : (v : Validator) (s : Setting) (f : FoundInterface) (u : UseItem) → LeadsToFound v s u.path f → PlacedInterface
+placed_found v s f u to = record { scope = scope_syntax to.scope; decl = to.decl }
+
+module _ (of : WitSources) (v : Validator) (f : FoundInterface) (i : PlacedInterface) (found : IsFoundAs of v f i) (e : InterfaceContent) (at : slice_get v.types.now.interfaces f.id.index ≡ Some e) where
+  entry_found : IsInterfaceEntry of v.types.now i e
+  entry_found = subst (λ (k : PlacedInterface). IsInterfaceEntry of v.types.now k e) (valid_is of v f i found) (record { identified = found.valid.identified e at; uses = found.valid.uses e at; exports = found.valid.exports e at })
+
+  origins_found : HaveOrigins v.types.now (placed_setting of i) e.uses
+  origins_found = subst (λ (k : PlacedInterface). HaveOrigins v.types.now (placed_setting of k) e.uses) (valid_is of v f i found) (found.valid.origins e at)
+
+-- ---- what is said of each name
+
+-- what is known of a setting and of what an entry says of its names
+record IsTold (v : Validator) (s : Setting) (us : List (Text × UseContent)) : Type 0 where
+  knows : Knows s.sources v
+  scope : IsScopeOf s.sources s.scope
+  items : (x : InterfaceItem) → Offers s x → TellsItem v s us x
+
+-- nothing is said of a name, and its type is defined there, or it is said where it comes from
+abbrev IsToldOf : Validator → Setting → List (Text × UseContent) → Text → Type 0
+IsToldOf v s us n = ((use_at us n ≡ None) × IsOwnName s n) ⊎ ((u : UseContent) × (use_at us n ≡ Some u) × HasOrigin v.types.now s n u)
+
+module _ (v : Validator) (us : List (Text × UseContent)) where
+  -- the same type in another way, where one interface is said
+  moved : (s : Setting) (n q : Text) (u x : UseContent) (o : HasOrigin v.types.now s q x) → ComesFrom s n o.interface → u.interface ≡ x.interface → HasOrigin v.types.now s n u
+  moved s n q u x o from same = record { interface = o.interface; from = from; entry = o.entry; at = ap (λ (k : Id). slice_get v.types.now.interfaces k.index) same ∙ o.at; is = o.is }
+
+  told_own : (s : Setting) (n : Text) (t : TypeItem) → GivesType s n t → ((id : Ident) → t.def ≢ def.Alias (ty.Name id)) → IsTold v s us → IsToldOf v s us n
+  told_own s n t gives isnt told =
+      let none = told_nothing us (ident_text t.name) ((told.items (inside.Type t) gives.among gives.there).own isnt) in
+      inl (subst (λ (k : Text). use_at us k ≡ None) gives.named none, defined_here t gives.among gives.there gives.named isnt)
+
+  told_another : (s : Setting) (n : Text) (t : TypeItem) (id : Ident) → GivesType s n t → t.def ≡ def.Alias (ty.Name id) → IsToldOf v s us (ident_text id) → IsTold v s us → IsToldOf v s us n
+  told_another s n t id gives is h told = by h
+    where
+      same : origin_at us n ≡ origin_at us (ident_text id)
+      same = subst (λ (k : Text). origin_at us k ≡ origin_at us (ident_text id)) gives.named ((told.items (inside.Type t) gives.among gives.there).another id is)
+
+      by : IsToldOf v s us (ident_text id) → IsToldOf v s us n
+      by (inl own) = inl (told_nothing us n (same ∙ ap (option_map (λ (u : UseContent). u.interface)) own.0), named_here t id gives.among gives.there gives.named is own.1)
+      by (inr from) =
+          let here = told_use us n from.0.interface (same ∙ ap (option_map (λ (u : UseContent). u.interface)) from.1) in
+          inr (here.0, here.1, moved s n (ident_text id) here.0 from.0 from.2 (named_so t id gives.among gives.there gives.named is from.2.from) here.2)
+
+  told_used : (s : Setting) (n : Text) (u : UseItem) (r : Rename) (i : PlacedInterface) (m : Denoted) → GivesUse s n u r → LeadsToInterface s.sources s.scope u.path i → NamesType (placed_setting s.sources i) (ident_text r.name) m → IsTold v s us → IsToldOf v s us n
+  told_used s n u r i m gives leads names told = by (some_or_none (use_at t.entry.uses (ident_text r.name)))
+    where
+      t : TellsUsed v s us u.path r
+      t = told.items (inside.Use u) gives.among gives.there r gives.within
+
+      j : PlacedInterface
+      j = record { scope = scope_syntax t.leads.scope; decl = t.leads.decl }
+
+      found : IsFoundAs s.sources v t.found j
+      found = record { valid = told.knows.found t.found t.leads.among; at = record { scope = t.leads.scope; at_scope = t.leads.at_scope; at_item = t.leads.at_item; is = refl } }
+
+      to : LeadsToInterface s.sources s.scope u.path j
+      to = record { name = ident_text t.leads.decl.name; leads = t.leads.leads; has = has_found s.sources v t.found j found told.knows }
+
+      one : i ≡ j
+      one = told.knows.unambiguous.interfaces s.scope u.path i j told.scope leads to
+
+      there : NamesType (placed_setting s.sources j) (ident_text r.name) m
+      there = subst (λ (k : PlacedInterface). NamesType (placed_setting s.sources k) (ident_text r.name) m) one names
+
+      said : origin_at us n ≡ Some (unwrap_or (origin_at t.entry.uses (ident_text r.name)) t.found.id)
+      said = subst (λ (k : Text). origin_at us k ≡ Some (unwrap_or (origin_at t.entry.uses (ident_text r.name)) t.found.id)) gives.named t.told
+
+      entry : IsInterfaceEntry s.sources v.types.now j t.entry
+      entry = entry_found s.sources v t.found j found t.entry t.at
+
+      by : (use_at t.entry.uses (ident_text r.name) ≡ None) ⊎ ((x : UseContent) × (use_at t.entry.uses (ident_text r.name) ≡ Some x)) → IsToldOf v s us n
+      by (inl none) =
+          let here = told_use us n t.found.id (said ∙ ap (λ (o : Option UseContent). Some (unwrap_or (option_map (λ (x : UseContent). x.interface) o) t.found.id)) none) in
+          let own = own_if_none v.types.now (placed_setting s.sources j) t.entry.uses (ident_text r.name) m entry.uses none there in
+          inr (here.0, here.1, record { interface = j; from = used_from u r gives.among gives.there gives.within gives.named to own; entry = t.entry; at = ap (λ (k : Id). slice_get v.types.now.interfaces k.index) here.2 ∙ t.at; is = entry })
+      by (inr (x, at)) =
+          let here = told_use us n x.interface (said ∙ ap (λ (o : Option UseContent). Some (unwrap_or (option_map (λ (x : UseContent). x.interface) o) t.found.id)) at) in
+          let o = origins_found s.sources v t.found j found t.entry t.at (ident_text r.name) x at in
+          inr (here.0, here.1, record { interface = o.interface; from = used_through u r gives.among gives.there gives.within gives.named to o.from; entry = o.entry; at = ap (λ (k : Id). slice_get v.types.now.interfaces k.index) here.2 ∙ o.at; is = o.is })
+
+  told_of : (s : Setting) (n : Text) (m : Denoted) → NamesType s n m → IsTold v s us → IsToldOf v s us n
+  told_of = by_name (λ s n. IsTold v s us → IsToldOf v s us n) told_own (λ s n t id gives is h told. told_another s n t id gives is (h told) told) (λ s n u r i m gives leads names h. told_used s n u r i m gives leads names)
+
+  -- something is said of each name that comes from elsewhere
+  told_all : (s : Setting) (n : Text) (i : PlacedInterface) → IsTold v s us → ComesFrom s n i → IsSome (use_at us n)
+  told_all s n i told (used_from u r among there within is leads own) =
+      let t = told.items (inside.Use u) among there r within in
+      let here = told_use us n _ (subst (λ (k : Text). origin_at us k ≡ Some (unwrap_or (origin_at t.entry.uses (ident_text r.name)) t.found.id)) is t.told) in
+      some_is (use_at us n) here.0 here.1
+  told_all s n i told (used_through u r among there within is leads from) =
+      let t = told.items (inside.Use u) among there r within in
+      let here = told_use us n _ (subst (λ (k : Text). origin_at us k ≡ Some (unwrap_or (origin_at t.entry.uses (ident_text r.name)) t.found.id)) is t.told) in
+      some_is (use_at us n) here.0 here.1
+  told_all s n i told (named_so t id among there is means from) =
+      let same = subst (λ (k : Text). origin_at us k ≡ origin_at us (ident_text id)) is ((told.items (inside.Type t) among there).another id means) in
+      let source = some_of (use_at us (ident_text id)) (told_all s (ident_text id) i told from) in
+      let here = told_use us n source.0.interface (same ∙ ap (option_map (λ (u : UseContent). u.interface)) source.1) in
+      some_is (use_at us n) here.0 here.1
+
+-- a type among exports is what its name stands for
+type_among : (s : Setting) (c : Collection) (es : List (Text × ItemKind)) (n : Text) (t : TypeOf) → AreExportsOf s c es → Contains es (n, OfType t) → IsTypeNamed s n c t
+type_among s c es n t exports among = exports.named among.0 (n, OfType t) among.1 (slice_get-get_or es among.0 (n, OfType t) among.1 ∙ ap (λ (e : Text × ItemKind). Some e) among.2)
+
+-- ---- what is said of all names
+
+module _ (v : Validator) (s : Setting) (e : InterfaceContent) (knows : Knows s.sources v) (scope : IsScopeOf s.sources s.scope) (exports : AreExportsOf s v.types.now e.exports) (tells : TellsOrigins v s e) where
+  told : IsTold v s e.uses
+  told = record { knows = knows; scope = scope; items = tells.items }
+
+  -- what a name stands for of which something is said
+  meaning_of : (n : Text) (u : UseContent) (root : HasRoot v.types.now e.exports n u.interface (unwrap_or u.name n)) → (m : Denoted) × (type_meaning v.types.now root.is ≡ Some m) × NamesType s n m
+  meaning_of n u root = let m = some_of (type_meaning v.types.now root.is) root.meant in (m.0, m.1, type_among s v.types.now e.exports n root.is exports root.here m.0 m.1)
+
+  pub have_origins : HaveOrigins v.types.now s e.uses
+  have_origins n u at = by (told_of v e.uses s n m.0 m.2 told)
+    where
+      m : (m : Denoted) × (type_meaning v.types.now (tells.roots n u at).is ≡ Some m) × NamesType s n m
+      m = meaning_of n u (tells.roots n u at)
+
+      by : IsToldOf v s e.uses n → HasOrigin v.types.now s n u
+      by (inl own) = let both = sym at ∙ own.0 in absurd (cc)
+      by (inr from) = subst (λ (x : UseContent). HasOrigin v.types.now s n x) (same_Some _ _ (sym from.1 ∙ at)) from.2
+
+  module _ (one : (n : Text) (m k : Denoted) → NamesType s n m → NamesType s n k → m ≡ k) where
+    is_origin : (n : Text) (u : UseContent) → HasOrigin v.types.now s n u → HasRoot v.types.now e.exports n u.interface (unwrap_or u.name n) → IsOriginOf v.types.now s n u
+    is_origin n u o root = record {
+      interface = o.interface;
+      from = o.from;
+      identified = rw o.at o.is.identified;
+      own = own_if_none v.types.now there entry.uses (unwrap_or u.name n) m.0 uses root.own named_there;
+      means = λ k names. subst (NamesType there (unwrap_or u.name n)) (one n m.0 k m.2 names) named_there;
+    }
+      where
+        there : Setting
+        there = placed_setting s.sources o.interface
+
+        entry : InterfaceContent
+        entry = root.entry
+
+        same : o.entry ≡ entry
+        same = same_Some _ _ (sym o.at ∙ root.at)
+
+        uses : AreUsesOf v.types.now there entry.uses
+        uses = subst (λ (x : InterfaceContent). AreUsesOf v.types.now there x.uses) same o.is.uses
+
+        m : (m : Denoted) × (type_meaning v.types.now root.is ≡ Some m) × NamesType s n m
+        m = meaning_of n u root
+
+        named_there : NamesType there (unwrap_or u.name n) m.0
+        named_there = type_among there v.types.now entry.exports (unwrap_or u.name n) root.of (subst (λ (x : InterfaceContent). AreExportsOf there v.types.now x.exports) same o.is.exports) root.among m.0 (root.same ∙ m.1)
+
+    pub are_uses : AreUsesOf v.types.now s e.uses
+    are_uses = record {
+      each = λ n u at. is_origin n u (have_origins n u at) (tells.roots n u at);
+      all = λ n i from. told_all v e.uses s n i told from;
+    }
+
+-- an interface whose exports are those of the text, and of which it is said where they come from
+pub validated : (of : WitSources) (v : Validator) (f : FoundInterface) (w : ScopeItems) (d : InterfaceDecl) (e : InterfaceContent) → Knows of v → slice_get v.scopes.items f.place.scope ≡ Some w → slice_get w.items.now f.place.item ≡ Some (top.Interface d) → IsEnabled of d.gates
+    → Stands v.types.now (interface_key f.id) → slice_get v.types.now.interfaces f.id.index ≡ Some e → e.id ≡ Some (interface_identifier (package_id w.package.now) (ident_text d.name)) → externs v.types.now (interface_key f.id) ≡ interface_externs (item_tree v.types.now) e
+    → AreExportsOf (interface_setting of (scope_syntax w) d.items.items) v.types.now e.exports → TellsOrigins v (interface_setting of (scope_syntax w) d.items.items) e → IsValidated of v f
+validated of v f w d e knows at_scope at_item there stands at identified tree exports tells = record {
+  scope = w;
+  decl = d;
+  at_scope = at_scope;
+  at_item = at_item;
+  there = there;
+  stands = stands;
+  identified = λ x h. subst (λ (y : InterfaceContent). y.id ≡ Some (interface_identifier (package_id w.package.now) (ident_text d.name))) (same x h) identified;
+  exports = λ x h. subst (λ (y : InterfaceContent). AreExportsOf s v.types.now y.exports) (same x h) exports;
+  uses = λ x h. subst (λ (y : InterfaceContent). AreUsesOf v.types.now s y.uses) (same x h) (are_uses v s e knows is_scope exports tells (knows.one_meaning (scope_syntax w) (ident_text d.name) d has));
+  origins = λ x h. subst (λ (y : InterfaceContent). HaveOrigins v.types.now s y.uses) (same x h) (have_origins v s e knows is_scope exports tells);
+  owners = λ x h. subst (λ (y : InterfaceContent). AreOwnersOf v.types.now y.uses y.exports) (same x h) tells.owners;
+  tree = tree_of_exports of (scope_syntax w) d.items.items v.types.now f.id e tree exports;
+}
+  where
+    s : Setting
+    s = interface_setting of (scope_syntax w) d.items.items
+
+    same : (x : InterfaceContent) → slice_get v.types.now.interfaces f.id.index ≡ Some x → e ≡ x
+    same x h = same_Some _ _ (sym at ∙ h)
+
+    is_scope : IsScopeOf of (scope_syntax w)
+    is_scope = (knows.scopes f.place.scope w at_scope).is_scope
+
+    has : HasInterface of (scope_syntax w) (ident_text d.name) d
+    has = record { scope = is_scope; item = among_got w.items.now f.place.item (top.Interface d) at_item; there = there; named = refl }

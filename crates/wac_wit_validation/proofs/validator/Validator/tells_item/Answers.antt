@@ -1,0 +1,10 @@
+use Rattle.wac_wit_validation.proofs.validator.Validator.tells_item.Goals as goal
+
+pub returns-in-Use : goal.returns-in-Use
+returns-in-Use c = rw c.in-Use.is c.tells_use.ensures
+
+pub returns-in-Type : goal.returns-in-Type
+returns-in-Type c = λ is s at. rw c.in-Type.is (c.tells_typedef.ensures is s.sources at.knows)
+
+pub returns-in-Func : goal.returns-in-Func
+returns-in-Func c = λ is s at. rw c.in-Func.is tt

@@ -1,0 +1,94 @@
+-- What is known of where types come from while an entry is compared with what is written.
+use Rattle.std.specs.Prelude.{◌≡◌, ◌≢◌, ℕ, List, Contains, Option, None, Some, IsSome, slice_get}
+use Rattle.std.specs.Option.{option_map, unwrap_or}
+use Rattle.wac_model.specs.Text.{Text}
+use Rattle.wac_component.specs.Collection.{Collection, InterfaceContent, ResourceContent, UseContent}
+use Rattle.wac_component.specs.Id.{Id}
+use Rattle.wac_component.specs.declared.items.ItemKind.{ItemKind}
+use Rattle.wac_component.specs.declared.items.ItemKind.TheVariants.{«Type» as OfType}
+use Rattle.wac_component.specs.declared.items.Type.{«Type» as TypeOf}
+use Rattle.wac_component.specs.declared.items.Type.TheVariants.{Resource as TypeResource}
+use Rattle.wac_wit_syntax.specs.declared.tree.Ident.{Ident}
+use Rattle.wac_wit_syntax.specs.declared.tree.InterfaceItem.{InterfaceItem}
+use Rattle.wac_wit_syntax.specs.declared.tree.InterfaceItem.TheVariants as inside
+use Rattle.wac_wit_syntax.specs.declared.tree.Path.{Path}
+use Rattle.wac_wit_syntax.specs.declared.tree.Rename.{Rename}
+use Rattle.wac_wit_syntax.specs.declared.tree.TypeDef.TheVariants as def
+use Rattle.wac_wit_syntax.specs.declared.tree.TypeExpr.TheVariants as ty
+use Rattle.wac_wit_syntax.specs.declared.tree.TypeItem.{TypeItem}
+use Rattle.wac_wit_syntax.specs.declared.tree.UseItem.{UseItem}
+use Rattle.wac_wit_validation.specs.Checking.{IsSettingAt, Knows, LeadsToFound, Offers, scope_syntax}
+use Rattle.wac_wit_validation.specs.Denoted.{Setting, interface_setting}
+use Rattle.wac_wit_validation.specs.Origins.{AreOwnersOf, IsOwnerOf, use_at}
+use Rattle.wac_wit_validation.specs.Reading.{type_meaning}
+use Rattle.wac_wit_validation.specs.WitSources.{IsEnabled, WitSources, given_name, ident_text}
+use Rattle.wac_wit_validation.specs.declared.sources.ScopeItems.{ScopeItems}
+use Rattle.wac_wit_validation.specs.declared.validator.FoundInterface.{FoundInterface}
+use Rattle.wac_wit_validation.specs.declared.validator.Validator.{Validator}
+
+-- the interface from which the type of a name is said to come
+abbrev pub origin_at : List (Text × UseContent) → Text → Option Id
+origin_at us n = option_map (λ (u : UseContent). u.interface) (use_at us n)
+
+-- a type that is used is said to come from this interface, or from where it is said there to come from
+abbrev pub TellsName : List (Text × UseContent) → List (Text × UseContent) → Id → Rename → Type 0
+TellsName us others from r = origin_at us (given_name r.name r.alias) ≡ Some (unwrap_or (origin_at others (ident_text r.name)) from)
+
+-- the same of the interface that a path leads to
+pub record TellsUsed (v : Validator) (s : Setting) (us : List (Text × UseContent)) (p : Path) (r : Rename) : Type 0 where
+  pub found : FoundInterface
+  pub leads : LeadsToFound v s p found
+  pub entry : InterfaceContent
+  pub at : slice_get v.types.now.interfaces found.id.index ≡ Some entry
+  pub told : TellsName us entry.uses found.id r
+
+-- the same, by what the entry that was found says
+abbrev pub TellsFrom : Collection → List (Text × UseContent) → FoundInterface → Rename → Type 0
+TellsFrom c us f r = (e : InterfaceContent) × (slice_get c.interfaces f.id.index ≡ Some e) × TellsName us e.uses f.id r
+
+-- it is said of each type that is used where it comes from
+abbrev pub TellsUse : Validator → Setting → List (Text × UseContent) → UseItem → Type 0
+TellsUse v s us u = IsEnabled s.sources u.gates → (r : Rename) → Contains u.names.items r → TellsUsed v s us u.path r
+
+-- a type that is defined is said to come from where the type does that it is another name of, or else from nowhere
+pub record TellsType (us : List (Text × UseContent)) (t : TypeItem) : Type 0 where
+  pub another : (id : Ident) → t.def ≡ def.Alias (ty.Name id) → origin_at us (ident_text t.name) ≡ origin_at us (ident_text id)
+  pub own : ((id : Ident) → t.def ≢ def.Alias (ty.Name id)) → origin_at us (ident_text t.name) ≡ None
+
+abbrev pub TellsItem : Validator → Setting → List (Text × UseContent) → InterfaceItem → Type 0
+TellsItem v s us (inside.Use u) = TellsUse v s us u
+TellsItem v s us (inside.Type t) = IsEnabled s.sources t.gates → TellsType us t
+TellsItem v s us (inside.Func f) = Unit {0}
+
+-- the item tells it in each setting of the scope
+abbrev pub TellsItemAt : Validator → ℕ → List (Text × UseContent) → InterfaceItem → Type 0
+TellsItemAt v scope us x = (s : Setting) → IsSettingAt v scope s → TellsItem v s us x
+
+-- an interface has a type itself under this name, which the other one is
+pub record HasRoot (c : Collection) (es : List (Text × ItemKind)) (n : Text) (from : Id) (root : Text) : Type 0 where
+  pub entry : InterfaceContent
+  pub at : slice_get c.interfaces from.index ≡ Some entry
+  pub own : use_at entry.uses root ≡ None
+  pub of : TypeOf
+  pub among : Contains entry.exports (root, OfType of)
+  pub is : TypeOf
+  pub here : Contains es (n, OfType is)
+  pub meant : IsSome (type_meaning c is)
+  pub same : type_meaning c of ≡ type_meaning c is
+
+-- the interface that is said of a name has its type itself
+abbrev pub HasUseRoot : Collection → List (Text × ItemKind) → Text → UseContent → Type 0
+HasUseRoot c es n u = HasRoot c es n u.interface (unwrap_or u.name n)
+
+-- the owner of an export is that which is said of its name, if it is a resource
+abbrev pub HasOwner : Collection → List (Text × UseContent) → Text → ItemKind → Type 0
+HasOwner c us n k = (id : Id) → k ≡ OfType (TypeResource id) → (r : ResourceContent) → slice_get c.resources id.index ≡ Some r → IsOwnerOf us n r
+
+-- it is said of all types where they come from
+pub record TellsOrigins (v : Validator) (s : Setting) (e : InterfaceContent) : Type 0 where
+  pub items : (x : InterfaceItem) → Offers s x → TellsItem v s e.uses x
+  pub roots : (n : Text) (u : UseContent) → use_at e.uses n ≡ Some u → HasUseRoot v.types.now e.exports n u
+  pub owners : AreOwnersOf v.types.now e.uses e.exports
+
+abbrev pub TellsOriginsAt : Validator → ℕ → List InterfaceItem → InterfaceContent → Type 0
+TellsOriginsAt v scope is e = (of : WitSources) → Knows of v → (w : ScopeItems) → slice_get v.scopes.items scope ≡ Some w → TellsOrigins v (interface_setting of (scope_syntax w) is) e
