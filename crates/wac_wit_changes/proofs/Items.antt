@@ -18,6 +18,10 @@ copied_is r o x copied is = sym copied ∙ ap option_copied is
 pub copied_none : {A : Type 0} (r : Option (Bor A)) (o : Option A) → option_copied r ≡ o → r ≡ None → o ≡ None
 copied_none r o copied is = sym copied ∙ ap option_copied is
 
+-- what says one thing says another that is the same
+pub says_both : {P Q R : Type 0} → P ↔ Q → Q ↔ R → P ↔ R
+says_both pq qr = ((λ p. qr.0 (pq.0 p)), (λ r. pq.1 (qr.1 r)))
+
 module _ {A : Type 0} (o : Option A) (Will : A → Type 0) (ps : List Problem) where
   -- where nothing is found, a problem says so
   pub says_gone : o ≡ None → ps ≢ [] → (ps ≡ []) ↔ ((x : A) × (o ≡ Some x) × Will x)

@@ -1,21 +1,21 @@
 -- What is said of an old package, and of all of them.
-use Rattle.std.proofs.Common.{◌≡◌, ℕ, ◌+◌, ◌<◌, List, [], ◌∷◌, ◌++◌, length, take, get_or, Contains, IfOk, Result, Ok, Err, string_bytes, sym, subst, ap, ◌∙◌, inr, add-one}
+use Rattle.std.proofs.Common.{◌≡◌, ℕ, ◌+◌, ◌<◌, List, [], ◌∷◌, ◌++◌, length, take, get_or, IfOk, Result, Ok, Err, string_bytes, sym, subst, ap, ◌∙◌, inr, add-one}
 use Rattle.std.proofs.Math.Seq.{take-suc}
 use Rattle.std.proofs.lemmas.List.{map-append}
 use Rattle.std.specs.List.{AllZip}
 use Rattle.wac_component.specs.Collection.{Collection}
 use Rattle.wac_wit.specs.declared.packages.WitPackage.{WitPackage}
-use Rattle.wac_wit_changes.specs.Comparing.{IsReportOfBoth, IsReportOn}
+use Rattle.wac_wit_changes.specs.Comparing.{IsCounterpart, IsReportOfBoth, IsReportOn}
 use Rattle.wac_wit_changes.specs.Sides.{olds_of}
 use Rattle.wac_wit_changes.specs.declared.packages.Move.{Move}
 use Rattle.wac_wit_changes.specs.declared.report.PackageReport.{PackageReport}
 use Rattle.wac_wit_changes.proofs.Pairwise.{AllZip-one_more}
 
--- a report on both packages is one on the old one
+-- a report on both packages is one on the old one, beside the new one that it is compared with
 pub report_beside : {E : Type 0} (types : Collection) (news : List WitPackage) (old new : WitPackage) (r : Result PackageReport E)
-    → Contains news new → IfOk r (λ x. IsReportOfBoth types old new x × (string_bytes x.name ≡ string_bytes old.name)) → IfOk r (IsReportOn types news old)
-report_beside types news old new (Ok x) among both = record { name = both.1; about = inr (new, among, both.0) }
-report_beside types news old new (Err e) among both = tt
+    → IsCounterpart news old new → IfOk r (λ x. IsReportOfBoth types old new x × (string_bytes x.name ≡ string_bytes old.name)) → IfOk r (IsReportOn types news old)
+report_beside types news old new (Ok x) compared both = record { name = both.1; about = inr (new, compared, both.0) }
+report_beside types news old new (Err e) compared both = tt
 
 -- the next of a list
 pub take-next : {A : Type 0} (xs : List A) (i : ℕ) (x : A) → i < length xs → x ≡ get_or xs i x → take (i + 1) xs ≡ take i xs ++ x ∷ []

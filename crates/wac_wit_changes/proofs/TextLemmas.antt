@@ -1,5 +1,5 @@
 -- Reports on packages are reports on the texts that these were read from.
-use Rattle.std.proofs.Common.{◌≡◌, ◌↔◌, ◌⊎◌, inl, inr, List, [], ◌∷◌, Option, Some, None, Bool, true, false, cond, Contains, option_map, string_bytes, String, refl, sym, subst}
+use Rattle.std.proofs.Common.{◌≡◌, ◌↔◌, ◌⊎◌, inl, inr, List, [], ◌∷◌, Option, Some, None, Bool, true, false, cond, Contains, option_map, string_bytes, String, refl, sym, ap, subst}
 use Rattle.std.proofs.lemmas.Slice.Eq.{bytes_eq-Decides}
 use Rattle.std.specs.HashMap.{get_by_text}
 use Rattle.std.specs.List.{AllZip}
@@ -22,8 +22,9 @@ use Rattle.wac_wit_validation.specs.Interfaces.{IsInterfaceTree}
 use Rattle.wac_wit_validation.specs.Validated.{IsInterfaceOf, IsWorldOf}
 use Rattle.wac_wit_validation.specs.WitSources.{WitSources, sources_of}
 use Rattle.wac_wit_validation.specs.Worlds.{IsWorldTree}
-use Rattle.wac_wit_changes.specs.Comparing.{HasFitting, IsComparedInterface, IsComparedWorld, IsReportOfBoth, IsReportOfOne, IsReportOn}
-use Rattle.wac_wit_changes.specs.Texts.{ComparesTexts, DenotesInterface, DenotesWorld, IsTextItem, IsTextReportOfBoth, IsTextReportOn, IsTextVerdict, IsTextWorld, beside, gone}
+use Rattle.wac_wit_changes.specs.Comparing.{HasFitting, IsComparedInterface, IsComparedWorld, IsCounterpart, IsReportOfBoth, IsReportOfOne, IsReportOn}
+use Rattle.wac_wit_changes.specs.Texts.{ComparesTexts, DenotesInterface, DenotesWorld, IsTextItem, IsTextReportOfBoth, IsTextReportOn, IsTextVerdict, IsTextWorld, IsWorldVerdict, beside, gone, world_beside, world_gone}
+use Rattle.wac_wit_changes.specs.Worlds.{TreeRunsIn}
 use Rattle.wac_wit_changes.specs.declared.report.ComparedItem.{ComparedItem}
 use Rattle.wac_wit_changes.specs.declared.report.PackageReport.{PackageReport}
 use Rattle.wac_wit_changes.specs.declared.report.Promise.{Promise}
@@ -99,24 +100,29 @@ module _ (c d : Collection) (grows : Extends c d) where
       verdict = verdict_at (get_by_text new.interfaces (string_bytes e.0)) refl about.problems;
     }
 
+    -- where the new package has a world of the name, or none
+    world_verdict_at : (p : Promise) (o : Option Id) → get_by_text new.worlds (string_bytes e.0) ≡ o → IsComparedWorld d new p e item → IsWorldVerdict news new p (string_bytes e.0) (item_tree d (Component e.1)) item
+    world_verdict_at p None none about = world_gone none (λ empty. let h = about.problems.0 empty in let found = h.1 in absurd (cc))
+    world_verdict_at p (Some id) found about =
+        let entry = found_entry new.worlds.entries (string_bytes e.0) id found in
+        world_beside (item_tree d (Component id)) (item_tree d (Component about.component))
+        (subst (λ (t : Text). DenotesWorld news new t (item_tree d (Component id))) entry.named (world_still news new (string_bytes entry.key) id (news_read.worlds entry.key id entry.among)))
+        (λ same. ap (λ (i : Id). item_tree d (Component i)) (about.own same)) 
+        ((λ none. let h = about.problems.0 none in let same : h.0 ≡ id = cc (h.1) in subst (λ (i : Id). TreeRunsIn (item_tree d (Component about.component)) (item_tree d (Component i))) same h.2), (λ runs. about.problems.1 (id, found, runs)))
+
     -- and so is an item about a world
-    pub text_world : (p : Promise) → Contains old.worlds.entries e → IsComparedWorld d new p e item → IsTextWorld d olds news old new p e item
+    pub text_world : (p : Promise) → Contains old.worlds.entries e → IsComparedWorld d new p e item → IsTextWorld olds news old new p e.0 item
     text_world p among about = record {
       sort = about.sort;
       same = about.name;
+      tree = item_tree d (Component e.1);
       denoted = world_still olds old (string_bytes e.0) e.1 (olds_read.worlds e.0 e.1 among);
-      denoted_beside = λ id found.
-          let entry = found_entry new.worlds.entries (string_bytes e.0) id found in
-          subst (λ (t : Text). DenotesWorld news new t (item_tree d (Component id))) entry.named (world_still news new (string_bytes entry.key) id (news_read.worlds entry.key id entry.among));
-      component = about.component;
-      own = about.own;
-      problems = about.problems;
+      verdict = world_verdict_at p (get_by_text new.worlds (string_bytes e.0)) refl about;
     }
 
   module _ (olds news : WitSources) (old : WitPackage) (olds_read : IsReadPackage olds c old) where
-    text_report_of_both : (new : WitPackage) (r : PackageReport) → IsReadPackage news c new → IsReportOfBoth d old new r → IsTextReportOfBoth d olds news old new r
+    text_report_of_both : (new : WitPackage) (r : PackageReport) → IsReadPackage news c new → IsReportOfBoth d old new r → IsTextReportOfBoth olds news old new r
     text_report_of_both new r read both = record {
-      same = both.same;
       version = both.version;
       promise = both.promise;
       firsts = both.compared.firsts;
@@ -124,18 +130,19 @@ module _ (c d : Collection) (grows : Extends c d) where
           (AllZip-leads (IsComparedInterface d new) (λ (e : String Global × Id) (item : ComparedItem). IsTextItem olds news old new e.0 item) old.interfaces.entries both.compared.firsts
           (λ e item among about. text_item olds news old new e item olds_read read among about) both.compared.interfaces);
       rest = both.compared.rest;
-      worlds = AllZip-leads (IsComparedWorld d new r.promise) (IsTextWorld d olds news old new r.promise) old.worlds.entries both.compared.rest
-          (λ e item among about. text_world olds news old new e item olds_read read r.promise among about) both.compared.worlds;
+      worlds = AllZip-keys (IsTextWorld olds news old new r.promise) old.worlds.entries both.compared.rest
+          (AllZip-leads (IsComparedWorld d new r.promise) (λ (e : String Global × Id) (item : ComparedItem). IsTextWorld olds news old new r.promise e.0 item) old.worlds.entries both.compared.rest
+          (λ e item among about. text_world olds news old new e item olds_read read r.promise among about) both.compared.worlds);
       all = both.compared.all;
     }
 
     -- a report on a package is one on its text
-    pub text_report : (others : List WitPackage) (r : PackageReport) → ((new : WitPackage) → Contains others new → IsReadPackage news c new) → IsReportOn d others old r → IsTextReportOn d olds news others old r
+    pub text_report : (others : List WitPackage) (r : PackageReport) → ((new : WitPackage) → Contains others new → IsReadPackage news c new) → IsReportOn d others old r → IsTextReportOn olds news others old r
     text_report others r read on = record { name = on.name; about = by_cases on.about }
       where
-        by_cases : IsReportOfOne old r ⊎ ((new : WitPackage) × Contains others new × IsReportOfBoth d old new r) → IsReportOfOne old r ⊎ ((new : WitPackage) × Contains others new × IsTextReportOfBoth d olds news old new r)
+        by_cases : IsReportOfOne others old r ⊎ ((new : WitPackage) × IsCounterpart others old new × IsReportOfBoth d old new r) → IsReportOfOne others old r ⊎ ((new : WitPackage) × IsCounterpart others old new × IsTextReportOfBoth olds news old new r)
         by_cases (inl one) = inl one
-        by_cases (inr both) = inr (both.0, both.1, text_report_of_both both.0 r (read both.0 both.1) both.2)
+        by_cases (inr both) = inr (both.0, both.1, text_report_of_both both.0 r (read both.0 both.1.among) both.2)
 
 -- what is compared of packages that were read is compared of their texts
 pub texts_compared : (old new : List SourceFile) (features : Features) (c : Collection) (t : ComparedTexts) → AreOfTexts old features c t.old → AreOfTexts new features c t.new
@@ -150,6 +157,6 @@ texts_compared old new features c t olds news grows reports = record {
   each =
       let of_old = sources_of old olds.documents features in
       let of_new = sources_of new news.documents features in
-      AllZip-leads (IsReportOn t.types t.new.packages.items) (IsTextReportOn t.types of_old of_new t.new.packages.items) t.old.packages.items t.reports.items
+      AllZip-leads (IsReportOn t.types t.new.packages.items) (IsTextReportOn of_old of_new t.new.packages.items) t.old.packages.items t.reports.items
       (λ p r among on. text_report c t.types grows of_old of_new p (olds.listed.each p among) t.new.packages.items r news.listed.each on) reports;
 }

@@ -1,18 +1,19 @@
 -- What a comparison of packages says.
-use Rattle.std.specs.Prelude.{◌≡◌, ◌↔◌, ◌++◌, ◌⊎◌, ◌==◌, Bool, true, false, List, [], ◌∷◌, Some, None, All, Contains, codes, if◌then◌else◌, option_map, string_bytes, String}
+use Rattle.std.specs.Prelude.{◌≡◌, ◌≢◌, ◌↔◌, ◌++◌, ◌⊎◌, ◌==◌, Bool, true, false, List, [], ◌∷◌, Some, None, All, Contains, codes, if◌then◌else◌, option_map, string_bytes, String}
 use Rattle.std.specs.HashMap.{get_by_text}
 use Rattle.std.specs.List.{AllZip}
 use Rattle.std.specs.declared.alloc.Global.{Global}
 use Rattle.wac_component.specs.Collection.{Collection}
 use Rattle.wac_component.specs.Id.{Id}
 use Rattle.wac_component.specs.Tree.{item_tree}
-use Rattle.wac_component.specs.declared.items.ItemKind.TheVariants.{Instance}
+use Rattle.wac_component.specs.declared.items.ItemKind.TheVariants.{Component, Instance}
 use Rattle.wac_types.specs.Order.{Fits}
+use Rattle.wac_types.specs.Pairs.{IsVersionAtMost}
 use Rattle.wac_types.specs.Text.{Text}
 use Rattle.wac_types.specs.Track.{IsCompatible}
 use Rattle.wac_wit_validation.specs.WitSources.{version_part}
 use Rattle.wac_wit.specs.declared.packages.WitPackage.{WitPackage}
-use Rattle.wac_wit_changes.specs.Worlds.{RunsIn}
+use Rattle.wac_wit_changes.specs.Worlds.{TreeRunsIn}
 use Rattle.wac_wit_changes.specs.declared.report.ComparedItem.{ComparedItem}
 use Rattle.wac_wit_changes.specs.declared.report.PackageReport.{PackageReport}
 use Rattle.wac_wit_changes.specs.declared.report.Promise.{Promise}
@@ -40,7 +41,7 @@ pub record IsComparedInterface (types : Collection) (new : WitPackage) (old : St
 
 -- the package has a world of this name, in which the components run
 abbrev pub HasTarget : Collection → WitPackage → Text → Id → Type 0
-HasTarget types new name component = (id : Id) × (get_by_text new.worlds name ≡ Some id) × RunsIn types component id
+HasTarget types new name component = (id : Id) × (get_by_text new.worlds name ≡ Some id) × TreeRunsIn (item_tree types (Component component)) (item_tree types (Component id))
 
 -- the item is about an old world: it has no problem exactly where the new package has a world of its
 -- name in which the components run. These are those of the old world itself where nothing may break,
@@ -76,23 +77,36 @@ AreOnTrack old new = IsCompatible (identifier_in old (codes "a")) (identifier_in
 abbrev pub IsPromiseOf : WitPackage → WitPackage → Promise → Type 0
 IsPromiseOf old new p = ((p ≡ Same) × AreOnTrack old new) ⊎ ((p ≡ Other) × (AreOnTrack old new → ⊥))
 
--- the report is about an old package that no new one belongs to: nothing is compared
-pub record IsReportOfOne (old : WitPackage) (r : PackageReport) : Type 0 where
+-- the new package that an old one is compared with: of those that have its name the one of its version, or else the one of the
+-- greatest version on its track, or else one of them all
+pub record IsCounterpart (news : List WitPackage) (old new : WitPackage) : Type 0 where
+  pub among : Contains news new
+  pub same : string_bytes new.name ≡ string_bytes old.name
+  pub own_version : (p : WitPackage) → Contains news p → identifier_in p (codes "a") ≡ identifier_in old (codes "a") → identifier_in new (codes "a") ≡ identifier_in old (codes "a")
+  pub on_track : (p : WitPackage) → Contains news p → AreOnTrack old p → AreOnTrack old new
+  pub greatest : (p : WitPackage) → Contains news p → AreOnTrack old p → (identifier_in new (codes "a") ≢ identifier_in old (codes "a")) → IsVersionAtMost (identifier_in p (codes "a")) (identifier_in new (codes "a"))
+
+-- no package has this name
+abbrev pub NoneHasName : List WitPackage → Text → Type 0
+NoneHasName packages name = (p : WitPackage) → Contains packages p → string_bytes p.name ≢ name
+
+-- the report is about an old package of whose name there is no new one: nothing is compared
+pub record IsReportOfOne (news : List WitPackage) (old : WitPackage) (r : PackageReport) : Type 0 where
+  pub alone : NoneHasName news (string_bytes old.name)
   pub version : r.new_version ≡ None
   pub promise : r.promise ≡ (if old.group == 0 then Gone else Dropped)
   pub compared : r.compared.items ≡ []
 
--- the report is about an old package and this new one, which has its name
+-- the report is about an old package and this new one
 pub record IsReportOfBoth (types : Collection) (old new : WitPackage) (r : PackageReport) : Type 0 where
-  pub same : string_bytes new.name ≡ string_bytes old.name
   pub version : option_map string_bytes r.new_version ≡ option_map string_bytes new.version
   pub promise : IsPromiseOf old new r.promise
   pub compared : AreItemsOnPackage types old new r.promise r.compared.items
 
--- the report is about an old package, alone or beside one of the new packages
+-- the report is about an old package, alone or beside the new one that it is compared with
 pub record IsReportOn (types : Collection) (news : List WitPackage) (old : WitPackage) (r : PackageReport) : Type 0 where
   pub name : string_bytes r.name ≡ string_bytes old.name
-  pub about : IsReportOfOne old r ⊎ ((new : WitPackage) × Contains news new × IsReportOfBoth types old new r)
+  pub about : IsReportOfOne news old r ⊎ ((new : WitPackage) × IsCounterpart news old new × IsReportOfBoth types old new r)
 
 -- ---- the whole answer
 

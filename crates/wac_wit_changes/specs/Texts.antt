@@ -1,12 +1,8 @@
 -- What a comparison of packages says of the texts that these are read from.
-use Rattle.std.specs.Prelude.{◌≡◌, ◌≢◌, ◌↔◌, ◌⊎◌, ◌++◌, List, [], None, Some, Contains, option_map, string_bytes, String}
+use Rattle.std.specs.Prelude.{◌≡◌, ◌≢◌, ◌↔◌, ◌⊎◌, ◌++◌, List, [], None, option_map, string_bytes, String}
 use Rattle.std.specs.HashMap.{get_by_text, keys}
 use Rattle.std.specs.List.{AllZip}
 use Rattle.std.specs.declared.alloc.Global.{Global}
-use Rattle.wac_component.specs.Collection.{Collection}
-use Rattle.wac_component.specs.Id.{Id}
-use Rattle.wac_component.specs.Tree.{item_tree}
-use Rattle.wac_component.specs.declared.items.ItemKind.TheVariants.{Component}
 use Rattle.wac_types.specs.ItemTree.{ItemTree}
 use Rattle.wac_types.specs.Order.{Fits}
 use Rattle.wac_types.specs.Text.{Text}
@@ -22,7 +18,8 @@ use Rattle.wac_wit_validation.specs.Placed.{PlacedWorld}
 use Rattle.wac_wit_validation.specs.Validated.{IsWorldNamed, package_text}
 use Rattle.wac_wit_validation.specs.WitSources.{HasInterface, ScopeSyntax, WitSources, sources_of}
 use Rattle.wac_wit_validation.specs.Worlds.{IsWorldTree}
-use Rattle.wac_wit_changes.specs.Comparing.{HasTarget, IsPromiseOf, IsReportOfOne}
+use Rattle.wac_wit_changes.specs.Comparing.{IsCounterpart, IsPromiseOf, IsReportOfOne}
+use Rattle.wac_wit_changes.specs.Worlds.{TreeRunsIn}
 use Rattle.wac_wit_changes.specs.declared.report.ComparedItem.{ComparedItem}
 use Rattle.wac_wit_changes.specs.declared.report.PackageReport.{PackageReport}
 use Rattle.wac_wit_changes.specs.declared.report.Promise.{Promise}
@@ -60,34 +57,38 @@ pub record DenotesWorld (of : WitSources) (p : WitPackage) (name : Text) (tree :
   pub is : IsWorldNamed of (string_bytes p.name) (option_map string_bytes p.version) name written
   pub is_tree : IsWorldTree of written tree
 
--- the item is about a world of an old package, whose entry has the tree that its text denotes, and so has that of the new
--- package's world of this name: there is no problem exactly where there is one, and the component runs in it. That is a
--- component of the old world itself where nothing may break
-pub record IsTextWorld (c : Collection) (olds news : WitSources) (old new : WitPackage) (p : Promise) (e : String Global × Id) (item : ComparedItem) : Type 0 where
-  pub sort : item.sort ≡ World
-  pub same : string_bytes item.name ≡ string_bytes e.0
-  pub denoted : DenotesWorld olds old (string_bytes e.0) (item_tree c (Component e.1))
-  pub denoted_beside : (id : Id) → get_by_text new.worlds (string_bytes e.0) ≡ Some id → DenotesWorld news new (string_bytes e.0) (item_tree c (Component id))
-  pub component : Id
-  pub own : p ≡ Same → component ≡ e.1
-  pub problems : (item.problems.items ≡ []) ↔ HasTarget c new (string_bytes e.0) component
+-- what the item says of an old world of this name, whose text denotes the tree
+pub data IsWorldVerdict (news : WitSources) (new : WitPackage) (p : Promise) (name : Text) (tree : ItemTree) (item : ComparedItem) : Type 0 where
+  -- the new package has none of this name, and there is a problem
+  world_gone : get_by_text new.worlds name ≡ None → item.problems.items ≢ [] → IsWorldVerdict news new p name tree item
+  -- the new text denotes a tree, and there is no problem exactly where the component runs in that: a component of the old world
+  -- itself where nothing may break, and else one of some world
+  world_beside : (t component : ItemTree) → DenotesWorld news new name t → (p ≡ Same → component ≡ tree) → (item.problems.items ≡ []) ↔ TreeRunsIn component t
+      → IsWorldVerdict news new p name tree item
 
--- the report is about an old package and a new one of its name: an item about each interface of the old one, in their
+-- the item is about a world of an old package
+pub record IsTextWorld (olds news : WitSources) (old new : WitPackage) (p : Promise) (name : String Global) (item : ComparedItem) : Type 0 where
+  pub sort : item.sort ≡ World
+  pub same : string_bytes item.name ≡ string_bytes name
+  pub tree : ItemTree
+  pub denoted : DenotesWorld olds old (string_bytes name) tree
+  pub verdict : IsWorldVerdict news new p (string_bytes name) tree item
+
+-- the report is about an old package and a new one: an item about each interface of the old one, in their
 -- order, and then one about each world, in theirs
-pub record IsTextReportOfBoth (c : Collection) (olds news : WitSources) (old new : WitPackage) (r : PackageReport) : Type 0 where
-  pub same : string_bytes new.name ≡ string_bytes old.name
+pub record IsTextReportOfBoth (olds news : WitSources) (old new : WitPackage) (r : PackageReport) : Type 0 where
   pub version : option_map string_bytes r.new_version ≡ option_map string_bytes new.version
   pub promise : IsPromiseOf old new r.promise
   pub firsts : List ComparedItem
   pub about : AllZip (IsTextItem olds news old new) (keys old.interfaces) firsts
   pub rest : List ComparedItem
-  pub worlds : AllZip (IsTextWorld c olds news old new r.promise) old.worlds.entries rest
+  pub worlds : AllZip (IsTextWorld olds news old new r.promise) (keys old.worlds) rest
   pub all : r.compared.items ≡ firsts ++ rest
 
--- the report is about an old package, alone or beside one of the new packages
-pub record IsTextReportOn (c : Collection) (olds news : WitSources) (others : List WitPackage) (old : WitPackage) (r : PackageReport) : Type 0 where
+-- the report is about an old package, alone or beside the new one that it is compared with
+pub record IsTextReportOn (olds news : WitSources) (others : List WitPackage) (old : WitPackage) (r : PackageReport) : Type 0 where
   pub name : string_bytes r.name ≡ string_bytes old.name
-  pub about : IsReportOfOne old r ⊎ ((new : WitPackage) × Contains others new × IsTextReportOfBoth c olds news old new r)
+  pub about : IsReportOfOne others old r ⊎ ((new : WitPackage) × IsCounterpart others old new × IsTextReportOfBoth olds news old new r)
 
 -- what became of the packages of old files, beside those of new files: each file's text says its tree, nothing in these
 -- trees is left out of the packages, and there is a report on each old package, in their order, about what they denote
@@ -98,4 +99,4 @@ pub record ComparesTexts (old new : List SourceFile) (features : Features) (t : 
   pub new_parsed : AreParsed new new_trees
   pub old_all : ListsAll (sources_of old old_trees features) t.old.packages.items
   pub new_all : ListsAll (sources_of new new_trees features) t.new.packages.items
-  pub each : AllZip (IsTextReportOn t.types (sources_of old old_trees features) (sources_of new new_trees features) t.new.packages.items) t.old.packages.items t.reports.items
+  pub each : AllZip (IsTextReportOn (sources_of old old_trees features) (sources_of new new_trees features) t.new.packages.items) t.old.packages.items t.reports.items

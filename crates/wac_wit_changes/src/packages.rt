@@ -1,16 +1,17 @@
 //! Compares packages with older ones.
 
-ghost use Rattle.std.specs.Prelude.{◌≡◌, ◌≢◌, ◌↔◌, List, [], Some, All, Contains, IfOk, IsTrue, IsFalse, option_map, string_bytes};
+ghost use Rattle.std.specs.Prelude.{◌≡◌, ◌≢◌, ◌↔◌, List, [], Some, All, IfOk, IsTrue, IsFalse, option_map, slice_get, string_bytes};
 ghost use Rattle.std.specs.List.{AllZip};
 ghost use Rattle.wac_component.specs.Collection.{Collection};
 ghost use Rattle.wac_component.specs.Growth.{Extends};
 ghost use Rattle.wac_wit.specs.declared.packages.WitPackage.{WitPackage};
-ghost use Rattle.wac_wit_changes.specs.Comparing.{IsComparedInterface, IsComparedWorld, AreItemsOnPackage, IsPromiseOf, IsReportOfBoth, IsReportOn};
-ghost use Rattle.wac_wit_changes.specs.Sides.{olds_of, IsMove};
+ghost use Rattle.wac_wit_changes.specs.Comparing.{IsComparedInterface, IsComparedWorld, AreItemsOnPackage, IsPromiseOf, IsReportOfBoth, IsReportOn, NoneHasName};
+ghost use Rattle.wac_wit_changes.specs.Sides.{olds_of, IsMove, KnowsPackages};
 ghost use Rattle.wac_wit_changes.specs.Worlds.{RunsIn};
 ghost use Rattle.wac_wit_changes.specs.declared.report.Promise.{Promise};
 ghost use Rattle.wac_wit_changes.specs.declared.tracks.Counterpart.{Counterpart};
 
+use super::checking::check_imports_used;
 use super::comparing::ComparedPair;
 use super::problem::Problem;
 use super::report::{Added, ComparedItem, PackageReport, Promise, ReportSort};
@@ -142,7 +143,7 @@ fn moves_of<'o>(
 ) -> Result<Vec<Move<'o>>, EntryError>
     ensures grows { Extends types.old types.new }
     ensures olds { IfOk result (λ ms. olds_of ms.items ≡ old.now.packages.items) }
-    ensures moves { IfOk result (λ ms. All IsMove ms.items) }
+    ensures moves { IfOk result (λ ms. All (IsMove new.now.packages.items) ms.items) }
 {
     let packages = NewPackages::new(alloc, &new.packages)?;
     let mut moves = Vec::new(alloc);
@@ -160,11 +161,12 @@ fn move_of<'o>(
     new: &Wit,
     packages: &NewPackages,
 ) -> Result<Move<'o>, EntryError>
+    requires known { KnowsPackages new.now.packages.items packages.now }
     ensures grows { Extends types.old types.new }
     ensures old { IfOk result (λ m. m.old.now ≡ old.now) }
-    ensures own { IfOk result IsMove }
+    ensures own { IfOk result (IsMove new.now.packages.items) }
 {
-    let found = packages.counterpart(alloc, old)?;
+    let found = packages.counterpart(old)?;
     let moved = if is_moved(found) {
         moved_worlds(alloc, types, old, new, packages)?
     } else {
@@ -213,7 +215,7 @@ fn compared(
     new: Read<'_>,
     moves: &[Move<'_>],
 ) -> Result<Vec<PackageReport>, EntryError>
-    requires moves { All IsMove moves.now }
+    requires moves { All (IsMove new.wit.now.packages.items) moves.now }
     ensures { IfOk result (λ rs. AllZip (IsReportOn types.now new.entry.wit.now.packages.items) (olds_of moves.now) rs.items) }
 {
     let Read { files, wit } = new;
@@ -231,7 +233,7 @@ fn compared_with(
     new: (&Wit, &[SourceFile], &[Document]),
     moves: &[Move<'_>],
 ) -> Result<Vec<PackageReport>, EntryError>
-    requires moves { All IsMove moves.now }
+    requires moves { All (IsMove new.0.now.packages.items) moves.now }
     ensures { IfOk result (λ rs. AllZip (IsReportOn types.now new.entry.0.now.packages.items) (olds_of moves.now) rs.items) }
 {
     let (wit, files, syntax) = new;
@@ -245,7 +247,7 @@ fn package_reports(
     moves: &[Move<'_>],
     new: &Wit,
 ) -> Result<Vec<PackageReport>, EntryError>
-    requires moves { All IsMove moves.now }
+    requires moves { All (IsMove new.now.packages.items) moves.now }
     ensures { IfOk result (λ rs. AllZip (IsReportOn pair.now.types.now new.now.packages.items) (olds_of moves.now) rs.items) }
 {
     let mut reports = Vec::new(pair.alloc);
@@ -261,20 +263,19 @@ fn package_report(
     of: &Move<'_>,
     new: &Wit,
 ) -> Result<PackageReport, EntryError>
-    requires { IsMove of.now }
+    requires { IsMove new.now.packages.items of.now }
     ensures { IfOk result (IsReportOn pair.now.types.now new.now.packages.items of.now.old.now) }
 {
     let Some(found) = of.new else {
         return Ok(lost_report(pair.alloc, of.old)?);
     };
     let new = named_at(new, found.index, &of.old.name)?;
-    let promise = promise_of(pair.alloc, of.old, new, found.is_on_track)?;
-    report_of_both(pair, of, new, promise)
+    report_of_both(pair, of, new, promise_of(found.is_on_track))
 }
 
 // The package at an index, which has to be of this name.
 fn named_at<'w>(wit: &'w Wit, index: usize, name: &str) -> Result<&'w WitPackage, EntryError>
-    ensures { IfOk result (λ p. Contains wit.now.packages.items p.now × (string_bytes p.now.name ≡ name.now)) }
+    ensures { IfOk result (λ p. (slice_get wit.now.packages.items index ≡ Some p.now) × (string_bytes p.now.name ≡ name.now)) }
 {
     match wit.packages.get(index) {
         Some(package) if package.name.as_str() == name => Ok(package),
@@ -282,9 +283,9 @@ fn named_at<'w>(wit: &'w Wit, index: usize, name: &str) -> Result<&'w WitPackage
     }
 }
 
-// What is said of a package that no new one belongs to.
+// What is said of a package of whose name there is no new one.
 fn lost_report(alloc: Global, old: &WitPackage) -> Result<PackageReport, AllocError>
-    ensures { (types : Collection) (news : List WitPackage) → IfOk result (IsReportOn types news old.now) }
+    ensures { (types : Collection) (news : List WitPackage) → NoneHasName news (string_bytes old.now.name) → IfOk result (IsReportOn types news old.now) }
 {
     Ok(PackageReport {
         name: old.name.clone()?,
@@ -300,7 +301,7 @@ fn lost_report(alloc: Global, old: &WitPackage) -> Result<PackageReport, AllocEr
     })
 }
 
-// What is said of a package that a new one belongs to.
+// What is said of a package that is compared with a new one.
 fn report_of_both(
     pair: &ComparedPair<'_, '_>,
     of: &Move<'_>,
@@ -309,7 +310,6 @@ fn report_of_both(
 ) -> Result<PackageReport, EntryError>
     requires promise { IsPromiseOf of.now.old.now new.now promise }
     requires own { promise ≡ Promise.Same → of.now.moved.entries ≡ [] }
-    requires name { string_bytes new.now.name ≡ string_bytes of.now.old.now.name }
     ensures { IfOk result (λ r. IsReportOfBoth pair.now.types.now of.now.old.now new.now r × (string_bytes r.name ≡ string_bytes of.now.old.now.name)) }
 {
     let old = of.old;
@@ -450,6 +450,7 @@ fn compared_world(
     let (before, component) = old;
     match beside.worlds.get(name.as_str()) {
         Some(new) => {
+            check_imports_used(pair.alloc, pair.types, component, *new)?;
             let worlds = ComparedWorlds {
                 component,
                 before,

@@ -1,9 +1,14 @@
 //! Which packages of two versions belong together, and what their versions promise.
 
-ghost use Rattle.std.specs.Prelude.{◌≡◌, ◌↔◌, ◌++◌, IfOk, IsTrue, OnOk, codes, string_bytes};
+ghost use Rattle.std.specs.Prelude.{◌≡◌, ◌↔◌, ◌++◌, ℕ, List, [], ◌∷◌, IfOk, IsTrue, OnOk, codes, length, string_bytes};
 ghost use Rattle.std.specs.Option.{option_map};
 ghost use Rattle.wac_component.specs.Growth.{Extends};
+ghost use Rattle.wac_targets.specs.Named.{IsMapOf};
+ghost use Rattle.wac_types.specs.Pairs.{IsFound, with_pair};
+ghost use Rattle.wac_types.specs.Text.{Text};
+ghost use Rattle.wac_wit.specs.declared.packages.WitPackage.{WitPackage};
 ghost use Rattle.wac_wit_changes.specs.Comparing.{AreOnTrack, IsPromiseOf, identifier_in};
+ghost use Rattle.wac_wit_changes.specs.Sides.{FindsCounterpart, KnowsPackages};
 ghost use Rattle.wac_wit_changes.specs.declared.report.Promise.{Promise};
 ghost use Rattle.wac_wit_validation.specs.WitSources.{version_part};
 
@@ -11,11 +16,11 @@ use super::report::Promise;
 use indexmap::IndexMap;
 use std::alloc::{AllocError, Global};
 use wac_component::{ItemKind, Types, WorldId};
-use wac_types::{NameMap, NameMapNoIntern, are_semver_compatible, track_of};
+use wac_types::{NameMap, NameMapNoIntern};
 use wac_wit::{Wit, WitPackage};
 use wac_wit_entries::{EntryError, parts_of, version_of, world};
 
-/// The new package of an old one's name.
+/// The new package that an old one is compared with.
 #[derive(Clone, Copy)]
 pub(crate) struct Counterpart {
     /// The index among the new packages.
@@ -28,10 +33,9 @@ pub(crate) struct Counterpart {
 pub(crate) struct NewPackages {
     // the last of each name
     names: IndexMap<String, usize>,
-    // that of each name and version, as an interface `a` in it is identified
-    versions: IndexMap<String, usize>,
-    // the first on each track
-    tracks: IndexMap<String, usize>,
+    // by the identifier of an interface `a` in it: of one version, or else of the greatest on its
+    // track
+    versions: NameMap<String, usize>,
 }
 
 impl Drop for NewPackages {
@@ -39,57 +43,49 @@ impl Drop for NewPackages {
         let NewPackages {
             names: _,
             versions: _,
-            tracks: _,
         } = self;
     }
 }
 
 impl NewPackages {
     /// Those of these packages.
-    pub(crate) fn new(alloc: Global, packages: &[WitPackage]) -> Result<NewPackages, AllocError> {
+    pub(crate) fn new(alloc: Global, packages: &[WitPackage]) -> Result<NewPackages, AllocError>
+        ensures { IfOk result (KnowsPackages packages.now) }
+    {
         let mut known = NewPackages {
             names: IndexMap::new(alloc),
-            versions: IndexMap::new(alloc),
-            tracks: IndexMap::new(alloc),
+            versions: NameMap::new(alloc),
         };
         for (index, package) in packages.iter().enumerate() {
-            known.add(alloc, package, index)?;
+            known.add(package, index)?;
         }
         Ok(known)
     }
 
-    fn add(&mut self, alloc: Global, package: &WitPackage, index: usize) -> Result<(), AllocError> {
-        let version = id_in(alloc, &package.name, version_of(&package.version))?;
-        if let Some(track) = track_of(alloc, &version)?
-            && self.tracks.get(track).is_none()
-        {
-            self.tracks.insert(String::from_str(alloc, track)?, index)?;
-        }
-        self.versions.insert(version, index)?;
-        self.names.insert(package.name.clone()?, index)?;
+    // Those of one package more, which has this index.
+    fn add(&mut self, new: &WitPackage, index: usize) -> Result<(), AllocError>
+        ensures { (news : List WitPackage) → KnowsPackages news self.old → index ≡ length news → OnOk result (KnowsPackages (news ++ new.now ∷ []) self.new) }
+    {
+        let version = identifier_in(new)?;
+        put(&mut self.versions, &version, index)?;
+        self.names.insert(new.name.clone()?, index)?;
         Ok(())
     }
 
-    // The package of a version, or else the first on its track.
-    fn on_track(&self, alloc: Global, version: &str) -> Result<Option<usize>, AllocError> {
-        if let Some(index) = self.versions.get(version) {
-            return Ok(Some(*index));
-        }
-        match track_of(alloc, version)? {
-            Some(track) => Ok(self.tracks.get(track).copied()),
-            None => Ok(None),
-        }
+    // The package of a version, or else the one of the greatest version on its track.
+    fn on_track(&self, version: &str) -> Result<Option<usize>, AllocError>
+        ensures { (ps : List (Text × ℕ)) → IsMapOf self.now.versions ps → IfOk result (IsFound ps version.now) }
+    {
+        Ok(self.versions.get(version, &NameMapNoIntern)?.copied())
     }
 
-    /// The new package of an old one's name: of several one of its version, or else one on its
-    /// track, or else the last.
-    pub(crate) fn counterpart(
-        &self,
-        alloc: Global,
-        old: &WitPackage,
-    ) -> Result<Option<Counterpart>, AllocError> {
-        let version = id_in(alloc, &old.name, version_of(&old.version))?;
-        if let Some(index) = self.on_track(alloc, &version)? {
+    /// The new package that an old one is compared with: of several of its name the one of its
+    /// version, or else the one of the greatest version on its track, or else the last.
+    pub(crate) fn counterpart(&self, old: &WitPackage) -> Result<Option<Counterpart>, AllocError>
+        ensures { (news : List WitPackage) → KnowsPackages news self.now → IfOk result (FindsCounterpart news old.now) }
+    {
+        let version = identifier_in(old)?;
+        if let Some(index) = self.on_track(&version)? {
             let is_on_track = true;
             return Ok(Some(Counterpart { index, is_on_track }));
         }
@@ -104,39 +100,16 @@ impl NewPackages {
     }
 }
 
-// The identifier of an interface `a` in a package.
-fn id_in(alloc: Global, package: &str, version: Option<&str>) -> Result<String, AllocError> {
-    match version {
-        Some(version) => format!(in alloc; "{package}/a@{version}"),
-        None => format!(in alloc; "{package}/a"),
-    }
-}
-
-/// What the versions of two packages promise, where it was found out already whether they are on
-/// one track.
-pub(crate) fn promise_of(
-    alloc: Global,
-    old: &WitPackage,
-    new: &WitPackage,
-    is_on_track: bool,
-) -> Result<Promise, EntryError>
-    ensures promise { IfOk result (IsPromiseOf old.now new.now) }
-    ensures own { IfOk result (λ p. p ≡ Promise.Same → IsTrue is_on_track) }
+/// What the versions of an old package and of the one that it is compared with promise.
+pub(crate) fn promise_of(is_on_track: bool) -> Promise
+    ensures promise { (old new : WitPackage) → (IsTrue is_on_track ↔ AreOnTrack old new) → IsPromiseOf old new result }
+    ensures own { result ≡ Promise.Same → IsTrue is_on_track }
 {
-    match (are_on_track(alloc, old, new)?, is_on_track) {
-        (true, true) => Ok(Promise::Same),
-        (false, false) => Ok(Promise::Other),
-        _ => Err(EntryError::Missing),
+    if is_on_track {
+        Promise::Same
+    } else {
+        Promise::Other
     }
-}
-
-// Whether two packages are of one version, or of versions on one track of SemVer.
-fn are_on_track(alloc: Global, old: &WitPackage, new: &WitPackage) -> Result<bool, AllocError>
-    ensures { IfOk result (λ is. IsTrue is ↔ AreOnTrack old.now new.now) }
-{
-    let old = identifier_in(old)?;
-    let new = identifier_in(new)?;
-    are_semver_compatible(alloc, &old, &new)
 }
 
 // The identifier of an interface `a` in a package.
@@ -207,7 +180,7 @@ fn moved_name(
         return String::from_str(alloc, id);
     };
     let version = id_in(alloc, parts.package, parts.version)?;
-    if packages.on_track(alloc, &version)?.is_some() {
+    if packages.on_track(&version)?.is_some() {
         return String::from_str(alloc, id);
     }
     let Some(package) = last_named(new, packages, parts.package) else {
@@ -217,6 +190,14 @@ fn moved_name(
     match version_of(&package.version) {
         Some(version) => format!(in alloc; "{of}/{name}@{version}"),
         None => format!(in alloc; "{of}/{name}"),
+    }
+}
+
+// The identifier of an interface `a` in a package of this name and version.
+fn id_in(alloc: Global, package: &str, version: Option<&str>) -> Result<String, AllocError> {
+    match version {
+        Some(version) => format!(in alloc; "{package}/a@{version}"),
+        None => format!(in alloc; "{package}/a"),
     }
 }
 
@@ -232,14 +213,19 @@ pub(crate) fn by_tracks(
 ) -> Result<NameMap<String, ItemKind>, AllocError> {
     let mut tracks = NameMap::new(alloc);
     for (name, item) in items {
-        if tracks
-            .insert(name, &mut NameMapNoIntern, true, *item)
-            .is_err()
-        {
-            return Err(AllocError);
-        }
+        put(&mut tracks, name, *item)?;
     }
     Ok(tracks)
+}
+
+// Puts a value under a name, whatever was there.
+fn put<V: Drop>(map: &mut NameMap<String, V>, name: &str, value: V) -> Result<(), AllocError>
+    ensures { (ps : List (Text × V)) → IsMapOf map.old ps → OnOk result (IsMapOf map.new (with_pair ps name.now value)) }
+{
+    match map.insert(name, &mut NameMapNoIntern, true, value) {
+        Ok(_) => Ok(()),
+        Err(_) => Err(AllocError),
+    }
 }
 
 /// The item under a name, or else the one of the highest version on its track.

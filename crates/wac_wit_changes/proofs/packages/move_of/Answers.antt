@@ -12,6 +12,7 @@ returns-clause-grows c = elim c.if-is_moved.branch [
 
 pub returns-clause-own : goal.returns-clause-own
 returns-clause-own c = record {
+  found = c.in_ok-found.ensures c.args.new.now.packages.items c.requires.known;
   own = λ d is on. elim c.if-is_moved.branch [
     | then-is_moved+in_ok-moved w ↦ let stays = c.is_moved.ensures d is on in let moves = w.if-is_moved.true in absurd (cc (stays, moves))
     | else-is_moved w ↦ ap (λ m. m.entries) w.moved-is ∙ w.new-moved.ensures.empty

@@ -11,7 +11,7 @@ loop-package-preserved c = (
   Extends-trans c.args.types.now c.loop-package.types c.move_of.new.types c.loop-package.invariant.0 c.move_of.ensures.grows,
   olds_more c.loop-package.moves.items c.push.new.self.items c.in_ok-move_of.field-0 c.args.old.now.packages.items c.loop-package.package-index c.package-item.result
       c.loop-package.invariant.1 c.in_ok-push.ensures.items c.in_ok-move_of.ensures.old (rw (← c.deref-package-items.ensures.value) c.loop-package-test.true) (rw (← c.deref-package-items.ensures.value) c.package-item.is),
-  subst (All IsMove) (sym c.in_ok-push.ensures.items) (All-push IsMove c.loop-package.moves.items c.in_ok-move_of.field-0 c.loop-package.invariant.2 c.in_ok-move_of.ensures.own),
+  subst (All (IsMove c.args.new.now.packages.items)) (sym c.in_ok-push.ensures.items) (All-push (IsMove c.args.new.now.packages.items) c.loop-package.moves.items c.in_ok-move_of.field-0 c.loop-package.invariant.2 c.in_ok-move_of.ensures.own),
 )
 
 pub returns-clause-olds : goal.returns-clause-olds

@@ -4,4 +4,4 @@ use Rattle.wac_wit_changes.specs.Sides.{olds_of, IsMove}
 use Rattle.wac_wit_changes.proofs.packages.moves_of.Given as goal
 
 abbrev pub invariant-loop-package : goal.invariant-loop-package
-invariant-loop-package l = Extends l.fn.types l.types × (olds_of l.moves.items ≡ take l.package-index l.old.packages.items) × All IsMove l.moves.items
+invariant-loop-package l = Extends l.fn.types l.types × (olds_of l.moves.items ≡ take l.package-index l.old.packages.items) × All (IsMove l.new.packages.items) l.moves.items
