@@ -107,7 +107,7 @@ module _ (c d : Collection) (grows : Extends c d) where
         let entry = found_entry new.worlds.entries (string_bytes e.0) id found in
         world_beside (item_tree d (Component id)) (item_tree d (Component about.component))
         (subst (λ (t : Text). DenotesWorld news new t (item_tree d (Component id))) entry.named (world_still news new (string_bytes entry.key) id (news_read.worlds entry.key id entry.among)))
-        (λ same. ap (λ (i : Id). item_tree d (Component i)) (about.own same)) 
+        (λ same. ap (λ (i : Id). item_tree d (Component i)) (about.own same))
         ((λ none. let h = about.problems.0 none in let same : h.0 ≡ id = cc (h.1) in subst (λ (i : Id). TreeRunsIn (item_tree d (Component about.component)) (item_tree d (Component i))) same h.2), (λ runs. about.problems.1 (id, found, runs)))
 
     -- and so is an item about a world
