@@ -84,7 +84,8 @@ pub record IsCounterpart (news : List WitPackage) (old new : WitPackage) : Type 
   pub same : string_bytes new.name ≡ string_bytes old.name
   pub own_version : (p : WitPackage) → Contains news p → identifier_in p (codes "a") ≡ identifier_in old (codes "a") → identifier_in new (codes "a") ≡ identifier_in old (codes "a")
   pub on_track : (p : WitPackage) → Contains news p → AreOnTrack old p → AreOnTrack old new
-  pub greatest : (p : WitPackage) → Contains news p → AreOnTrack old p → (identifier_in new (codes "a") ≢ identifier_in old (codes "a")) → IsVersionAtMost (identifier_in p (codes "a")) (identifier_in new (codes "a"))
+  pub greatest : (p : WitPackage) → Contains news p → AreOnTrack old p → identifier_in new (codes "a") ≢ identifier_in old (codes "a")
+      → IsVersionAtMost (identifier_in p (codes "a")) (identifier_in new (codes "a"))
 
 -- no package has this name
 abbrev pub NoneHasName : List WitPackage → Text → Type 0

@@ -7,7 +7,7 @@ use Rattle.wac_wit_syntax.specs.declared.tree.NestedPackage.{NestedPackage}
 use Rattle.wac_wit_syntax.specs.declared.tree.PackageName.{PackageName}
 use Rattle.wac_wit_syntax.specs.declared.tree.TopItem.{TopItem}
 use Rattle.wac_wit_validation.specs.Checking.{IsKnownScope}
-use Rattle.wac_wit_validation.specs.WitSources.{FileSyntax, IsScopeOf, PackageId, ScopeSyntax, WitSources, package_id, version_text}
+use Rattle.wac_wit_validation.specs.WitSources.{FileSyntax, IsInGroup, IsScopeOf, PackageId, ScopeSyntax, WitSources, package_id, version_text}
 use Rattle.wac_wit_validation.specs.declared.packages.Versions.{Versions}
 use Rattle.wac_wit_validation.specs.declared.sources.ScopeItems.{ScopeItems}
 
@@ -22,6 +22,10 @@ HasNested of group ps = (f : FileSyntax) × Contains of.files f × (f.group ≡ 
 -- items in a package
 abbrev pub scope_in : PackageName → List TopItem → ScopeSyntax
 scope_in n items = record { «package» = package_id n; items = items }
+
+-- items of what is read are in a package, which is in the group
+abbrev pub IsScopeIn : WitSources → ℕ → PackageName → List TopItem → Type 0
+IsScopeIn of group n items = IsScopeOf of (scope_in n items) × IsInGroup of (package_id n) group
 
 -- some file of a group names the package
 pub record NamesGroup (of : WitSources) (group : ℕ) (n : PackageName) : Type 0 where

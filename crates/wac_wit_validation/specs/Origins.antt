@@ -26,15 +26,18 @@ placed_setting of i = interface_setting of i.scope i.decl.items.items
 -- the name is of a type that is defined here: one that isn't another name, or another name of one that is
 pub data IsOwnName : Setting → Text → Type 0 where
   defined_here : {s : Setting} {n : Text} (t : TypeItem) → Contains s.types t → IsEnabled s.sources t.gates → ident_text t.name ≡ n → ((id : Ident) → t.def ≢ def.Alias (ty.Name id)) → IsOwnName s n
-  named_here : {s : Setting} {n : Text} (t : TypeItem) (id : Ident) → Contains s.types t → IsEnabled s.sources t.gates → ident_text t.name ≡ n → t.def ≡ def.Alias (ty.Name id) → IsOwnName s (ident_text id) → IsOwnName s n
+  named_here : {s : Setting} {n : Text} (t : TypeItem) (id : Ident) → Contains s.types t → IsEnabled s.sources t.gates → ident_text t.name ≡ n
+      → t.def ≡ def.Alias (ty.Name id) → IsOwnName s (ident_text id) → IsOwnName s n
 
 -- the name is of a type that this other interface defines
 pub data ComesFrom : Setting → Text → PlacedInterface → Type 0 where
   used_from : {s : Setting} {n : Text} {i : PlacedInterface} (u : UseItem) (r : Rename) → Contains s.uses u → IsEnabled s.sources u.gates → Contains u.names.items r → given_name r.name r.alias ≡ n
       → LeadsToInterface s.sources s.scope u.path i → IsOwnName (placed_setting s.sources i) (ident_text r.name) → ComesFrom s n i
-  used_through : {s : Setting} {n : Text} {v i : PlacedInterface} (u : UseItem) (r : Rename) → Contains s.uses u → IsEnabled s.sources u.gates → Contains u.names.items r → given_name r.name r.alias ≡ n
+  used_through : {s : Setting} {n : Text} {v i : PlacedInterface} (u : UseItem) (r : Rename) → Contains s.uses u → IsEnabled s.sources u.gates
+      → Contains u.names.items r → given_name r.name r.alias ≡ n
       → LeadsToInterface s.sources s.scope u.path v → ComesFrom (placed_setting s.sources v) (ident_text r.name) i → ComesFrom s n i
-  named_so : {s : Setting} {n : Text} {i : PlacedInterface} (t : TypeItem) (id : Ident) → Contains s.types t → IsEnabled s.sources t.gates → ident_text t.name ≡ n → t.def ≡ def.Alias (ty.Name id) → ComesFrom s (ident_text id) i → ComesFrom s n i
+  named_so : {s : Setting} {n : Text} {i : PlacedInterface} (t : TypeItem) (id : Ident) → Contains s.types t → IsEnabled s.sources t.gates → ident_text t.name ≡ n
+      → t.def ≡ def.Alias (ty.Name id) → ComesFrom s (ident_text id) i → ComesFrom s n i
 
 -- what is noted of a name, if anything is
 abbrev pub use_at : List (Text × UseContent) → Text → Option UseContent

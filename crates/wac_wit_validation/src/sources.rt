@@ -6,8 +6,8 @@ ghost use Rattle.wac_wit_names.specs.declared.features.Features.{Features};
 ghost use Rattle.wac_wit_validation.specs.Ambiguity.{HasAllScopes, HasNestedScopes, HasScopes};
 ghost use Rattle.wac_wit_validation.specs.Checking.{HasScope};
 ghost use Rattle.wac_wit_validation.specs.Checking.{IsKnownScope};
-ghost use Rattle.wac_wit_validation.specs.Naming.{AddsScopes, AreScopes, HasFile, HasNested, NamesGroup, scope_in};
-ghost use Rattle.wac_wit_validation.specs.WitSources.{IsInGroup, IsScopeOf, ScopeSyntax, WitSources, package_id, sources_of};
+ghost use Rattle.wac_wit_validation.specs.Naming.{AddsScopes, AreScopes, HasFile, HasNested, IsScopeIn, NamesGroup, scope_in};
+ghost use Rattle.wac_wit_validation.specs.WitSources.{IsScopeOf, ScopeSyntax, WitSources, sources_of};
 ghost use Rattle.wac_wit_validation.specs.declared.sources.ScopeItems.{ScopeItems as Scopes};
 
 use super::packages::{Versions, groups_of, is_alone, versions_in};
@@ -113,7 +113,7 @@ fn push_scope<'s>(
     package: &'s PackageName,
     items: &'s [TopItem],
 ) -> Result<(), AllocError>
-    ensures known { OnOk result ((of : WitSources) → IsScopeOf of (scope_in «package».now items.now) → IsInGroup of (package_id «package».now) group → AddsScopes of (get_by_text versions.now) scopes.old.items scopes.new.items) }
+    ensures known { OnOk result ((of : WitSources) → IsScopeIn of group «package».now items.now → AddsScopes of (get_by_text versions.now) scopes.old.items scopes.new.items) }
     ensures keeps { OnOk result ((w : ScopeSyntax) → HasScope scopes.old.items w → HasScope scopes.new.items w) }
     ensures has { OnOk result (HasScope scopes.new.items (scope_in «package».now items.now)) }
 {

@@ -11,7 +11,7 @@ pub returns-clause-known : goal.returns-clause-known
 returns-clause-known c = on_ok_weaker c.push_nested.result (λ pushes of among names knows all.
     let group = c.args.group in
     let scope = file_scope of group c.args.package.now c.args.document.now c.deref.result.now among names c.deref.ensures.value in
-    pushes of (_, among, refl, sym c.deref-2.ensures.value) knows (c.in_ok-push_scope.ensures.known of scope (group_named of group c.args.package.now names) knows all)) c.push_nested.ensures.known
+    pushes of (_, among, refl, sym c.deref-2.ensures.value) knows (c.in_ok-push_scope.ensures.known of (scope, group_named of group c.args.package.now names) knows all)) c.push_nested.ensures.known
 
 pub returns-clause-keeps : goal.returns-clause-keeps
 returns-clause-keeps c = on_ok_weaker c.push_nested.result (λ keeps w h. keeps w (c.in_ok-push_scope.ensures.keeps w h)) c.push_nested.ensures.keeps

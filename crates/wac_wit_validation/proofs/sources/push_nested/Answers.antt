@@ -21,7 +21,7 @@ loop-nested-preserved c =
           let inside = subst (λ (ps : List NestedPackage). Contains ps nested) (sym written.3) among in
           let scope = a_nested written.0 nested written.1 inside in
           let there = nested_there written.0 nested written.1 written.2 inside refl in
-          done.known of (subst (λ (ts : List TopItem). IsScopeOf of (scope_in nested.name ts)) (sym c.deref.ensures.value) scope) there knows (c.loop-nested.invariant.known of written knows all);
+          done.known of (subst (λ (ts : List TopItem). IsScopeOf of (scope_in nested.name ts)) (sym c.deref.ensures.value) scope, there) knows (c.loop-nested.invariant.known of written knows all);
       keeps = λ w h. done.keeps w (c.loop-nested.invariant.keeps w h);
       has = All-next packages index (λ (p : NestedPackage). HasScope c.loop-nested.scopes.items (scope_in p.name p.items.items)) (λ (p : NestedPackage). HasScope c.push_scope.new.scopes.items (scope_in p.name p.items.items)) nested
           c.loop-nested-test.true c.nested-item.is (λ p. done.keeps (scope_in p.name p.items.items)) c.loop-nested.invariant.has (subst (λ (ts : List TopItem). HasScope c.push_scope.new.scopes.items (scope_in nested.name ts)) c.deref.ensures.value done.has);

@@ -15,11 +15,11 @@ pub returns-clause-has : goal.returns-clause-has
 returns-clause-has c = subst (λ (ws : List ScopeItems). HasScope ws (scope_in c.args.package.now c.args.items.now)) (sym c.in_ok-push.ensures.items) (HasScope-last c.args.scopes.now.items _)
 
 pub returns-clause-known : goal.returns-clause-known
-returns-clause-known c = λ of scope there knows all.
+returns-clause-known c = λ of there knows all.
     let alone = c.in_ok-is_alone.ensures in
     subst (All (IsKnownScope of)) (sym c.in_ok-push.ensures.items) (All-push (IsKnownScope of) _ _ all (record {
-      is_scope = scope;
-      in_group = there;
+      is_scope = there.0;
+      in_group = there.1;
       alone = λ is v inside same.
           let known = knows v inside in
           known.1 ∙ alone is known.0 known.2 (subst (λ q. HaveOneName q (package_id c.args.package.now)) known.1 same);
