@@ -17,3 +17,4 @@ pub mod ListingFacts
 pub mod OneMeaning
 pub mod OnceFacts
 pub mod OriginFacts
+pub mod WorldOrigins

@@ -1,5 +1,5 @@
 -- Where types come from, by what an entry was found to say.
-use Rattle.std.proofs.Common.{◌≡◌, ◌≢◌, ◌∙◌, ◌⊎◌, inl, inr, arith, ℕ, ◌≤◌, Bool, true, false, cond, List, [], ◌∷◌, Contains, Option, Some, None, IsSome, IsTrue, Global, is_some, length, map, not, refl, sym, ap, subst}
+use Rattle.std.proofs.Common.{◌≡◌, ◌≢◌, ◌∙◌, ◌⊎◌, inl, inr, arith, ℕ, ◌≤◌, Bool, true, false, cond, List, [], ◌∷◌, Contains, Option, Some, None, IsSome, IsTrue, Global, is_some, length, not, refl, sym, ap, subst}
 use Rattle.std.specs.Prelude.{String, slice_get, string_bytes}
 use Rattle.std.specs.Map.{lookup}
 use Rattle.std.specs.Borrow.{Bor}
@@ -10,10 +10,10 @@ use Rattle.std.proofs.lemmas.List.{length-map}
 use Rattle.std.proofs.lemmas.Option.{same_Some, slice_get-get_or, slice_get-map}
 use Rattle.std.proofs.lemmas.Slice.Eq.{bytes_eq-Decides}
 use Rattle.wac_model.specs.Text.{Text}
-use Rattle.wac_model.specs.ValueTree.{ValueTree}
 use Rattle.wac_component.specs.Collection.{Collection, InterfaceContent, ResourceContent, UseContent}
 use Rattle.wac_component.specs.Content.{named, use_content}
 use Rattle.wac_component.specs.Id.{Id}
+use Rattle.wac_component.specs.Implicit.{identifier}
 use Rattle.wac_component.specs.declared.interfaces.UsedType.{UsedType}
 use Rattle.wac_component.specs.declared.items.ItemKind.{ItemKind}
 use Rattle.wac_component.specs.declared.items.ItemKind.TheVariants.{«Type» as OfType}
@@ -27,20 +27,19 @@ use Rattle.wac_wit_syntax.specs.declared.tree.InterfaceItem.{InterfaceItem}
 use Rattle.wac_wit_syntax.specs.declared.tree.InterfaceItem.TheVariants as inside
 use Rattle.wac_wit_syntax.specs.declared.tree.Rename.{Rename}
 use Rattle.wac_wit_syntax.specs.declared.tree.TopItem.TheVariants as top
-use Rattle.wac_wit_syntax.specs.declared.tree.TypeDef.{TypeDef}
 use Rattle.wac_wit_syntax.specs.declared.tree.TypeDef.TheVariants as def
 use Rattle.wac_wit_syntax.specs.declared.tree.TypeExpr.{TypeExpr}
 use Rattle.wac_wit_syntax.specs.declared.tree.TypeExpr.TheVariants as ty
 use Rattle.wac_wit_syntax.specs.declared.tree.TypeItem.{TypeItem}
 use Rattle.wac_wit_syntax.specs.declared.tree.UseItem.{UseItem}
 use Rattle.wac_wit_validation.specs.Checking.{AreExportsOf, HasOrigin, HaveOrigins, IsInterfaceEntry, IsValidated, Knows, LeadsToFound, Offers, scope_syntax}
-use Rattle.wac_wit_validation.specs.Denoted.{Denoted, IsDefined, NamesType, Setting, a_record, a_resource, a_variant, alias, an_enum, another_name, defined, interface_setting, some_flags, used}
+use Rattle.wac_wit_validation.specs.Denoted.{Denoted, IsDefined, NamesType, Setting, a_record, a_resource, a_variant, alias, an_enum, another_name, defined, interface_setting, renamed_by, some_flags, used}
 use Rattle.wac_wit_validation.specs.OneMeaning.{GivesType, GivesUse}
-use Rattle.wac_wit_validation.specs.OriginClauses.{HasOwner, HasRoot, TellsItem, TellsName, TellsOrigins, TellsUsed, origin_at}
+use Rattle.wac_wit_validation.specs.OriginClauses.{HasOwner, HasRoot, TellsItem, TellsOrigins, TellsUsed, origin_at}
 use Rattle.wac_wit_validation.specs.Origins.{AreOwnersOf, AreUsesOf, ComesFrom, IsOriginOf, IsOwnName, IsOwnerOf, defined_here, named_here, named_so, placed_setting, use_at, used_from, used_through}
 use Rattle.wac_wit_validation.specs.Placed.{LeadsToInterface, PlacedInterface, placed_identifier}
 use Rattle.wac_wit_validation.specs.Reading.{IsTypeNamed, type_meaning}
-use Rattle.wac_wit_validation.specs.WitSources.{HasInterface, IsEnabled, IsScopeOf, WitSources, given_name, ident_text, interface_identifier, package_id}
+use Rattle.wac_wit_validation.specs.WitSources.{HasInterface, IsEnabled, IsScopeOf, ScopeSyntax, WitSources, given_name, ident_text, interface_identifier, package_id}
 use Rattle.wac_wit_validation.specs.WorldChecking.{IsFoundAs}
 use Rattle.wac_wit_validation.specs.declared.sources.ScopeItems.{ScopeItems}
 use Rattle.wac_wit_validation.specs.declared.validator.FoundInterface.{FoundInterface}
@@ -198,14 +197,21 @@ module _ (of : WitSources) (v : Validator) (f : FoundInterface) (i : PlacedInter
 -- ---- what is said of each name
 
 -- what is known of a setting and of what an entry says of its names
-record IsTold (v : Validator) (s : Setting) (us : List (Text × UseContent)) : Type 0 where
-  knows : Knows s.sources v
-  scope : IsScopeOf s.sources s.scope
-  items : (x : InterfaceItem) → Offers s x → TellsItem v s us x
+pub record IsTold (v : Validator) (s : Setting) (us : List (Text × UseContent)) : Type 0 where
+  pub knows : Knows s.sources v
+  pub scope : IsScopeOf s.sources s.scope
+  pub items : (x : InterfaceItem) → Offers s x → TellsItem v s us x
+
+-- what is noted of a name, by what that becomes
+abbrev use_as : Setting → List (Text × UseContent) → Text → Option UseContent
+use_as s us n = use_at us (renamed_by s.renames n)
+
+abbrev origin_as : Setting → List (Text × UseContent) → Text → Option Id
+origin_as s us n = origin_at us (renamed_by s.renames n)
 
 -- nothing is said of a name, and its type is defined there, or it is said where it comes from
 abbrev IsToldOf : Validator → Setting → List (Text × UseContent) → Text → Type 0
-IsToldOf v s us n = ((use_at us n ≡ None) × IsOwnName s n) ⊎ ((u : UseContent) × (use_at us n ≡ Some u) × HasOrigin v.types.now s n u)
+IsToldOf v s us n = ((use_as s us n ≡ None) × IsOwnName s n) ⊎ ((u : UseContent) × (use_as s us n ≡ Some u) × HasOrigin v.types.now s n u)
 
 module _ (v : Validator) (us : List (Text × UseContent)) where
   -- the same type in another way, where one interface is said
@@ -214,19 +220,19 @@ module _ (v : Validator) (us : List (Text × UseContent)) where
 
   told_own : (s : Setting) (n : Text) (t : TypeItem) → GivesType s n t → ((id : Ident) → t.def ≢ def.Alias (ty.Name id)) → IsTold v s us → IsToldOf v s us n
   told_own s n t gives isnt told =
-      let none = told_nothing us (ident_text t.name) ((told.items (inside.Type t) gives.among gives.there).own isnt) in
-      inl (subst (λ (k : Text). use_at us k ≡ None) gives.named none, defined_here t gives.among gives.there gives.named isnt)
+      let none = told_nothing us (renamed_by s.renames (ident_text t.name)) ((told.items (inside.Type t) gives.among gives.there).own isnt) in
+      inl (subst (λ (k : Text). use_as s us k ≡ None) gives.named none, defined_here t gives.among gives.there gives.named isnt)
 
   told_another : (s : Setting) (n : Text) (t : TypeItem) (id : Ident) → GivesType s n t → t.def ≡ def.Alias (ty.Name id) → IsToldOf v s us (ident_text id) → IsTold v s us → IsToldOf v s us n
   told_another s n t id gives is h told = by h
     where
-      same : origin_at us n ≡ origin_at us (ident_text id)
-      same = subst (λ (k : Text). origin_at us k ≡ origin_at us (ident_text id)) gives.named ((told.items (inside.Type t) gives.among gives.there).another id is)
+      same : origin_as s us n ≡ origin_as s us (ident_text id)
+      same = subst (λ (k : Text). origin_as s us k ≡ origin_as s us (ident_text id)) gives.named ((told.items (inside.Type t) gives.among gives.there).another id is)
 
       by : IsToldOf v s us (ident_text id) → IsToldOf v s us n
-      by (inl own) = inl (told_nothing us n (same ∙ ap (option_map (λ (u : UseContent). u.interface)) own.0), named_here t id gives.among gives.there gives.named is own.1)
+      by (inl own) = inl (told_nothing us (renamed_by s.renames n) (same ∙ ap (option_map (λ (u : UseContent). u.interface)) own.0), named_here t id gives.among gives.there gives.named is own.1)
       by (inr from) =
-          let here = told_use us n from.0.interface (same ∙ ap (option_map (λ (u : UseContent). u.interface)) from.1) in
+          let here = told_use us (renamed_by s.renames n) from.0.interface (same ∙ ap (option_map (λ (u : UseContent). u.interface)) from.1) in
           inr (here.0, here.1, moved s n (ident_text id) here.0 from.0 from.2 (named_so t id gives.among gives.there gives.named is from.2.from) here.2)
 
   told_used : (s : Setting) (n : Text) (u : UseItem) (r : Rename) (i : PlacedInterface) (m : Denoted) → GivesUse s n u r → LeadsToInterface s.sources s.scope u.path i → NamesType (placed_setting s.sources i) (ident_text r.name) m → IsTold v s us → IsToldOf v s us n
@@ -250,97 +256,102 @@ module _ (v : Validator) (us : List (Text × UseContent)) where
       there : NamesType (placed_setting s.sources j) (ident_text r.name) m
       there = subst (λ (k : PlacedInterface). NamesType (placed_setting s.sources k) (ident_text r.name) m) one names
 
-      said : origin_at us n ≡ Some (unwrap_or (origin_at t.entry.uses (ident_text r.name)) t.found.id)
-      said = subst (λ (k : Text). origin_at us k ≡ Some (unwrap_or (origin_at t.entry.uses (ident_text r.name)) t.found.id)) gives.named t.told
+      said : origin_as s us n ≡ Some (unwrap_or (origin_at t.entry.uses (ident_text r.name)) t.found.id)
+      said = subst (λ (k : Text). origin_as s us k ≡ Some (unwrap_or (origin_at t.entry.uses (ident_text r.name)) t.found.id)) gives.named t.told
 
       entry : IsInterfaceEntry s.sources v.types.now j t.entry
       entry = entry_found s.sources v t.found j found t.entry t.at
 
       by : (use_at t.entry.uses (ident_text r.name) ≡ None) ⊎ ((x : UseContent) × (use_at t.entry.uses (ident_text r.name) ≡ Some x)) → IsToldOf v s us n
       by (inl none) =
-          let here = told_use us n t.found.id (said ∙ ap (λ (o : Option UseContent). Some (unwrap_or (option_map (λ (x : UseContent). x.interface) o) t.found.id)) none) in
+          let here = told_use us (renamed_by s.renames n) t.found.id (said ∙ ap (λ (o : Option UseContent). Some (unwrap_or (option_map (λ (x : UseContent). x.interface) o) t.found.id)) none) in
           let own = own_if_none v.types.now (placed_setting s.sources j) t.entry.uses (ident_text r.name) m entry.uses none there in
           inr (here.0, here.1, record { interface = j; from = used_from u r gives.among gives.there gives.within gives.named to own; entry = t.entry; at = ap (λ (k : Id). slice_get v.types.now.interfaces k.index) here.2 ∙ t.at; is = entry })
       by (inr (x, at)) =
-          let here = told_use us n x.interface (said ∙ ap (λ (o : Option UseContent). Some (unwrap_or (option_map (λ (x : UseContent). x.interface) o) t.found.id)) at) in
+          let here = told_use us (renamed_by s.renames n) x.interface (said ∙ ap (λ (o : Option UseContent). Some (unwrap_or (option_map (λ (x : UseContent). x.interface) o) t.found.id)) at) in
           let o = origins_found s.sources v t.found j found t.entry t.at (ident_text r.name) x at in
           inr (here.0, here.1, record { interface = o.interface; from = used_through u r gives.among gives.there gives.within gives.named to o.from; entry = o.entry; at = ap (λ (k : Id). slice_get v.types.now.interfaces k.index) here.2 ∙ o.at; is = o.is })
+
+  told_by_use : (s : Setting) (n : Text) (u : UseItem) (r : Rename) → given_name r.name r.alias ≡ n → TellsUsed v s us u.path r → IsSome (use_as s us n)
+  told_by_use s n u r is t =
+      let here = told_use us (renamed_by s.renames n) _ (subst (λ (k : Text). origin_as s us k ≡ Some (unwrap_or (origin_at t.entry.uses (ident_text r.name)) t.found.id)) is t.told) in
+      some_is (use_as s us n) here.0 here.1
 
   told_of : (s : Setting) (n : Text) (m : Denoted) → NamesType s n m → IsTold v s us → IsToldOf v s us n
   told_of = by_name (λ s n. IsTold v s us → IsToldOf v s us n) told_own (λ s n t id gives is h told. told_another s n t id gives is (h told) told) (λ s n u r i m gives leads names h. told_used s n u r i m gives leads names)
 
+  -- what is said of a name of a type is where that comes from
+  pub origin_told : (s : Setting) (n : Text) (m : Denoted) (u : UseContent) → NamesType s n m → IsTold v s us → use_as s us n ≡ Some u → HasOrigin v.types.now s n u
+  origin_told s n m u names told at = by (told_of s n m names told)
+    where
+      by : IsToldOf v s us n → HasOrigin v.types.now s n u
+      by (inl own) = let both = sym at ∙ own.0 in absurd (cc)
+      by (inr from) = subst (HasOrigin v.types.now s n) (same_Some _ _ (sym from.1 ∙ at)) from.2
+
   -- something is said of each name that comes from elsewhere
-  told_all : (s : Setting) (n : Text) (i : PlacedInterface) → IsTold v s us → ComesFrom s n i → IsSome (use_at us n)
-  told_all s n i told (used_from u r among there within is leads own) =
-      let t = told.items (inside.Use u) among there r within in
-      let here = told_use us n _ (subst (λ (k : Text). origin_at us k ≡ Some (unwrap_or (origin_at t.entry.uses (ident_text r.name)) t.found.id)) is t.told) in
-      some_is (use_at us n) here.0 here.1
-  told_all s n i told (used_through u r among there within is leads from) =
-      let t = told.items (inside.Use u) among there r within in
-      let here = told_use us n _ (subst (λ (k : Text). origin_at us k ≡ Some (unwrap_or (origin_at t.entry.uses (ident_text r.name)) t.found.id)) is t.told) in
-      some_is (use_at us n) here.0 here.1
-  told_all s n i told (named_so t id among there is means from) =
-      let same = subst (λ (k : Text). origin_at us k ≡ origin_at us (ident_text id)) is ((told.items (inside.Type t) among there).another id means) in
-      let source = some_of (use_at us (ident_text id)) (told_all s (ident_text id) i told from) in
-      let here = told_use us n source.0.interface (same ∙ ap (option_map (λ (u : UseContent). u.interface)) source.1) in
-      some_is (use_at us n) here.0 here.1
+  pub told_all : (s : Setting) (n : Text) (i : PlacedInterface) → ((x : InterfaceItem) → Offers s x → TellsItem v s us x) → ComesFrom s n i → IsSome (use_as s us n)
+  told_all s n i items (used_from u r among there within is leads own) = told_by_use s n u r is (items (inside.Use u) among there r within)
+  told_all s n i items (used_through u r among there within is leads from) = told_by_use s n u r is (items (inside.Use u) among there r within)
+  told_all s n i items (named_so t id among there is means from) =
+      let same = subst (λ (k : Text). origin_as s us k ≡ origin_as s us (ident_text id)) is ((items (inside.Type t) among there).another id means) in
+      let source = some_of (use_as s us (ident_text id)) (told_all s (ident_text id) i items from) in
+      let here = told_use us (renamed_by s.renames n) source.0.interface (same ∙ ap (option_map (λ (u : UseContent). u.interface)) source.1) in
+      some_is (use_as s us n) here.0 here.1
 
 -- a type among exports is what its name stands for
 type_among : (s : Setting) (c : Collection) (es : List (Text × ItemKind)) (n : Text) (t : TypeOf) → AreExportsOf s c es → Contains es (n, OfType t) → IsTypeNamed s n c t
 type_among s c es n t exports among = exports.named among.0 (n, OfType t) among.1 (slice_get-get_or es among.0 (n, OfType t) among.1 ∙ ap (λ (e : Text × ItemKind). Some e) among.2)
 
--- ---- what is said of all names
+-- ---- where a type is defined
 
-module _ (v : Validator) (s : Setting) (e : InterfaceContent) (knows : Knows s.sources v) (scope : IsScopeOf s.sources s.scope) (exports : AreExportsOf s v.types.now e.exports) (tells : TellsOrigins v s e) where
-  told : IsTold v s e.uses
+-- the type that the entry of an interface has under the name that is noted
+module _ (c : Collection) (s : Setting) (n k : Text) (u : UseContent) (es : List (Text × ItemKind)) (o : HasOrigin c s n u) (root : HasRoot c es k u.interface (unwrap_or u.name k)) (m : Denoted) (meant : type_meaning c root.is ≡ Some m) where
+  abbrev there : Setting
+  there = placed_setting s.sources o.interface
+
+  same : o.entry ≡ root.entry
+  same = same_Some _ _ (sym o.at ∙ root.at)
+
+  pub root_identified : identifier c u.interface ≡ Some (placed_identifier o.interface)
+  root_identified = rw o.at o.is.identified
+
+  pub root_named : NamesType there (unwrap_or u.name k) m
+  root_named = type_among there c root.entry.exports (unwrap_or u.name k) root.of (subst (λ (x : InterfaceContent). AreExportsOf there c x.exports) same o.is.exports) root.among m (root.same ∙ meant)
+
+  pub root_own : IsOwnName there (unwrap_or u.name k)
+  root_own = own_if_none c there root.entry.uses (unwrap_or u.name k) m (subst (λ (x : InterfaceContent). AreUsesOf c there x.uses) same o.is.uses) root.own root_named
+
+-- ---- what is said of all names of an interface
+
+module _ (of : WitSources) (w : ScopeSyntax) (is : List InterfaceItem) (v : Validator) (e : InterfaceContent) (knows : Knows of v) (scope : IsScopeOf of w)
+    (exports : AreExportsOf (interface_setting of w is) v.types.now e.exports) (tells : TellsOrigins v (interface_setting of w is) e) where
+  abbrev inner : Setting
+  inner = interface_setting of w is
+
+  told : IsTold v inner e.uses
   told = record { knows = knows; scope = scope; items = tells.items }
 
   -- what a name stands for of which something is said
-  meaning_of : (n : Text) (u : UseContent) (root : HasRoot v.types.now e.exports n u.interface (unwrap_or u.name n)) → (m : Denoted) × (type_meaning v.types.now root.is ≡ Some m) × NamesType s n m
-  meaning_of n u root = let m = some_of (type_meaning v.types.now root.is) root.meant in (m.0, m.1, type_among s v.types.now e.exports n root.is exports root.here m.0 m.1)
+  meaning_of : (n : Text) (u : UseContent) (root : HasRoot v.types.now e.exports n u.interface (unwrap_or u.name n)) → (m : Denoted) × (type_meaning v.types.now root.is ≡ Some m) × NamesType inner n m
+  meaning_of n u root = let m = some_of (type_meaning v.types.now root.is) root.meant in (m.0, m.1, type_among inner v.types.now e.exports n root.is exports root.here m.0 m.1)
 
-  pub have_origins : HaveOrigins v.types.now s e.uses
-  have_origins n u at = by (told_of v e.uses s n m.0 m.2 told)
-    where
-      m : (m : Denoted) × (type_meaning v.types.now (tells.roots n u at).is ≡ Some m) × NamesType s n m
-      m = meaning_of n u (tells.roots n u at)
+  pub have_origins : HaveOrigins v.types.now inner e.uses
+  have_origins n u at = let m = meaning_of n u (tells.roots n u at) in origin_told v e.uses inner n m.0 u m.2 told at
 
-      by : IsToldOf v s e.uses n → HasOrigin v.types.now s n u
-      by (inl own) = let both = sym at ∙ own.0 in absurd (cc)
-      by (inr from) = subst (λ (x : UseContent). HasOrigin v.types.now s n x) (same_Some _ _ (sym from.1 ∙ at)) from.2
-
-  module _ (one : (n : Text) (m k : Denoted) → NamesType s n m → NamesType s n k → m ≡ k) where
-    is_origin : (n : Text) (u : UseContent) → HasOrigin v.types.now s n u → HasRoot v.types.now e.exports n u.interface (unwrap_or u.name n) → IsOriginOf v.types.now s n u
-    is_origin n u o root = record {
+  module _ (one : (n : Text) (m k : Denoted) → NamesType inner n m → NamesType inner n k → m ≡ k) where
+    is_origin : (n : Text) (u : UseContent) → HasOrigin v.types.now inner n u → HasRoot v.types.now e.exports n u.interface (unwrap_or u.name n) → IsOriginOf v.types.now inner n u
+    is_origin n u o root = let m = meaning_of n u root in record {
       interface = o.interface;
       from = o.from;
-      identified = rw o.at o.is.identified;
-      own = own_if_none v.types.now there entry.uses (unwrap_or u.name n) m.0 uses root.own named_there;
-      means = λ k names. subst (NamesType there (unwrap_or u.name n)) (one n m.0 k m.2 names) named_there;
+      identified = root_identified v.types.now inner n n u e.exports o root m.0 m.1;
+      own = root_own v.types.now inner n n u e.exports o root m.0 m.1;
+      means = λ k names. subst (NamesType (placed_setting of o.interface) (unwrap_or u.name n)) (one n m.0 k m.2 names) (root_named v.types.now inner n n u e.exports o root m.0 m.1);
     }
-      where
-        there : Setting
-        there = placed_setting s.sources o.interface
 
-        entry : InterfaceContent
-        entry = root.entry
-
-        same : o.entry ≡ entry
-        same = same_Some _ _ (sym o.at ∙ root.at)
-
-        uses : AreUsesOf v.types.now there entry.uses
-        uses = subst (λ (x : InterfaceContent). AreUsesOf v.types.now there x.uses) same o.is.uses
-
-        m : (m : Denoted) × (type_meaning v.types.now root.is ≡ Some m) × NamesType s n m
-        m = meaning_of n u root
-
-        named_there : NamesType there (unwrap_or u.name n) m.0
-        named_there = type_among there v.types.now entry.exports (unwrap_or u.name n) root.of (subst (λ (x : InterfaceContent). AreExportsOf there v.types.now x.exports) same o.is.exports) root.among m.0 (root.same ∙ m.1)
-
-    pub are_uses : AreUsesOf v.types.now s e.uses
+    pub are_uses : AreUsesOf v.types.now inner e.uses
     are_uses = record {
       each = λ n u at. is_origin n u (have_origins n u at) (tells.roots n u at);
-      all = λ n i from. told_all v e.uses s n i told from;
+      all = λ n i from. told_all v e.uses inner n i tells.items from;
     }
 
 -- an interface whose exports are those of the text, and of which it is said where they come from
@@ -356,8 +367,8 @@ validated of v f w d e knows at_scope at_item there stands at identified tree ex
   stands = stands;
   identified = λ x h. subst (λ (y : InterfaceContent). y.id ≡ Some (interface_identifier (package_id w.package.now) (ident_text d.name))) (same x h) identified;
   exports = λ x h. subst (λ (y : InterfaceContent). AreExportsOf s v.types.now y.exports) (same x h) exports;
-  uses = λ x h. subst (λ (y : InterfaceContent). AreUsesOf v.types.now s y.uses) (same x h) (are_uses v s e knows is_scope exports tells (knows.one_meaning (scope_syntax w) (ident_text d.name) d has));
-  origins = λ x h. subst (λ (y : InterfaceContent). HaveOrigins v.types.now s y.uses) (same x h) (have_origins v s e knows is_scope exports tells);
+  uses = λ x h. subst (λ (y : InterfaceContent). AreUsesOf v.types.now s y.uses) (same x h) (are_uses of (scope_syntax w) d.items.items v e knows is_scope exports tells (knows.one_meaning (scope_syntax w) (ident_text d.name) d has));
+  origins = λ x h. subst (λ (y : InterfaceContent). HaveOrigins v.types.now s y.uses) (same x h) (have_origins of (scope_syntax w) d.items.items v e knows is_scope exports tells);
   owners = λ x h. subst (λ (y : InterfaceContent). AreOwnersOf v.types.now y.uses y.exports) (same x h) tells.owners;
   tree = tree_of_exports of (scope_syntax w) d.items.items v.types.now f.id e tree exports;
 }

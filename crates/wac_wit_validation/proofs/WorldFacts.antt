@@ -225,6 +225,8 @@ module _ (of : WitSources) (v x : Validator) (scopes : v.scopes.items ≡ x.scop
       stands = rw (← types) h.stands;
       sides = λ content at. AreWorldSides-kept h.written content f.marks (h.sides content (rw types at));
       layers = AreLayersOf-kept h.written f.layers.items h.layers;
+      uses = rw (← types) h.uses;
+      owners = rw (← types) h.owners;
       tree = rw (← types) h.tree;
     }
 

@@ -1,7 +1,7 @@
 -- Where all is marked, and all that is needed is there, a world imports and exports what its text says, and no more.
 use Rattle.std.proofs.Common.{◌≡◌, ◌≢◌, inl, inr, ℕ, List, [], ◌∷◌, Contains, Some, arith, refl, sym, ap, subst, ◌∙◌, get_or, ◌<◌}
 use Rattle.std.specs.Prelude.{slice_get}
-use Rattle.std.proofs.lemmas.Option.{same_Some, slice_get-get_or}
+use Rattle.std.proofs.lemmas.Option.{slice_get-get_or}
 use Rattle.std.specs.Borrow.{Bor}
 use Rattle.wac_model.specs.ItemTree.{ItemTree, func, item, leaf}
 use Rattle.wac_model.specs.Text.{Text}
@@ -33,21 +33,18 @@ use Rattle.wac_wit_validation.specs.Denoted.{Denoted, NamesType, defined, rename
 use Rattle.wac_wit_validation.specs.Functions.{HasMethod, of_resource}
 use Rattle.wac_wit_validation.specs.Placed.{PlacedInterface, PlacedWorld, placed_identifier}
 use Rattle.wac_wit_validation.specs.WitSources.{IsEnabled, WitSources}
-use Rattle.wac_wit_validation.specs.WorldChecking.{AreInterfacesThere, AreItemsOf, AreLayersOf, AreMarksOf, AreNamingItems, AreWorldSides, ExportNeeds, GivesNames, HasAllNeeds, HasNamed, HasOwnName, ImportNeeds, IsEntryOf, IsImportedOrExported, IsItemRepresented, IsMarkedAs, IsNamedThere, IsPathThere, IsTextAt, IsValidatedWorld, IsWorldAt, KnowsWorlds, OffersItem, StaysAs, text_content}
+use Rattle.wac_wit_validation.specs.WorldChecking.{AreInterfacesThere, AreItemsOf, AreLayersOf, AreMarksOf, AreNamingItems, ExportNeeds, GivesNames, HasAllNeeds, HasNamed, HasOwnName, ImportNeeds, IsEntryOf, IsImportedOrExported, IsItemRepresented, IsMarkedAs, IsNamedThere, IsPathThere, KnowsWorlds, OffersItem}
 use Rattle.wac_wit_validation.specs.WorldClauses.{CoversLayer, imported_name}
 use Rattle.wac_wit_validation.specs.Worlds.{AreWorldExterns, BringsIn, ExportsInterface, HasExternInterface, HasExternOf, ImportsInterface, IsUsedByExport, IsWorldTree, SaysExtern, SaysInclude, SaysInterface, by_include, extern_item, extern_func, extern_inline, extern_interface, extern_method, extern_type, imported, itself, used_by_export, used_by_import, used_by_inline, used_by_interface, used_by_world, used_inside, types_of_world, uses_of_world, world_setting}
 use Rattle.wac_wit_validation.specs.declared.layers.Layer.{Layer}
 use Rattle.wac_wit_validation.specs.declared.marks.WorldMarks.{WorldMarks}
-use Rattle.wac_wit_validation.specs.declared.validator.FoundWorld.{FoundWorld}
 use Rattle.wac_wit_validation.specs.declared.marks.ExternMark.{ExternMark}
 use Rattle.wac_wit_validation.specs.declared.marks.ExternMark.TheVariants.{Unmarked, Found}
 use Rattle.wac_wit_validation.specs.declared.marks.ExternMarks.{ExternMarks}
-use Rattle.wac_wit_validation.specs.declared.validator.ItemPlace.{ItemPlace}
 use Rattle.wac_wit_validation.specs.declared.validator.Validator.{Validator}
-use Rattle.wac_wit_validation.specs.declared.validator.WorldText.{WorldText}
 use Rattle.wac_wit_validation.proofs.FoundFacts.{item_of, item_there}
 use Rattle.wac_wit_validation.proofs.MarkFacts.{has_item_at}
-use Rattle.wac_wit_validation.proofs.WorldFacts.{AreLayersOf-kept, IsPlacedAt-one, IsTextAt-kept, extern_marked}
+use Rattle.wac_wit_validation.proofs.WorldFacts.{IsPlacedAt-one, extern_marked}
 
 -- a `use` of a world is one of its items
 pub use_of_world : (u : UseItem) (is : List WorldItem) → Contains (uses_of_world is) u → Contains is (of_world.Use u)
@@ -93,7 +90,7 @@ items_in_setting of rss w (of_world.Export e) among = tt
 
 -- ---- the types of a world that comes in
 
-no_func : (c : Collection) (g : FuncTree) (t : TypeOf) → leaf item (func g) ≡ item_tree c (OfType t) → ⊥
+pub no_func : (c : Collection) (g : FuncTree) (t : TypeOf) → leaf item (func g) ≡ item_tree c (OfType t) → ⊥
 no_func c g (TypeValue v) e = cc
 no_func c g (TypeResource r) e = cc
 no_func c g (TypeFunc f) e = cc
@@ -299,22 +296,3 @@ tree_of_world of v w id e entry imports exports = record {
   are_imports = AreWorldExterns-items of v w Import e.imports imports;
   are_exports = AreWorldExterns-items of v w Export e.exports exports;
 }
-
--- a world both sides of whose entry are as its text says
-pub world_validated : (of : WitSources) (v : Validator) (f : FoundWorld) (e : WorldContent) (w : PlacedWorld) → IsWorldAt of v f.place w → IsEntryOf v.types.now f.id e → AreWorldSides of v w e f.marks → AreLayersOf of v w f.layers.items → IsValidatedWorld of v f
-world_validated of v f e w at entry sides layers = record {
-  written = w;
-  at = at;
-  stands = entry.stands;
-  sides = λ content found. subst (λ (d : WorldContent). AreWorldSides of v w d f.marks) (same_Some _ _ (sym entry.at ∙ found)) sides;
-  layers = layers;
-  tree = tree_of_world of v w f.id e entry sides.imports.items sides.exports.items;
-}
-
--- so it is, where that is known of what it was before other things became known
-pub world_added : (of : WitSources) (v x : Validator) → StaysAs v x → (f : FoundWorld) (text : WorldText) (w : PlacedWorld) → IsTextAt v text of w → text.place ≡ f.place → IsEntryOf v.types.now f.id (text_content text) → AreLayersOf of v w f.layers.items
-    → (IsTextAt x text of w → AreLayersOf of x w f.layers.items → AreWorldSides of x w (text_content text) f.marks) → IsValidatedWorld of x f
-world_added of v x stays f text w at same entry layers sides =
-    let now = IsTextAt-kept v x stays text of w at in
-    let kept = AreLayersOf-kept of v x (sym stays.scopes) w f.layers.items layers in
-    world_validated of x f (text_content text) w (subst (λ (p : ItemPlace). IsWorldAt of x p w) same now.written) (subst (λ (c : Collection). IsEntryOf c f.id (text_content text)) (sym stays.types) entry) (sides now kept) kept

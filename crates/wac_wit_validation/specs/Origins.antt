@@ -1,4 +1,4 @@
--- Where the types of an interface come from (WIT.md, "Item: `use`"), and what an entry says of that.
+-- Where the types of interfaces and worlds come from (WIT.md, "Item: `use`"), and what an entry says of that.
 use Rattle.std.specs.Prelude.{◌≡◌, ◌≢◌, List, Option, Contains, None, Some, IsSome, slice_get}
 use Rattle.std.specs.Map.{lookup}
 use Rattle.std.specs.Option.{option_map, unwrap_or}
@@ -16,9 +16,10 @@ use Rattle.wac_wit_syntax.specs.declared.tree.TypeDef.TheVariants as def
 use Rattle.wac_wit_syntax.specs.declared.tree.TypeExpr.TheVariants as ty
 use Rattle.wac_wit_syntax.specs.declared.tree.TypeItem.{TypeItem}
 use Rattle.wac_wit_syntax.specs.declared.tree.UseItem.{UseItem}
-use Rattle.wac_wit_validation.specs.Denoted.{Denoted, NamesType, Setting, interface_setting}
-use Rattle.wac_wit_validation.specs.Placed.{LeadsToInterface, PlacedInterface, placed_identifier}
+use Rattle.wac_wit_validation.specs.Denoted.{Denoted, NamesType, Setting, interface_setting, renamed_by}
+use Rattle.wac_wit_validation.specs.Placed.{LeadsToInterface, PlacedInterface, PlacedWorld, placed_identifier}
 use Rattle.wac_wit_validation.specs.WitSources.{IsEnabled, WitSources, given_name, ident_text}
+use Rattle.wac_wit_validation.specs.Worlds.{BringsIn, world_setting}
 
 abbrev pub placed_setting : WitSources → PlacedInterface → Setting
 placed_setting of i = interface_setting of i.scope i.decl.items.items
@@ -61,6 +62,27 @@ pub record AreUsesOf (c : Collection) (s : Setting) (us : List (Text × UseConte
 pub record IsOwnerOf (us : List (Text × UseContent)) (n : Text) (r : ResourceContent) : Type 0 where
   pub owner : option_map (λ a. a.owner) r.alias ≡ option_map (λ a. option_map (λ (u : UseContent). u.interface) (use_at us n)) r.alias
   pub none : r.alias ≡ None → use_at us n ≡ None
+
+-- what is noted of a name of a type that a world imports: that is what a name becomes of a type of a world that comes into it, and
+-- that name comes from the interface that defines its type, which has there a name that is noted, or else this one
+pub record IsWorldOriginOf (of : WitSources) (c : Collection) (w : PlacedWorld) (k : Text) (u : UseContent) : Type 0 where
+  pub renames : List (List Rename)
+  pub inside : PlacedWorld
+  pub brings : BringsIn of w renames inside
+  pub name : Text
+  pub becomes : renamed_by renames name ≡ k
+  pub interface : PlacedInterface
+  pub from : ComesFrom (world_setting of renames inside) name interface
+  pub identified : identifier c u.interface ≡ Some (placed_identifier interface)
+  pub own : IsOwnName (placed_setting of interface) (unwrap_or u.name k)
+  pub denoted : Denoted
+  pub here : NamesType (world_setting of renames inside) name denoted
+  pub there : NamesType (placed_setting of interface) (unwrap_or u.name k) denoted
+
+-- what a world notes is so, and nothing that comes from elsewhere is left out
+pub record AreWorldUsesOf (of : WitSources) (c : Collection) (w : PlacedWorld) (us : List (Text × UseContent)) : Type 0 where
+  pub each : (k : Text) (u : UseContent) → use_at us k ≡ Some u → IsWorldOriginOf of c w k u
+  pub all : (rss : List (List Rename)) (x : PlacedWorld) → BringsIn of w rss x → (n : Text) (i : PlacedInterface) → ComesFrom (world_setting of rss x) n i → IsSome (use_at us (renamed_by rss n))
 
 abbrev pub AreOwnersOf : Collection → List (Text × UseContent) → List (Text × ItemKind) → Type 0
 AreOwnersOf c us es = (n : Text) (id : Id) → Contains es (n, OfType (TypeResource id)) → (r : ResourceContent) → slice_get c.resources id.index ≡ Some r → IsOwnerOf us n r

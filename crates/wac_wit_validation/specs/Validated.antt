@@ -9,7 +9,7 @@ use Rattle.wac_component.specs.declared.items.ItemKind.TheVariants.{Component, I
 use Rattle.wac_wit_syntax.specs.declared.tree.InterfaceDecl.{InterfaceDecl}
 use Rattle.wac_wit_validation.specs.Denoted.{interface_setting}
 use Rattle.wac_wit_validation.specs.Interfaces.{IsInterfaceTree}
-use Rattle.wac_wit_validation.specs.Origins.{AreOwnersOf, AreUsesOf}
+use Rattle.wac_wit_validation.specs.Origins.{AreOwnersOf, AreUsesOf, AreWorldUsesOf}
 use Rattle.wac_wit_validation.specs.Placed.{HasWorld, PlacedWorld}
 use Rattle.wac_wit_validation.specs.Worlds.{IsWorldTree}
 use Rattle.wac_wit_validation.specs.WitSources.{HasInterface, PackageId, ScopeSyntax, WitSources, interface_identifier}
@@ -38,11 +38,13 @@ pub record IsWorldNamed (of : WitSources) («package» : Text) (version : Option
   pub of_package : package_text w.scope.package ≡ «package»
   pub of_version : w.scope.package.version ≡ version
 
--- the entry is that of the world of this name, in a package of this name and version: it has the world's identifier, and its
--- tree is what the world's text denotes
+-- the entry is that of the world of this name, in a package of this name and version: it has the world's identifier, its tree
+-- is what the world's text denotes, and it says of the types that it imports where they come from
 pub record IsWorldOf (of : WitSources) (c : Collection) («package» : Text) (version : Option Text) (name : Text) (id : Id) : Type 0 where
   pub written : PlacedWorld
   pub is : IsWorldNamed of «package» version name written
   pub stands : Stands c (world_key id)
   pub identified : (content : WorldContent) → slice_get c.worlds id.index ≡ Some content → content.id ≡ Some (interface_identifier written.scope.package name)
   pub tree : IsWorldTree of written (item_tree c (Component id))
+  pub uses : (content : WorldContent) → slice_get c.worlds id.index ≡ Some content → AreWorldUsesOf of c written content.uses
+  pub owners : (content : WorldContent) → slice_get c.worlds id.index ≡ Some content → AreOwnersOf c content.uses content.imports

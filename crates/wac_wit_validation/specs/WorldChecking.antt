@@ -26,6 +26,7 @@ use Rattle.wac_wit_validation.specs.Checking.{HasItem, IsRepresented, IsValidate
 use Rattle.wac_wit_validation.specs.Denoted.{Denoted, NamesType, Setting, renamed_by, uses_in}
 use Rattle.wac_wit_validation.specs.Functions.{HasMethod}
 use Rattle.wac_wit_syntax.specs.declared.tree.Rename.{Rename}
+use Rattle.wac_wit_validation.specs.Origins.{AreOwnersOf, AreWorldUsesOf}
 use Rattle.wac_wit_validation.specs.Placed.{LeadsToInterface, LeadsToWorld, PlacedInterface, PlacedWorld, placed_identifier}
 use Rattle.wac_wit_validation.specs.Reading.{AreNamesBy, Renames, StandForTypes, IsComposed}
 use Rattle.wac_wit_validation.specs.WitSources.{IsEnabled, IsScopeOf, ScopeSyntax, WitSources, ident_text}
@@ -165,6 +166,8 @@ pub record IsValidatedWorld (of : WitSources) (v : Validator) (f : FoundWorld) :
   pub stands : Stands v.types.now (world_key f.id)
   pub sides : (content : WorldContent) → slice_get v.types.now.worlds f.id.index ≡ Some content → AreWorldSides of v written content f.marks
   pub layers : AreLayersOf of v written f.layers.items
+  pub uses : (content : WorldContent) → slice_get v.types.now.worlds f.id.index ≡ Some content → AreWorldUsesOf of v.types.now written content.uses
+  pub owners : (content : WorldContent) → slice_get v.types.now.worlds f.id.index ≡ Some content → AreOwnersOf v.types.now content.uses content.imports
   pub tree : IsWorldTree of written (item_tree v.types.now (Component f.id))
 
 -- what is known of worlds, and of interfaces, is so of what is read

@@ -82,10 +82,7 @@ impl<'n> NamedTypes<'n> {
         'n: 'm,
         ensures { IfSome result (λ i. name_by self.now.new_names (ident_text name.now) ≡ Some (ident_text i.now)) }
     {
-        match self.new_names {
-            Some(names) => names.get(&name.name),
-            None => Some(name),
-        }
+        named_by(self.new_names, name)
     }
 
     /// The name under which a type, or a function of a resource, is imported. That of a function
@@ -127,6 +124,19 @@ impl<'n> NamedTypes<'n> {
             return None;
         }
         Some(&self.types[*id])
+    }
+}
+
+/// What a name becomes, or that name where none becomes another.
+pub(crate) fn named_by<'m>(
+    new_names: Option<&'m NewNames<'m>>,
+    name: &'m Ident,
+) -> Option<&'m Ident>
+    ensures { IfSome result (λ i. name_by new_names.entry (ident_text name.now) ≡ Some (ident_text i.now)) }
+{
+    match new_names {
+        Some(names) => names.get(&name.name),
+        None => Some(name),
     }
 }
 

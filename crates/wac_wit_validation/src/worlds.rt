@@ -53,6 +53,9 @@ impl<'v> Validator<'v> {
         let Some(marks) = self.world_marks(&text, &layers)? else {
             return Ok(false);
         };
+        if !self.tells_world(text.entry, &layers)? {
+            return Ok(false);
+        }
         let found = FoundWorld {
             place,
             id,

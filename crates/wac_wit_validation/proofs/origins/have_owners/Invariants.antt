@@ -4,4 +4,4 @@ use Rattle.wac_wit_validation.proofs.MarkFacts.{AllBelow}
 use Rattle.wac_wit_validation.proofs.origins.have_owners.Given as goal
 
 abbrev pub invariant-loop-place : goal.invariant-loop-place
-invariant-loop-place l = AllBelow (λ e. HasOwner l.types (named use_content l.entry.uses.entries) e.0 e.1) (named (λ k. k) l.entry.exports.entries) l.place
+invariant-loop-place l = AllBelow (λ e. HasOwner l.types (named use_content l.uses.entries) e.0 e.1) (named (λ k. k) l.items.entries) l.place

@@ -4,4 +4,4 @@ use Rattle.wac_wit_validation.proofs.MarkFacts.{AllBelow}
 use Rattle.wac_wit_validation.proofs.origins.have_roots.Given as goal
 
 abbrev pub invariant-loop-place : goal.invariant-loop-place
-invariant-loop-place l = AllBelow (λ e. HasUseRoot l.types (named (λ k. k) l.entry.exports.entries) e.0 e.1) (named use_content l.entry.uses.entries) l.place
+invariant-loop-place l = AllBelow (λ e. HasUseRoot l.types (named (λ k. k) l.items.entries) e.0 e.1) (named use_content l.uses.entries) l.place

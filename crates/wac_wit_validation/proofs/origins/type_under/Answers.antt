@@ -1,4 +1,4 @@
-use Rattle.std.proofs.Common.{◌∙◌, Some, subst, ap}
+use Rattle.std.proofs.Common.{◌∙◌, Some, ap}
 use Rattle.wac_component.specs.declared.items.ItemKind.{ItemKind}
 use Rattle.wac_wit_validation.proofs.OriginFacts.{found_entry, got}
 use Rattle.wac_wit_validation.proofs.origins.type_under.Goals as goal

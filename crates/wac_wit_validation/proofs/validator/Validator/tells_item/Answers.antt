@@ -4,7 +4,7 @@ pub returns-in-Use : goal.returns-in-Use
 returns-in-Use c = rw c.in-Use.is c.tells_use.ensures
 
 pub returns-in-Type : goal.returns-in-Type
-returns-in-Type c = λ is s at. rw c.in-Type.is (c.tells_typedef.ensures is s.sources at.knows)
+returns-in-Type c = λ is s at renames. rw c.in-Type.is (λ there. c.tells_typedef.ensures is s.sources at.knows there s.renames renames)
 
 pub returns-in-Func : goal.returns-in-Func
-returns-in-Func c = λ is s at. rw c.in-Func.is tt
+returns-in-Func c = λ is s at renames. rw c.in-Func.is tt

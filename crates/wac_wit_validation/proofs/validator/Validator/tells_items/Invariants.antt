@@ -1,7 +1,6 @@
-use Rattle.wac_component.specs.Content.{named, use_content}
 use Rattle.wac_wit_validation.specs.OriginClauses.{TellsItemAt}
 use Rattle.wac_wit_validation.proofs.MarkFacts.{AllBelow}
 use Rattle.wac_wit_validation.proofs.validator.Validator.tells_items.Given as goal
 
 abbrev pub invariant-loop-item : goal.invariant-loop-item
-invariant-loop-item l = AllBelow (TellsItemAt l.self l.scope (named use_content l.uses.entries)) l.items l.item-index
+invariant-loop-item l = AllBelow (TellsItemAt l.self l.scope l.noted) l.items l.item-index

@@ -11,7 +11,7 @@ returns c = λ is of knows w at.
     let s : Setting = interface_setting of (scope_syntax w) items in
     let setting : IsSettingAt c.args.self.now c.args.scope s = record { knows = knows; at = λ x h. ap scope_syntax (same_Some w x (sym at ∙ h)) } in
     record {
-      items = λ x offered. c.in_ok-tells_items.ensures c.if-not-branch.false x (offered_items of (scope_syntax w) items x offered) s setting;
+      items = λ x offered. c.in_ok-tells_items.ensures c.if-not-branch.false x (offered_items of (scope_syntax w) items x offered) s setting (λ n m is. same_Some n m is);
       roots = c.if-not-have_roots.ensures refl;
       owners = c.have_owners.ensures is;
     }

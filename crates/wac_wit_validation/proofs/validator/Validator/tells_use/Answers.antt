@@ -7,7 +7,7 @@ use Rattle.wac_wit_validation.proofs.NameFacts.{some_told}
 use Rattle.wac_wit_validation.proofs.validator.Validator.tells_use.Goals as goal
 
 pub returns-in-Some : goal.returns-in-Some
-returns-in-Some c = λ is s at there r within.
+returns-in-Some c = λ is s at renames there r within.
     let v = c.args.self.now in
     let path = c.args.item.now.path in
     let from = c.in-Some.from in
@@ -17,5 +17,5 @@ returns-in-Some c = λ is s at there r within.
       leads = some_told c.in_ok-from.field-0 from (λ (f : FoundInterface). (k : Setting) → IsSettingAt v c.args.scope k → LeadsToFound v k path f) c.in-Some.is c.in_ok-from.ensures s at;
       entry = told.0;
       at = told.1;
-      told = told.2;
+      told = told.2 s.renames renames;
     }
