@@ -58,7 +58,7 @@ pub(crate) fn fits_target(
     }
 }
 
-/// Refuses a target that doesn't import each interface that it uses, which no text leads to: so
+/// Refuses a target that doesn't import each interface that it uses, as the reader's worlds do: so
 /// components of a world run in it as the trees of both say.
 pub(crate) fn check_imports_used(
     alloc: Global,
