@@ -51,12 +51,12 @@ not_lt Greater e = refl
 pub le_from_not_lt : (v w : Parts) → is_lt (version_cmp v w) ≡ false → is_le (version_cmp w v) ≡ true
 le_from_not_lt v w e = ap is_le (version_total.antisymm w v) ∙ not_lt (version_cmp v w) e
 
-lt_le : (r : Ordering) → is_lt r ≡ true → is_le r ≡ true
+pub lt_le : (r : Ordering) → is_lt r ≡ true → is_le r ≡ true
 lt_le Less e = refl
 lt_le Equal e = refl
 lt_le Greater e = cc e
 
-le_trans : (u v w : Parts) → is_le (version_cmp u v) ≡ true → is_le (version_cmp v w) ≡ true → is_le (version_cmp u w) ≡ true
+pub le_trans : (u v w : Parts) → is_le (version_cmp u v) ≡ true → is_le (version_cmp v w) ≡ true → is_le (version_cmp u w) ≡ true
 le_trans u v w p q = step (version_cmp u v) (version_cmp v w) refl refl p q where
   step : (r s : Ordering) → version_cmp u v ≡ r → version_cmp v w ≡ s → is_le r ≡ true → is_le s ≡ true → is_le (version_cmp u w) ≡ true
   step Less Less a b p q = ap is_le (version_total.trans u v w a b)

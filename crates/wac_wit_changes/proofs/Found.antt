@@ -17,7 +17,7 @@ use Rattle.wac_names.specs.Pairs.{HasText, IsFound, IsGreatest, NoneCompatible, 
 use Rattle.wac_names.specs.Reading.{IsNoVersionText, IsVersionText}
 use Rattle.wac_names.specs.Track.{HasNoAt, IsKeyText, IsTracked, version_cmp}
 use Rattle.wac_names.proofs.Cuts.{no_at, no_key, version_after, versioned_at}
-use Rattle.wac_names.proofs.Standing.{le_from_not_lt, version_total}
+use Rattle.wac_names.proofs.Standing.{le_from_not_lt, le_trans, lt_le, version_total}
 use Rattle.wac_names.proofs.Tracks.{parts_same, tracked_same}
 
 -- ---- the track of a name
@@ -97,24 +97,6 @@ track_of name = by (cut name)
 
 -- ---- the greatest version on a track
 
-le-trans : (u v w : Parts) → is_le (version_cmp u v) ≡ true → is_le (version_cmp v w) ≡ true → is_le (version_cmp u w) ≡ true
-le-trans u v w p q = step (version_cmp u v) (version_cmp v w) refl refl p q where
-  step : (r s : Ordering) → version_cmp u v ≡ r → version_cmp v w ≡ s → is_le r ≡ true → is_le s ≡ true → is_le (version_cmp u w) ≡ true
-  step Less Less a b p q = ap is_le (version_total.trans u v w a b)
-  step Less Equal a b p q =
-      let back : version_cmp w v ≡ Equal = version_total.antisymm w v ∙ ap ordering_reverse b in
-      let flip : version_cmp w u ≡ version_cmp v u = version_total.congr w v u back in
-      let less : version_cmp u w ≡ Less = version_total.antisymm u w ∙ ap ordering_reverse flip ∙ sym (version_total.antisymm u v) ∙ a in
-      ap is_le less
-  step Less Greater a b p q = cc q
-  step Equal s a b p q = ap is_le (version_total.congr u v w a ∙ b) ∙ q
-  step Greater s a b p q = cc p
-
-lt-le : (r : Ordering) → is_lt r ≡ true → is_le r ≡ true
-lt-le Less e = refl
-lt-le Equal e = refl
-lt-le Greater e = cc e
-
 self-equal : (r : Ordering) → r ≡ ordering_reverse r → is_le r ≡ true
 self-equal Less e = refl
 self-equal Equal e = refl
@@ -167,7 +149,7 @@ module _ {V : Type 0} where
       met : Leads ps key → Leads (p ∷ ps) key
       met (no_lead none) = first_leads (λ n u h t. absurd (none n u h t))
       met (a_lead text v there on greatest) = elim (cases_Bool (is_lt (version_cmp v w))) [
-        | inl lt ↦ first_leads (λ n u h t. le-trans u v w (greatest n u h t) (lt-le (version_cmp v w) lt))
+        | inl lt ↦ first_leads (λ n u h t. le_trans u v w (greatest n u h t) (lt_le (version_cmp v w) lt))
         | inr ge ↦ a_lead text v (has-later p ps text there) on (λ n u h t. elim (has-first p ps n h) [
           | inl e ↦ subst (λ (x : Parts). is_le (version_cmp x v) ≡ true) (sym (own-version n u e t)) (le_from_not_lt v w ge)
           | inr g ↦ greatest n u g t
