@@ -7,7 +7,7 @@ use Rattle.wac_component.specs.Collection.{Collection}
 use Rattle.wac_wit.specs.declared.packages.WitPackage.{WitPackage}
 use Rattle.wac_wit_changes.specs.Comparing.{IsCounterpart, IsReportOfBoth, IsReportOn}
 use Rattle.wac_wit_changes.specs.Sides.{olds_of}
-use Rattle.wac_wit_changes.specs.declared.packages.Move.{Move}
+use Rattle.wac_wit_changes.specs.declared.moves.Move.{Move}
 use Rattle.wac_wit_changes.specs.declared.report.PackageReport.{PackageReport}
 use Rattle.wac_wit_changes.proofs.Pairwise.{AllZip-one_more}
 

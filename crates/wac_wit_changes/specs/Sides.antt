@@ -12,7 +12,7 @@ use Rattle.wac_wit.specs.declared.packages.WitPackage.{WitPackage}
 use Rattle.wac_wit_changes.specs.Comparing.{AreOnTrack, IsCounterpart, NoneHasName, identifier_in}
 use Rattle.wac_wit_changes.specs.declared.comparing.Direction.{Direction}
 use Rattle.wac_wit_changes.specs.declared.comparing.Direction.TheVariants.{NewForOld, OldForNew}
-use Rattle.wac_wit_changes.specs.declared.packages.Move.{Move}
+use Rattle.wac_wit_changes.specs.declared.moves.Move.{Move}
 use Rattle.wac_wit_changes.specs.declared.tracks.Counterpart.{Counterpart}
 use Rattle.wac_wit_changes.specs.declared.tracks.NewPackages.{NewPackages}
 

@@ -7,6 +7,7 @@
 
 mod checking;
 mod comparing;
+mod moves;
 mod packages;
 mod problem;
 mod report;

@@ -4,7 +4,7 @@ use Rattle.std.proofs.lemmas.List.Elements.{All-push}
 use Rattle.wac_component.proofs.Extended.{Extends-trans}
 use Rattle.wac_wit_changes.specs.Sides.{IsMove}
 use Rattle.wac_wit_changes.proofs.Reports.{olds_more}
-use Rattle.wac_wit_changes.proofs.packages.moves_of.Goals as goal
+use Rattle.wac_wit_changes.proofs.moves.moves_of.Goals as goal
 
 pub loop-package-preserved : goal.loop-package-preserved
 loop-package-preserved c = (

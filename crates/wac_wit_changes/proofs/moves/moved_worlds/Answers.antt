@@ -1,5 +1,5 @@
 use Rattle.wac_component.proofs.Extended.{Extends-trans}
-use Rattle.wac_wit_changes.proofs.packages.moved_worlds.Goals as goal
+use Rattle.wac_wit_changes.proofs.moves.moved_worlds.Goals as goal
 
 pub returns-in_err-id : goal.returns-in_err-id
 returns-in_err-id c = Extends-trans c.args.types.now c.loop-name.types c.moved_world.new.types c.loop-name.invariant c.moved_world.ensures

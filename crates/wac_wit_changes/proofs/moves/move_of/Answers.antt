@@ -1,8 +1,8 @@
 use Rattle.std.proofs.Common.{ap, sym, subst, ◌∙◌}
 use Rattle.wac_component.proofs.Extended.{Extends-same}
 use Rattle.wac_component.specs.Growth.{Extends}
-use Rattle.wac_wit_changes.proofs.packages.move_of.Goals as goal
-use Rattle.wac_wit_changes.proofs.packages.move_of.Goals.{then-is_moved+in_ok-moved, else-is_moved}
+use Rattle.wac_wit_changes.proofs.moves.move_of.Goals as goal
+use Rattle.wac_wit_changes.proofs.moves.move_of.Goals.{then-is_moved+in_ok-moved, else-is_moved}
 
 pub returns-clause-grows : goal.returns-clause-grows
 returns-clause-grows c = elim c.if-is_moved.branch [
