@@ -58,8 +58,8 @@ pub(crate) fn fits_target(
     }
 }
 
-/// Refuses a target that doesn't import each interface that it uses, as the reader's worlds do: so
-/// components of a world run in it as the trees of both say.
+/// Refuses a target that doesn't import each interface that it uses: so components of a world run
+/// in it as the trees of both say. No world that was read has been seen to be refused.
 pub(crate) fn check_imports_used(
     alloc: Global,
     types: &Types,
