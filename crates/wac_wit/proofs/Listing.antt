@@ -1,5 +1,7 @@
 -- Elements of lists, as far as a loop has come.
 use Rattle.std.proofs.Common.{◌≡◌, ℕ, ◌+◌, ◌<◌, ◌≤◌, List, Contains, Option, Some, arith, get_or, length, refl, sym, subst, ◌∙◌, IfOk, Result, Ok, Err}
+use Rattle.std.specs.Prelude.{IfErr}
+use Rattle.std.specs.Result.{IsErr, IsErrAnd}
 use Rattle.std.specs.Prelude.{IfSome, slice_get}
 use borrow.Author.Count.{below_more}
 use Rattle.std.proofs.lemmas.Option.{get_or_from_slice_get, slice_get-get_or, slice_get_within}
@@ -39,3 +41,8 @@ some_of o x P is told = let both = subst (λ q. IfSome q P) is told in both
 pub told_of : {A E : Type 0} (r : Result A E) (P Q : A → Type 0) → IfOk r P → ((x : A) → P x → Q x) → IfOk r Q
 told_of (Ok x) P Q told f = f x told
 told_of (Err e) P Q told f = tt
+
+-- what is told of an error that is handed on
+pub err_told : {T E : Type 0} (r : Result T E) (x : E) (P : E → Type 0) → IsErr r × IsErrAnd r (λ y. y ≡ x) → P x → IfErr r P
+err_told (Ok v) x P e p = tt
+err_told (Err y) x P e p = subst P (sym e.1) p

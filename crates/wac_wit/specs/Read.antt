@@ -10,13 +10,13 @@ use Rattle.wac_wit_names.specs.declared.features.Features.{Features}
 use Rattle.wac_wit_names.specs.declared.sources.SourceFile.{SourceFile}
 use Rattle.wac_wit_syntax.specs.declared.tree.Document.{Document}
 use Rattle.wac_wit_validation.specs.WorldChecking.{KnowsWorlds}
-use Rattle.wac_wit_validation.specs.WitSources.{HasInterface, IsInGroup, PackageId, ScopeSyntax, WitSources, sources_of}
+use Rattle.wac_wit_scopes.specs.WitSources.{HasInterface, IsInGroup, IsScopeOf, PackageId, ScopeSyntax, WitSources, sources_of}
 use Rattle.wac_wit_validation.specs.Placed.{HasWorld}
 use Rattle.wac_wit_syntax.specs.declared.tree.InterfaceDecl.{InterfaceDecl}
 use Rattle.wac_wit_syntax.specs.declared.tree.WorldDecl.{WorldDecl}
 use Rattle.wac_wit_validation.specs.Validated.{IsInterfaceOf, IsWorldOf, package_text}
 use Rattle.wac_wit_validation.specs.declared.validator.Validator.{Validator}
-use Rattle.wac_wit.specs.Parsed.{AreParsed}
+use Rattle.wac_wit_scopes.specs.Parsed.{AreParsed}
 use Rattle.wac_wit.specs.declared.packages.Wit.{Wit}
 use Rattle.wac_wit.specs.declared.packages.WitPackage.{WitPackage}
 
@@ -49,10 +49,20 @@ pub record HasPackage (of : WitSources) (ps : List WitPackage) (q : PackageId) (
   pub group : IsInGroup of q is.group
   pub has : Has is
 
--- nothing is left out: each interface and each world that is read is in the package of its name and version
+-- the package is that of a scope
+pub record IsOfScope (of : WitSources) (p : WitPackage) : Type 0 where
+  pub scope : ScopeSyntax
+  pub is_scope : IsScopeOf of scope
+  pub name : package_text scope.package ≡ string_bytes p.name
+  pub version : scope.package.version ≡ version_bytes p
+  pub group : IsInGroup of scope.package p.group
+
+-- nothing is left out: each interface and each world that is read is in the package of its name and version; and each package is
+-- one that is read
 pub record ListsAll (of : WitSources) (ps : List WitPackage) : Type 0 where
   pub interfaces : (w : ScopeSyntax) (n : Text) (d : InterfaceDecl) → HasInterface of w n d → HasPackage of ps w.«package» (λ p. IsSome (get_by_text p.interfaces n))
   pub worlds : (w : ScopeSyntax) (n : Text) (d : WorldDecl) → HasWorld of w n d → HasPackage of ps w.«package» (λ p. IsSome (get_by_text p.worlds n))
+  pub of_texts : (p : WitPackage) → Contains ps p → IsOfScope of p
 
 -- each is so, and they are all
 pub record AreReadPackages (of : WitSources) (c : Collection) (wit : Wit) : Type 0 where

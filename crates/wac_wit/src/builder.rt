@@ -6,7 +6,7 @@ use super::shapes::{FuncShape, Shapes, TypeShape};
 use indexmap::IndexMap;
 use std::alloc::{AllocError, Global};
 use wac_component::{DefinedType, DefinedTypeId, FuncTypeId, ItemKind, Types, UsedType, ValueType};
-use wac_wit_names::{Catalog, Fault, Nearest, Node, Refusals, Scope, Taken, joined};
+use wac_wit_names::{Catalog, Fault, Nearest, Node, Reason, Refusals, Scope, Taken, joined};
 use wac_wit_syntax::{Gates, Ident, Span};
 
 /// What an interface or a world is made from.
@@ -136,14 +136,16 @@ impl<'b> Builder<'b> {
             return Fault::Known;
         }
         if self.names.hidden.contains(text) {
-            return self.refuse_name(
-                self.item_span,
-                "this names `",
-                text,
-                "`, which is there with a feature alone that is off",
-            );
+            return self
+                .refuse_name(
+                    self.item_span,
+                    "this names `",
+                    text,
+                    "`, which is there with a feature alone that is off",
+                )
+                .because(Reason::HiddenType);
         }
-        Fault::at(self.site.node.file, name.span, self.nameless(text))
+        Fault::at(self.site.node.file, name.span, self.nameless(text)).because(Reason::UnknownType)
     }
 
     // What is said of a type that isn't there.

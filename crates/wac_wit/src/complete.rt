@@ -4,7 +4,7 @@ ghost use Rattle.std.specs.Prelude.{Contains, IfOk, IsTrue};
 ghost use Rattle.wac_wit.specs.Read.{ListsAll};
 ghost use Rattle.wac_wit.specs.Reading.{IsListing};
 ghost use Rattle.wac_wit.specs.declared.packages.WitPackage.{WitPackage as PackageOf};
-ghost use Rattle.wac_wit_validation.specs.WitSources.{WitSources};
+ghost use Rattle.wac_wit_scopes.specs.WitSources.{WitSources};
 ghost use Rattle.wac_wit_validation.specs.WorldChecking.{KnowsWorlds};
 ghost use Rattle.wac_wit_validation.specs.declared.listing.PackageListing.{PackageListing as ListingOf};
 
@@ -21,7 +21,7 @@ pub(crate) fn lists_all(
     ensures { IfOk result (λ is. IsTrue is → (of : WitSources) → KnowsWorlds of validator.now → ListsAll of packages.now) }
 {
     let listed = listings(alloc, packages)?;
-    Ok(validator.lists_all(&listed))
+    validator.lists_all(&listed)
 }
 
 // What packages have.
@@ -29,7 +29,8 @@ fn listings<'p>(
     alloc: Global,
     packages: &'p [WitPackage],
 ) -> Result<Vec<PackageListing<'p>>, AllocError>
-    ensures { IfOk result (λ ls. (l : ListingOf) → Contains ls.items l → (p : PackageOf) × Contains packages.now p × IsListing l p) }
+    ensures each { IfOk result (λ ls. (l : ListingOf) → Contains ls.items l → (p : PackageOf) × Contains packages.now p × IsListing l p) }
+    ensures all { IfOk result (λ ls. (p : PackageOf) → Contains packages.now p → (l : ListingOf) × Contains ls.items l × IsListing l p) }
 {
     let mut listed = Vec::new(alloc);
     for package in packages {

@@ -4,7 +4,7 @@ use super::builder::Builder;
 use super::made::{Exported, ImportSort, KnownEntries, What, WorldExterns, WorldImport};
 use indexmap::{IndexMap, IndexSet};
 use std::alloc::{AllocError, Global};
-use wac_wit_names::Fault;
+use wac_wit_names::{Fault, Reason};
 
 /// An interface, and how many of those that it uses were looked at.
 #[derive(Clone, Copy)]
@@ -187,7 +187,7 @@ impl Builder<'_> {
             return Err(Fault::Missing);
         };
         let message = self.needed_twice(&of.name, &self.site.catalog.node(node)?.id);
-        Err(Fault::at(self.site.node.file, of.span, message))
+        Err(Fault::at(self.site.node.file, of.span, message).because(Reason::NeededTwice))
     }
 
     fn needed_twice(&self, name: &str, other: &str) -> Result<String, AllocError> {

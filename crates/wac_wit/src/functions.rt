@@ -5,7 +5,7 @@ use super::made::Meaning;
 use super::shapes::FuncShape;
 use std::alloc::{AllocError, Global};
 use wac_component::{DefinedType, FuncTypeId, ItemKind, ResourceId, Type, Types, ValueType};
-use wac_wit_names::{Fault, Taken, joined};
+use wac_wit_names::{Fault, Reason, Taken, joined};
 use wac_wit_syntax::{Field, Ident, Method, MethodKind, Signature, Span, TypeExpr};
 
 impl Builder<'_> {
@@ -62,10 +62,13 @@ impl Builder<'_> {
             return Err(Fault::Missing);
         }
         if ty.contains_borrow(self.types) {
-            return Err(self.refuse(
-                self.item_span,
-                "this function returns a borrowed handle, which is lent to a callee alone",
-            ));
+            return Err(
+                self.refuse(
+                    self.item_span,
+                    "this function returns a borrowed handle, which is lent to a callee alone",
+                )
+                .because(Reason::BorrowReturned),
+            );
         }
         Ok(Some(ty))
     }
@@ -108,7 +111,10 @@ impl Builder<'_> {
         let span = method.name.span;
         let is_constructor = method.kind == MethodKind::Constructor;
         if !is_constructor && of.eq_ignore_ascii_case(name) {
-            return Err(self.refuse(span, "a function of a resource has another name than that"));
+            return Err(
+                self.refuse(span, "a function of a resource has another name than that")
+                    .because(Reason::NamedAsResource),
+            );
         }
         let before = if is_constructor { "[constructor]" } else { "" };
         let key = name_in(self.alloc, before, of, method)?;
@@ -170,10 +176,13 @@ impl Builder<'_> {
         if gives(self.types, &ty, &ValueType::Own(id)) {
             return Ok(ty);
         }
-        Err(self.refuse(
-            returned_span(method),
-            "a constructor returns its resource, or `result` with it",
-        ))
+        Err(
+            self.refuse(
+                returned_span(method),
+                "a constructor returns its resource, or `result` with it",
+            )
+            .because(Reason::NotConstructed),
+        )
     }
 }
 

@@ -7,7 +7,7 @@ use super::worlds::Draft;
 use indexmap::IndexSet;
 use std::alloc::{AllocError, Global};
 use wac_component::ItemKind;
-use wac_wit_names::Fault;
+use wac_wit_names::{Fault, Reason};
 use wac_wit_syntax::{IncludeItem, Span};
 
 impl<'b> Builder<'b> {
@@ -77,12 +77,15 @@ impl<'b> Builder<'b> {
         for rename in &item.renames {
             let name = rename.name.name.as_str();
             if !names.contains(&name) {
-                return Err(self.refuse_name(
-                    item.path.name.span,
-                    "the world has no import or export `",
-                    name,
-                    "` under a name of its own",
-                ));
+                return Err(
+                    self.refuse_name(
+                        item.path.name.span,
+                        "the world has no import or export `",
+                        name,
+                        "` under a name of its own",
+                    )
+                    .because(Reason::UnknownRename),
+                );
             }
         }
         Ok(())
@@ -127,7 +130,8 @@ impl<'b> Builder<'b> {
         let Some(first) = self.taken.span_of(name)? else {
             return self.take_name(name, span);
         };
-        Err(Fault::at(self.site.node.file, span, self.comes_twice(name, first)))
+        let message = self.comes_twice(name, first);
+        Err(Fault::at(self.site.node.file, span, message).because(Reason::IncludedTwice))
     }
 
     fn comes_twice(&self, name: &str, first: Span) -> Result<String, AllocError> {

@@ -25,4 +25,4 @@ mod worlds;
 
 pub use packages::{Wit, WitPackage};
 pub use reading::{PairError, WitPair, read_both, read_packages};
-pub use wac_wit_names::{Features, MAX_REFUSALS, SourceFile, WitError, WitRefusal};
+pub use wac_wit_names::{Features, MAX_REFUSALS, Reason, SourceFile, WitError, WitRefusal};

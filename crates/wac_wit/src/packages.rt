@@ -4,7 +4,7 @@ ghost use Rattle.std.specs.Prelude.{◌≡◌, IfOk, IsTrue};
 ghost use Rattle.wac_wit.specs.Read.{AreReadInterfaces, AreReadWorlds, IsEachRead, IsReadPackage, KeepsKnowing};
 ghost use Rattle.wac_wit.specs.Reading.{ResolvesSources};
 ghost use Rattle.wac_wit_validation.specs.WorldChecking.{KnowsWorlds};
-ghost use Rattle.wac_wit_validation.specs.WitSources.{WitSources};
+ghost use Rattle.wac_wit_scopes.specs.WitSources.{WitSources};
 
 use super::builder::Site;
 use super::complete::lists_all;
@@ -15,7 +15,8 @@ use indexmap::IndexMap;
 use std::alloc::{AllocError, Global};
 use wac_component::{InterfaceId, Types, WorldId};
 use wac_wit_names::{Catalog, Decl, Fault, Node, Package, Refusals};
-use wac_wit_validation::{SourceTrees, Validator};
+use wac_wit_scopes::SourceTrees;
+use wac_wit_validation::Validator;
 
 /// A package.
 pub struct WitPackage {

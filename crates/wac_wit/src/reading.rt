@@ -1,16 +1,22 @@
 //! Reads packages.
 
-ghost use Rattle.std.specs.Prelude.{◌≡◌, IfOk, IfSome, OnOk};
-ghost use Rattle.wac_wit.specs.Parsed.{AreParsed};
+ghost use Rattle.std.specs.Prelude.{◌≡◌, IfErr, IfOk, IfSome, List, OnOk};
+ghost use Rattle.wac_wit_scopes.specs.Parsed.{AreParsed};
 ghost use Rattle.wac_wit.specs.Read.{AreReadPackages, AreOfTexts};
-ghost use Rattle.wac_wit.specs.Reading.{ResolvesSources, sources_in};
+ghost use Rattle.wac_wit.specs.Reading.{AreMisread, IsMisread, IsPairRefused, IsRefusedIn, ResolvesSources, sources_in};
+ghost use Rattle.wac_wit_names.specs.declared.features.Features.{Features as FeaturesOf};
+ghost use Rattle.wac_wit_names.specs.declared.sources.SourceFile.{SourceFile as FileOf};
+ghost use Rattle.wac_wit_refusals.specs.Reasons.{AreRefusedFor, AllRefusedFor};
 
 use super::packages::{Resolved, Wit};
-use std::alloc::Global;
+use std::alloc::{AllocError, Global};
 use wac_component::Types;
-use wac_wit_names::{Fault, Features, Refusals, SourceFile, WitError};
-use wac_wit_syntax::{Document, parse};
-use wac_wit_validation::SourceTrees;
+use wac_wit_names::{
+    Fault, Features, MAX_REFUSALS, Reason, Refusals, SourceFile, WitError, WitRefusal,
+};
+use wac_wit_refusals::confirmed;
+use wac_wit_scopes::SourceTrees;
+use wac_wit_syntax::{Document, Refusal, SyntaxError, parse};
 
 /// Old packages and new ones, in one collection.
 #[derive(Drop)]
@@ -45,7 +51,8 @@ pub fn read_packages(
     files: &[SourceFile],
     features: Features<'_>,
 ) -> Result<Wit, WitError>
-    ensures { IfOk result (AreOfTexts files.now features.entry types.new) }
+    ensures read { IfOk result (AreOfTexts files.now features.entry types.new) }
+    ensures refused { IfErr result (AreRefusedFor files.now features.entry) }
 {
     let documents = documents_of(alloc, files)?;
     let sources = SourceTrees {
@@ -69,6 +76,7 @@ pub fn read_both(
 ) -> Result<WitPair, PairError>
     ensures old { IfOk result (λ pair. AreOfTexts old.now features.entry types.new pair.old) }
     ensures new { IfOk result (λ pair. AreOfTexts new.now features.entry types.new pair.new) }
+    ensures refused { IfErr result (IsPairRefused old.now new.now features.entry) }
 {
     let documents = match documents_of(alloc, old) {
         Ok(documents) => documents,
@@ -84,22 +92,24 @@ pub fn read_both(
 
 // The trees of all files, if the syntax of all is right.
 fn documents_of(alloc: Global, files: &[SourceFile]) -> Result<Vec<Document>, WitError>
-    ensures { IfOk result (λ documents. AreParsed files.now documents.items) }
+    ensures read { IfOk result (λ documents. AreParsed files.now documents.items) }
+    ensures refused { (features : FeaturesOf) → IfErr result (AreRefusedFor files.now features) }
 {
-    let mut refusals = Refusals::new(alloc);
+    let mut refusals = Vec::new(alloc);
     match parsed(alloc, files, &mut refusals) {
         Ok(Some(documents)) => Ok(documents),
-        Ok(None) => Err(refusals.into_error()),
-        Err(fault) => Err(error_of(fault, refusals)),
+        Ok(None) => Err(WitError::Refused(refusals)),
+        Err(_) => Err(WitError::Memory),
     }
 }
 
 fn parsed(
     alloc: Global,
     files: &[SourceFile],
-    refusals: &mut Refusals,
-) -> Result<Option<Vec<Document>>, Fault>
-    ensures { IfOk result (λ parsed. IfSome parsed (λ documents. AreParsed files.now documents.items)) }
+    refusals: &mut Vec<WitRefusal>,
+) -> Result<Option<Vec<Document>>, AllocError>
+    ensures read { IfOk result (λ parsed. IfSome parsed (λ documents. AreParsed files.now documents.items)) }
+    ensures refused { OnOk result ((features : FeaturesOf) → AllRefusedFor files.now features refusals.old.items → AllRefusedFor files.now features refusals.new.items) }
 {
     let mut documents = Vec::new(alloc);
     let mut is_right = true;
@@ -107,12 +117,45 @@ fn parsed(
         match parse(alloc, &file.text) {
             Ok(document) => documents.push(document)?,
             Err(error) => {
-                refusals.note_syntax(index, error)?;
+                push_misread(refusals, index, error)?;
                 is_right = false;
             }
         }
     }
     Ok(is_right.then_some(documents))
+}
+
+// Puts what is refused of the syntax of a file last, as far as it is listed.
+fn push_misread(
+    refusals: &mut Vec<WitRefusal>,
+    file: usize,
+    error: SyntaxError,
+) -> Result<(), AllocError>
+    ensures { OnOk result ((files : List FileOf) (features : FeaturesOf) → IsMisread files file error → AllRefusedFor files features refusals.old.items → AllRefusedFor files features refusals.new.items) }
+{
+    match error {
+        SyntaxError::Refused(misread) => push_all(refusals, file, misread),
+        SyntaxError::Memory => Err(AllocError),
+    }
+}
+
+fn push_all(
+    refusals: &mut Vec<WitRefusal>,
+    file: usize,
+    misread: Vec<Refusal>,
+) -> Result<(), AllocError>
+    ensures { OnOk result ((files : List FileOf) (features : FeaturesOf) → AreMisread files file misread.items → AllRefusedFor files features refusals.old.items → AllRefusedFor files features refusals.new.items) }
+{
+    for refusal in misread {
+        if refusals.len() < MAX_REFUSALS {
+            refusals.push(WitRefusal {
+                file,
+                refusal,
+                reason: Some(Reason::Syntax),
+            })?;
+        }
+    }
+    Ok(())
 }
 
 // Why files aren't read, where a fault ended that and these refusals were noted before.
@@ -126,7 +169,8 @@ fn error_of(fault: Fault, mut refusals: Refusals) -> WitError {
 
 // Reads files whose syntax is right.
 fn read(alloc: Global, types: &mut Types, sources: &SourceTrees<'_>) -> Result<Wit, WitError>
-    ensures { IfOk result (AreReadPackages (sources_in sources.now) types.new) }
+    ensures read { IfOk result (AreReadPackages (sources_in sources.now) types.new) }
+    ensures refused { IsRefusedIn sources.now result }
 {
     let resolved = resolve(alloc, types, sources)?;
     check(alloc, types, &resolved)?;
@@ -139,18 +183,20 @@ fn resolve<'a>(
     types: &mut Types,
     sources: &SourceTrees<'a>,
 ) -> Result<Resolved<'a>, WitError>
-    ensures { IfOk result (λ r. r.sources ≡ sources.now) }
+    ensures made { IfOk result (λ r. r.sources ≡ sources.now) }
+    ensures refused { IsRefusedIn sources.now result }
 {
     let mut refusals = Refusals::new(alloc);
     match Resolved::new(alloc, types, sources, &mut refusals) {
         Ok(resolved) => Ok(resolved),
-        Err(fault) => Err(error_of(fault, refusals)),
+        Err(fault) => Err(confirmed(alloc, sources, error_of(fault, refusals))),
     }
 }
 
 // Refuses interfaces that aren't what their texts denote.
 fn check(alloc: Global, types: &Types, of: &Resolved<'_>) -> Result<(), WitError>
-    ensures { OnOk result (ResolvesSources types.now of.now) }
+    ensures read { OnOk result (ResolvesSources types.now of.now) }
+    ensures refused { (files : List FileOf) (features : FeaturesOf) → IfErr result (AreRefusedFor files features) }
 {
     match of.is_denoted(alloc, types) {
         Ok(true) => Ok(()),
@@ -168,6 +214,7 @@ fn read_pair(
 ) -> Result<WitPair, PairError>
     ensures old { IfOk result (λ pair. AreReadPackages (sources_in old.now) types.new pair.old) }
     ensures new { IfOk result (λ pair. AreOfTexts new.now old.now.features types.new pair.new) }
+    ensures refused { AreParsed old.now.files.now old.now.documents.now → IfErr result (IsPairRefused old.now.files.now new.now old.now.features) }
 {
     let resolved = match resolve(alloc, types, old) {
         Ok(resolved) => resolved,
@@ -190,6 +237,7 @@ fn read_new(
 ) -> Result<Wit, PairError>
     ensures old { OnOk result (ResolvesSources types.new old.now) }
     ensures new { IfOk result (AreOfTexts new.now features.entry types.new) }
+    ensures refused { (files : List FileOf) → IfErr result (IsPairRefused files new.now features.entry) }
 {
     let documents = match documents_of(alloc, new) {
         Ok(documents) => documents,
@@ -212,6 +260,7 @@ fn read_beside(
 ) -> Result<Wit, PairError>
     ensures old { OnOk result (ResolvesSources types.new old.now) }
     ensures new { IfOk result (AreReadPackages (sources_in new.now) types.new) }
+    ensures refused { (files : List FileOf) → AreParsed new.now.files.now new.now.documents.now → IfErr result (IsPairRefused files new.now.files.now new.now.features) }
 {
     let resolved = match resolve(alloc, types, new) {
         Ok(resolved) => resolved,

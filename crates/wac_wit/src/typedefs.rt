@@ -5,7 +5,7 @@ use super::builder::Builder;
 use super::made::{Meaning, NamedType};
 use indexmap::{IndexMap, IndexSet};
 use wac_component::{DefinedType, Enum, Flags, Record, Resource, ValueType, Variant};
-use wac_wit_names::{Fault, Taken};
+use wac_wit_names::{Fault, Reason, Taken};
 use wac_wit_syntax::{Case, Field, Ident, TypeDef, TypeExpr, TypeItem};
 
 // How many flags a value has at most.
@@ -205,7 +205,10 @@ impl Builder<'_> {
 
     fn flags_of(&mut self, name: &Ident, names: &[Ident]) -> Result<Flags, Fault> {
         if names.len() > MAX_FLAGS {
-            return Err(self.refuse(name.span, "these are more than 32 flags"));
+            return Err(
+                self.refuse(name.span, "these are more than 32 flags")
+                    .because(Reason::ManyFlags),
+            );
         }
         Ok(Flags(self.distinct(name, names)?))
     }
@@ -232,7 +235,7 @@ impl Builder<'_> {
 
     fn refuse_empty(&self, name: &Ident, is_empty: bool, message: &str) -> Result<(), Fault> {
         if is_empty {
-            return Err(self.refuse(name.span, message));
+            return Err(self.refuse(name.span, message).because(Reason::Empty));
         }
         Ok(())
     }

@@ -4,7 +4,7 @@ use super::builder::Builder;
 use super::ordering::first_first;
 use indexmap::IndexMap;
 use std::alloc::{AllocError, Global};
-use wac_wit_names::{Fault, joined};
+use wac_wit_names::{Fault, Reason, joined};
 use wac_wit_syntax::{Case, Field, Span, TypeDef, TypeExpr, TypeItem};
 
 // A type that is named, and where.
@@ -49,7 +49,7 @@ impl Builder<'_> {
         match (cycle.first(), cycle.last()) {
             (Some(first), Some(last)) => {
                 let message = cycle_message(self.alloc, items, cycle, last.index);
-                Fault::at(self.site.node.file, first.span, message)
+                Fault::at(self.site.node.file, first.span, message).because(Reason::TypeCycle)
             }
             _ => Fault::Missing,
         }

@@ -5,7 +5,7 @@ use super::builder::Builder;
 use super::made::{MadeInterface, Meaning, NamedType, TypeNames};
 use std::alloc::AllocError;
 use wac_component::{InterfaceId, Resource, ResourceAlias, ResourceId, Type};
-use wac_wit_names::{Fault, Nearest};
+use wac_wit_names::{Fault, Nearest, Reason};
 use wac_wit_syntax::{Ident, Rename, UseItem};
 
 impl<'b> Builder<'b> {
@@ -103,7 +103,8 @@ impl<'b> Builder<'b> {
         match self.site.catalog.node(node) {
             Ok(of) => {
                 let message = self.used_message(&of.id, &from.names, &name.name);
-                Fault::at(self.site.node.file, name.span, message)
+                let is_hidden = from.names.hidden.contains(name.name.as_str());
+                Fault::at(self.site.node.file, name.span, message).because(used_reason(is_hidden))
             }
             Err(fault) => fault,
         }
@@ -161,6 +162,14 @@ impl<'b> Builder<'b> {
         let name = String::from_str(self.alloc, name)?;
         add_resource(self.types, Resource { name, alias })
     }
+}
+
+// Why a name isn't a type of an interface.
+fn used_reason(is_hidden: bool) -> Reason {
+    if is_hidden {
+        return Reason::HiddenUsed;
+    }
+    Reason::UnknownUsed
 }
 
 // The interface that defines a type of another.

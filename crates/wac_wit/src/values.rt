@@ -5,7 +5,7 @@ use super::made::Meaning;
 use super::shapes::TypeShape;
 use wac_component::{ResourceId, Type, ValueType};
 use wac_model::PrimitiveType;
-use wac_wit_names::Fault;
+use wac_wit_names::{Fault, Reason};
 use wac_wit_syntax::{Ident, Span, TypeExpr};
 
 impl Builder<'_> {
@@ -79,7 +79,10 @@ impl Builder<'_> {
 
     fn check_length(&self, length: u32, span: Span) -> Result<(), Fault> {
         if length == 0 {
-            return Err(self.refuse(span, "a list of a fixed length has at least one element"));
+            return Err(
+                self.refuse(span, "a list of a fixed length has at least one element")
+                    .because(Reason::ZeroLength),
+            );
         }
         Ok(())
     }
@@ -105,10 +108,13 @@ impl Builder<'_> {
             return Err(Fault::Missing);
         }
         if ty.contains_borrow(self.types) {
-            return Err(self.refuse(
-                self.item_span,
-                "a stream or a future stands here that has borrowed handles",
-            ));
+            return Err(
+                self.refuse(
+                    self.item_span,
+                    "a stream or a future stands here that has borrowed handles",
+                )
+                .because(Reason::BorrowSent),
+            );
         }
         Ok(())
     }
@@ -119,10 +125,13 @@ impl Builder<'_> {
             return Err(Fault::Missing);
         }
         if self.types.resolve_value_type(*ty) == ValueType::Primitive(PrimitiveType::Char) {
-            return Err(self.refuse(
-                self.item_span,
-                "`stream<char>` stands here, which isn't one",
-            ));
+            return Err(
+                self.refuse(
+                    self.item_span,
+                    "`stream<char>` stands here, which isn't one",
+                )
+                .because(Reason::CharStream),
+            );
         }
         Ok(())
     }
@@ -140,7 +149,10 @@ impl Builder<'_> {
         match self.named(name)?.meaning {
             Meaning::Resource(id) => Ok(id),
             Meaning::Value(_) => {
-                Err(self.refuse_name(name.span, "`", &name.name, "` is no resource"))
+                Err(
+                    self.refuse_name(name.span, "`", &name.name, "` is no resource")
+                        .because(Reason::NotResource),
+                )
             }
         }
     }

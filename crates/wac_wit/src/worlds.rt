@@ -8,7 +8,7 @@ use indexmap::IndexMap;
 use std::alloc::{AllocError, Global};
 use std::mem::replace;
 use wac_component::{ItemKind, Types, World, WorldId};
-use wac_wit_names::{Fault, Refusals, Taken};
+use wac_wit_names::{Fault, Reason, Refusals, Taken};
 use wac_wit_syntax::{
     Extern, ExternItem, Ident, InterfaceItem, Path, Signature, Span, TypeDef, TypeItem, WorldDecl,
     WorldItem,
@@ -222,6 +222,7 @@ impl<'b> Builder<'b> {
             path.span,
             "an interface of a package has no other name than its own: that isn't supported yet",
         )
+        .because(Reason::RenamedInterface)
     }
 
     /// Refuses an interface of a package that a world says twice.
@@ -236,7 +237,7 @@ impl<'b> Builder<'b> {
             return Ok(());
         };
         let message = self.said_twice(verb, &path.name.name, *first);
-        Err(Fault::at(self.site.node.file, path.name.span, message))
+        Err(Fault::at(self.site.node.file, path.name.span, message).because(Reason::SaidTwice))
     }
 
     fn said_twice(&self, verb: &str, name: &str, first: Span) -> Result<String, AllocError> {

@@ -15,7 +15,7 @@ use Rattle.wac_types.specs.Pairs.{IsFound, IsGreatest, HasText, IsVersionAtMost,
 use Rattle.wac_types.specs.Text.{Text}
 use Rattle.wac_types.specs.Track.{IsCompatible}
 use Rattle.wac_wit.specs.declared.packages.WitPackage.{WitPackage}
-use Rattle.wac_wit_validation.proofs.PathFacts.{contains_at}
+use Rattle.wac_wit_scopes.proofs.PathFacts.{contains_at}
 use Rattle.wac_wit_changes.specs.Comparing.{AreOnTrack, identifier_in}
 use Rattle.wac_wit_changes.specs.Sides.{AreFoundBy, FindsCounterpart, IsBeside, KnowsPackages}
 use Rattle.wac_wit_changes.specs.declared.tracks.NewPackages.{NewPackages}

@@ -11,7 +11,7 @@ use Rattle.wac_types.specs.Order.{Fits}
 use Rattle.wac_types.specs.Pairs.{IsVersionAtMost}
 use Rattle.wac_types.specs.Text.{Text}
 use Rattle.wac_types.specs.Track.{IsCompatible}
-use Rattle.wac_wit_validation.specs.WitSources.{version_part}
+use Rattle.wac_wit_scopes.specs.WitSources.{version_part}
 use Rattle.wac_wit.specs.declared.packages.WitPackage.{WitPackage}
 use Rattle.wac_wit_changes.specs.Worlds.{TreeRunsIn}
 use Rattle.wac_wit_changes.specs.declared.report.ComparedItem.{ComparedItem}

@@ -6,7 +6,7 @@ use Rattle.std.specs.declared.alloc.Global.{Global}
 use Rattle.wac_types.specs.ItemTree.{ItemTree}
 use Rattle.wac_types.specs.Order.{Fits}
 use Rattle.wac_types.specs.Text.{Text}
-use Rattle.wac_wit.specs.Parsed.{AreParsed}
+use Rattle.wac_wit_scopes.specs.Parsed.{AreParsed}
 use Rattle.wac_wit.specs.Read.{ListsAll}
 use Rattle.wac_wit.specs.declared.packages.WitPackage.{WitPackage}
 use Rattle.wac_wit_names.specs.declared.features.Features.{Features}
@@ -16,7 +16,7 @@ use Rattle.wac_wit_syntax.specs.declared.tree.InterfaceDecl.{InterfaceDecl}
 use Rattle.wac_wit_validation.specs.Interfaces.{IsInterfaceTree}
 use Rattle.wac_wit_validation.specs.Placed.{PlacedWorld}
 use Rattle.wac_wit_validation.specs.Validated.{IsWorldNamed, package_text}
-use Rattle.wac_wit_validation.specs.WitSources.{HasInterface, ScopeSyntax, WitSources, sources_of}
+use Rattle.wac_wit_scopes.specs.WitSources.{HasInterface, ScopeSyntax, WitSources, sources_of}
 use Rattle.wac_wit_validation.specs.Worlds.{IsWorldTree}
 use Rattle.wac_wit_changes.specs.Comparing.{IsCounterpart, IsPromiseOf, IsReportOfOne}
 use Rattle.wac_wit_changes.specs.Worlds.{TreeRunsIn}

@@ -10,7 +10,7 @@ ghost use Rattle.wac_wit.specs.declared.packages.WitPackage.{WitPackage};
 ghost use Rattle.wac_wit_changes.specs.Comparing.{AreOnTrack, IsPromiseOf, identifier_in};
 ghost use Rattle.wac_wit_changes.specs.Sides.{FindsCounterpart, KnowsPackages};
 ghost use Rattle.wac_wit_changes.specs.declared.report.Promise.{Promise};
-ghost use Rattle.wac_wit_validation.specs.WitSources.{version_part};
+ghost use Rattle.wac_wit_scopes.specs.WitSources.{version_part};
 
 use super::report::Promise;
 use indexmap::IndexMap;

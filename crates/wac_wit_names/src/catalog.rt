@@ -2,6 +2,7 @@
 
 use super::error::Fault;
 use super::features::{Features, is_there};
+use super::reason::Reason;
 use super::refusals::Refusals;
 use super::sources::SourceFile;
 use super::texts::{id_of, joined, key_of, name_of, version_of};
@@ -144,8 +145,8 @@ pub struct Catalog<'a> {
     pub(crate) by_key: IndexMap<String, usize>,
     // the packages by their names, where one package alone has that
     pub(crate) by_name: IndexMap<String, Option<usize>>,
-    // the packages of groups of files
-    by_group: IndexMap<usize, usize>,
+    // the packages of groups of files, or none where what names it is refused
+    by_group: IndexMap<usize, Option<usize>>,
 }
 
 impl Drop for Catalog<'_> {
@@ -265,11 +266,12 @@ impl<'a> Catalog<'a> {
 
     fn add_name(&mut self, file: usize, name: &'a PackageName) -> Result<(), Fault> {
         let group = self.group_of(file);
-        if let Some(index) = self.by_group.get(&group) {
+        if let Some(Some(index)) = self.by_group.get(&group) {
             return self.check_same(file, *index, name);
         }
+        self.by_group.insert(group, None)?;
         let index = self.add_package(file, name)?;
-        self.by_group.insert(group, index)?;
+        self.by_group.insert(group, Some(index))?;
         Ok(())
     }
 
@@ -280,7 +282,9 @@ impl<'a> Catalog<'a> {
         if said == package.key {
             return Ok(());
         }
-        Err(Fault::at(file, name.span, self.other_package(&said, &package.key)))
+        Err(Fault::at(file, name.span, self.other_package(&said, &package.key)).because(
+            Reason::AnotherPackage,
+        ))
     }
 
     fn other_package(&self, said: &str, known: &str) -> Result<String, AllocError> {
@@ -295,13 +299,10 @@ impl<'a> Catalog<'a> {
         self.check_lower_case(file, &name.name)?;
         let key = key_of(self.alloc, name)?;
         if self.by_key.get(key.as_str()).is_some() {
-            return Err(self.refuse_name(
-                file,
-                name.span,
-                "the package `",
-                &key,
-                "` is there twice",
-            ));
+            return Err(
+                self.refuse_name(file, name.span, "the package `", &key, "` is there twice")
+                    .because(Reason::PackageTwice),
+            );
         }
         let index = self.packages.len();
         self.note_package(index, name, &key)?;
@@ -338,11 +339,14 @@ impl<'a> Catalog<'a> {
     fn check_lower_case(&self, file: usize, part: &Ident) -> Result<(), Fault> {
         for letter in part.name.chars() {
             if letter.is_ascii_uppercase() {
-                return Err(self.refuse(
-                    file,
-                    part.span,
-                    "the name of a package has no upper case letters",
-                ));
+                return Err(
+                    self.refuse(
+                        file,
+                        part.span,
+                        "the name of a package has no upper case letters",
+                    )
+                    .because(Reason::UpperCase),
+                );
             }
         }
         Ok(())
@@ -357,8 +361,10 @@ impl<'a> Catalog<'a> {
         for (file, document) in documents.iter().enumerate() {
             let group = self.group_of(file);
             match self.by_group.get(&group).copied() {
-                Some(package) => self.add_document(file, package, document, refusals)?,
-                None => refusals.note(self.refuse_nameless(file, document))?,
+                Some(Some(package)) => self.add_document(file, package, document, refusals)?,
+                // the name of the package was refused
+                Some(None) => {}
+                None => refusals.note(self.refuse_nameless(file))?,
             }
         }
         Ok(())
@@ -382,17 +388,14 @@ impl<'a> Catalog<'a> {
         Ok(())
     }
 
-    // Refuses a file of a group in which no file names the package. Where that name was refused,
-    // nothing more is said.
-    fn refuse_nameless(&self, file: usize, document: &Document) -> Fault {
-        if document.package.is_some() {
-            return Fault::Known;
-        }
+    // Refuses a file of a group in which no file names the package.
+    fn refuse_nameless(&self, file: usize) -> Fault {
         self.refuse(
             file,
             Span { start: 0, end: 1 },
             "no file says which package this is: expected `package NS:NAME;` at the beginning",
         )
+        .because(Reason::Nameless)
     }
 
     // Takes in the items of one file of a package.
@@ -442,13 +445,16 @@ impl<'a> Catalog<'a> {
             return Ok(());
         }
         let file = of.file;
-        Err(self.refuse_name(
-            file,
-            name.span,
-            "this file has another name `",
-            &name.name,
-            "` too",
-        ))
+        Err(
+            self.refuse_name(
+                file,
+                name.span,
+                "this file has another name `",
+                &name.name,
+                "` too",
+            )
+            .because(Reason::UseTwice),
+        )
     }
 
     // Refuses other names of interfaces and worlds that lead nowhere, or that the package has.
@@ -477,13 +483,16 @@ impl<'a> Catalog<'a> {
         if package.members.get(name.name.as_str()).is_none() {
             return Ok(());
         }
-        Err(self.refuse_name(
-            scope.file,
-            name.span,
-            "the package has an interface or a world `",
-            &name.name,
-            "` too",
-        ))
+        Err(
+            self.refuse_name(
+                scope.file,
+                name.span,
+                "the package has an interface or a world `",
+                &name.name,
+                "` too",
+            )
+            .because(Reason::TakenByPackage),
+        )
     }
 
     // Takes in an interface or a world.
@@ -531,7 +540,11 @@ impl<'a> Catalog<'a> {
 
     fn refuse_second(&self, file: usize, first: usize, name: &Ident) -> Fault {
         match self.node(first) {
-            Ok(first) => Fault::at(file, name.span, self.second(first, &name.name)),
+            Ok(first) => {
+                Fault::at(file, name.span, self.second(first, &name.name)).because(
+                    Reason::MemberTwice,
+                )
+            }
             Err(fault) => fault,
         }
     }

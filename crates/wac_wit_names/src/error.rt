@@ -1,5 +1,6 @@
 //! Why packages aren't resolved.
 
+use super::reason::Reason;
 use super::sources::SourceFile;
 use std::alloc::{AllocError, AllocFailed};
 use wac_wit_syntax::{Refusal, Span, push_report};
@@ -10,6 +11,8 @@ pub struct WitRefusal {
     pub file: usize,
     /// What is wrong, and where.
     pub refusal: Refusal,
+    /// Why, if that is known to be so.
+    pub reason: Option<Reason>,
 }
 
 impl Drop for WitRefusal {
@@ -17,7 +20,24 @@ impl Drop for WitRefusal {
         let WitRefusal {
             file: _,
             refusal: _,
+            reason: _,
         } = self;
+    }
+}
+
+impl WitRefusal {
+    /// The same, with another reason.
+    pub fn because(self, reason: Option<Reason>) -> WitRefusal {
+        let WitRefusal {
+            file,
+            refusal,
+            reason: _,
+        } = self;
+        WitRefusal {
+            file,
+            refusal,
+            reason,
+        }
     }
 }
 
@@ -81,8 +101,17 @@ impl Fault {
             Ok(message) => Fault::Refused(WitRefusal {
                 file,
                 refusal: Refusal { span, message },
+                reason: None,
             }),
             Err(_) => Fault::Memory,
+        }
+    }
+
+    /// The same, with the reason.
+    pub fn because(self, reason: Reason) -> Fault {
+        match self {
+            Fault::Refused(refused) => Fault::Refused(refused.because(Some(reason))),
+            other => other,
         }
     }
 }

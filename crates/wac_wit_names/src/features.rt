@@ -6,6 +6,7 @@ ghost use Rattle.std.specs.Str.{bytes_eq};
 ghost use Rattle.wac_wit_names.specs.Features.{has_feature};
 
 use super::error::Fault;
+use super::reason::Reason;
 use semver::Version;
 use std::alloc::{AllocError, Global};
 use std::cmp::Ordering;
@@ -62,10 +63,11 @@ pub(crate) fn check_since(
             alloc,
             "`@since` stands before this item, but the package has no version",
         );
-        return Err(Fault::at(file, span, message));
+        return Err(Fault::at(file, span, message).because(Reason::Unversioned));
     };
     if is_younger(alloc, &since.text, version) {
-        return Err(Fault::at(file, span, younger(alloc, &since.text, version)));
+        let message = younger(alloc, &since.text, version);
+        return Err(Fault::at(file, span, message).because(Reason::Younger));
     }
     Ok(())
 }

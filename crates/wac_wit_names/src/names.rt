@@ -3,6 +3,7 @@
 use super::catalog::{Catalog, Decl, Node, Package, Scope, UsedName};
 use super::error::Fault;
 use super::nearest::Nearest;
+use super::reason::Reason;
 use super::texts::{joined, key_of, name_of};
 use std::alloc::AllocError;
 use wac_wit_syntax::{PackageName, Path, TopUse};
@@ -13,7 +14,10 @@ impl<'a> Catalog<'a> {
         let node = self.find(scope, path)?;
         match node.decl {
             Decl::Interface(_) => Ok(node),
-            Decl::World(_) => Err(self.refuse_path(scope, path, "` is a world, not an interface")),
+            Decl::World(_) => Err(
+                self.refuse_path(scope, path, "` is a world, not an interface")
+                    .because(Reason::NotInterface),
+            ),
         }
     }
 
@@ -22,11 +26,10 @@ impl<'a> Catalog<'a> {
         let node = self.find(scope, path)?;
         match node.decl {
             Decl::World(_) => Ok(node),
-            Decl::Interface(_) => Err(self.refuse_path(
-                scope,
-                path,
-                "` is an interface, not a world",
-            )),
+            Decl::Interface(_) => Err(
+                self.refuse_path(scope, path, "` is an interface, not a world")
+                    .because(Reason::NotWorld),
+            ),
         }
     }
 
@@ -37,11 +40,10 @@ impl<'a> Catalog<'a> {
             None => self.look_up(scope, path)?,
         };
         if node.is_hidden {
-            return Err(self.refuse_path(
-                scope,
-                path,
-                "` is there with a feature alone that is off",
-            ));
+            return Err(
+                self.refuse_path(scope, path, "` is there with a feature alone that is off")
+                    .because(Reason::HiddenMember),
+            );
         }
         Ok(node)
     }
@@ -56,11 +58,14 @@ impl<'a> Catalog<'a> {
         };
         match node.decl {
             Decl::World(_) if !node.is_hidden && used.path.package.is_some() => {
-                Err(self.refuse_path(
-                    scope,
-                    path,
-                    "` is a world of another package, of which a top-level `use` names no worlds",
-                ))
+                Err(
+                    self.refuse_path(
+                        scope,
+                        path,
+                        "` is a world of another package, of which a top-level `use` names no worlds",
+                    )
+                    .because(Reason::ForeignWorld),
+                )
             }
             _ => Ok(node),
         }
@@ -101,7 +106,7 @@ impl<'a> Catalog<'a> {
     // Refuses a name that a package doesn't have.
     fn refuse_member(&self, scope: &Scope<'a>, package: &Package<'a>, path: &Path) -> Fault {
         let message = self.member_message(package, &path.name.name);
-        Fault::at(scope.file, path.name.span, message)
+        Fault::at(scope.file, path.name.span, message).because(Reason::UnknownMember)
     }
 
     fn member_message(&self, package: &Package<'a>, name: &str) -> Result<String, AllocError> {
@@ -121,15 +126,20 @@ impl<'a> Catalog<'a> {
     fn named_package(&self, scope: &Scope<'a>, name: &PackageName) -> Result<&Package<'a>, Fault> {
         let key = key_of(self.alloc, name)?;
         match self.package_index(name, &key) {
-            Some(index) if index == scope.package => Err(self.refuse_name(
-                scope.file,
-                name.span,
-                "the package `",
-                &key,
-                "` names itself: the name alone does within it",
-            )),
+            Some(index) if index == scope.package => Err(
+                self.refuse_name(
+                    scope.file,
+                    name.span,
+                    "the package `",
+                    &key,
+                    "` names itself: the name alone does within it",
+                )
+                .because(Reason::OwnPackage),
+            ),
             Some(index) => self.package(index),
-            None => Err(Fault::at(scope.file, name.span, self.package_message(name, &key))),
+            None => Err(Fault::at(scope.file, name.span, self.package_message(name, &key)).because(
+                Reason::UnknownPackage,
+            )),
         }
     }
 

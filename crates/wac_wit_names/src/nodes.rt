@@ -3,6 +3,7 @@
 use super::catalog::{Catalog, Decl, Node, Scope};
 use super::error::Fault;
 use super::ordering::{Order, ordered};
+use super::reason::Reason;
 use super::refusals::{MAX_REFUSALS, Refusals};
 use super::texts::joined;
 use std::alloc::{AllocError, Global};
@@ -36,7 +37,11 @@ impl<'a> Catalog<'a> {
             return Fault::Missing;
         };
         match self.node(*first) {
-            Ok(of) => Fault::at(of.file, of.name.span, self.cycle_message(of, cycle)),
+            Ok(of) => {
+                Fault::at(of.file, of.name.span, self.cycle_message(of, cycle)).because(
+                    Reason::Cycle,
+                )
+            }
             Err(fault) => fault,
         }
     }
@@ -102,11 +107,14 @@ impl<'a> Catalog<'a> {
         if !self.is_there(gates) {
             return Ok(());
         }
-        Err(self.refuse(
-            scope.file,
-            name.span,
-            "this type is there without the feature of its interface: it needs that attribute too",
-        ))
+        Err(
+            self.refuse(
+                scope.file,
+                name.span,
+                "this type is there without the feature of its interface: it needs that attribute too",
+            )
+            .because(Reason::TypeOfHidden),
+        )
     }
 
     fn push_interface_needs(

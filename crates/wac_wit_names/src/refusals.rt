@@ -2,7 +2,6 @@
 
 use super::error::{Fault, WitError, WitRefusal};
 use std::alloc::Global;
-use wac_wit_syntax::{Refusal, SyntaxError};
 
 /// How many refusals one run lists at most.
 pub const MAX_REFUSALS: usize = 20;
@@ -70,21 +69,6 @@ impl Refusals {
             }
         }
         false
-    }
-
-    /// Notes what the reader of a file's syntax refuses.
-    pub fn note_syntax(&mut self, file: usize, error: SyntaxError) -> Result<(), Fault> {
-        match error {
-            SyntaxError::Refused(refusals) => self.push_all(file, refusals),
-            SyntaxError::Memory => Err(Fault::Memory),
-        }
-    }
-
-    fn push_all(&mut self, file: usize, refusals: Vec<Refusal>) -> Result<(), Fault> {
-        for refusal in refusals {
-            self.push(WitRefusal { file, refusal })?;
-        }
-        Ok(())
     }
 
     /// The refusals, in the order of the files and of the places in them. There is one at least.

@@ -2,6 +2,7 @@
 
 use super::catalog::Catalog;
 use super::error::Fault;
+use super::reason::Reason;
 use indexmap::IndexMap;
 use std::alloc::{AllocError, Global};
 use wac_wit_syntax::Span;
@@ -56,7 +57,7 @@ impl Taken {
     ) -> Result<(), Fault> {
         if let Some(first) = self.spans.get(key.as_str()) {
             let message = self.twice(name, catalog.place(file, *first));
-            return Err(Fault::at(file, span, message));
+            return Err(Fault::at(file, span, message).because(Reason::NameTwice));
         }
         self.spans.insert(key, span)?;
         Ok(())

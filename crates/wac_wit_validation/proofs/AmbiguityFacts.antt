@@ -1,141 +1,26 @@
 -- Scopes that are found, names that are given once, and paths that lead to one interface or world at most.
-use Rattle.std.proofs.Common.{◌≡◌, ◌∙◌, inl, inr, ℕ, zero, suc, ◌+◌, ◌<◌, ◌≤◌, Bool, true, false, arith, cond, List, [], ◌∷◌, ◌++◌, Contains, Option, Some, None, length, get_or, is_some, map, not, refl, sym, ap, subst}
-use Rattle.std.specs.Prelude.{IfOk, IsTrue, Result, nat_eq, slice_get}
+use Rattle.std.proofs.Common.{◌≡◌, ◌∙◌, inl, inr, ℕ, ◌+◌, ◌<◌, ◌≤◌, Bool, true, false, arith, cond, List, Contains, Option, Some, None, length, get_or, is_some, not, refl, sym, ap, subst}
+use Rattle.std.specs.Prelude.{IfOk, IsTrue, Result, slice_get}
 use Rattle.std.specs.Borrow.{Bor}
-use Rattle.std.specs.List.{zip}
 use Rattle.std.specs.Option.{option_copied}
 use Rattle.std.specs.Str.{bytes_eq}
 use borrow.Author.Count.{below_more}
-use Rattle.std.proofs.lemmas.Bool.Decides.{Decides-eqb}
-use Rattle.std.proofs.lemmas.List.Elements.{Contains-append_left, Contains-push}
 use Rattle.std.proofs.lemmas.Option.{same_Some, slice_get_within, slice_get_read, slice_get-get_or}
 use Rattle.std.proofs.lemmas.Result.{IfOk-weaker}
 use Rattle.std.proofs.lemmas.Slice.Eq.{bytes_eq-Decides}
 use Rattle.wac_model.specs.Text.{Text}
-use Rattle.wac_wit_names.specs.declared.features.Features.{Features}
-use Rattle.wac_wit_names.specs.declared.sources.SourceFile.{SourceFile}
-use Rattle.wac_wit_syntax.specs.declared.tree.Document.{Document}
 use Rattle.wac_wit_syntax.specs.declared.tree.PackageName.{PackageName}
 use Rattle.wac_wit_syntax.specs.declared.tree.Path.{Path}
 use Rattle.wac_wit_syntax.specs.declared.tree.TopItem.{TopItem}
 use Rattle.wac_wit_syntax.specs.declared.tree.TopItem.TheVariants as top
 use Rattle.wac_wit_syntax.specs.declared.tree.TopUse.{TopUse}
-use Rattle.wac_wit_validation.proofs.PathFacts.{no_value}
-use Rattle.wac_wit_validation.proofs.ScopeFacts.{file_syntax}
-use Rattle.wac_wit_validation.specs.Ambiguity.{GiveNamesOnce, KeepsNoted, HasAllScopes, HasFileScopes, HasFreeUses, HasGroup, HasGroups, HasScopes, IsFreeUse, NotesItems, item_identifier, item_use_name, use_name}
-use Rattle.wac_wit_validation.specs.Checking.{HasScope}
-use Rattle.wac_wit_validation.specs.Checking.{scope_syntax}
+use Rattle.wac_wit_scopes.proofs.PathFacts.{no_value}
+use Rattle.wac_wit_validation.specs.Ambiguity.{GiveNamesOnce, KeepsNoted, HasFreeUses, IsFreeUse, NotesItems, item_identifier, item_use_name, use_name}
+use Rattle.wac_wit_scopes.specs.Scopes.{HasScope, scope_syntax}
 use Rattle.wac_wit_validation.specs.Placed.{IsUnambiguous}
-use Rattle.wac_wit_validation.specs.WitSources.{FileSyntax, HaveOneName, IsNamedPackage, IsOnlyVersion, IsPackageOf, IsScopeOf, PackageId, PathLeadsTo, ScopeSyntax, WitSources, a_file, a_nested, alone, by_use, directly, exactly, ident_text, interface_identifier, package_id, sources_of}
-use Rattle.wac_wit_validation.specs.declared.sources.ScopeItems.{ScopeItems}
+use Rattle.wac_wit_scopes.specs.WitSources.{HaveOneName, IsNamedPackage, IsOnlyVersion, IsPackageOf, IsScopeOf, PackageId, PathLeadsTo, ScopeSyntax, WitSources, by_use, directly, exactly, ident_text, interface_identifier, package_id, alone}
+use Rattle.wac_wit_scopes.specs.declared.scopes.ScopeItems.{ScopeItems}
 use Rattle.wac_wit_validation.specs.declared.validator.ItemPlace.{ItemPlace}
-
--- ---- all scopes are found
-
--- a file that is read, and its tree
-zipped_file : (files : List SourceFile) (documents : List Document) (i : ℕ) (f : FileSyntax) → slice_get (map file_syntax (zip files documents)) i ≡ Some f
-    → (s : SourceFile) × (slice_get files i ≡ Some s) × (s.group ≡ f.group) × (slice_get documents i ≡ Some f.document)
-zipped_file [] documents i f h = absurd (cc)
-zipped_file (a ∷ files) [] i f h = absurd (cc)
-zipped_file (a ∷ files) (d ∷ documents) zero f h =
-    let same = same_Some _ _ h in (a, refl, ap (λ (g : FileSyntax). g.group) same, ap (λ (g : FileSyntax). Some g.document) same)
-zipped_file (a ∷ files) (d ∷ documents) (suc i) f h = zipped_file files documents i f h
-
--- what holds of each file before an index with its tree
-module _ (files : List SourceFile) (documents : List Document) where
-  abbrev pub FilesBelow : (SourceFile → Document → Type 0) → ℕ → Type 0
-  FilesBelow P limit = (i : ℕ) → i < limit → (f : SourceFile) (d : Document) → slice_get files i ≡ Some f → slice_get documents i ≡ Some d → P f d
-
-  FilesBelow-none : (P : SourceFile → Document → Type 0) → FilesBelow P 0
-  FilesBelow-none P i h = absurd (omega (arith, h))
-
-  FilesBelow-more : (P Q : SourceFile → Document → Type 0) (i : ℕ) (f : SourceFile) (d : Document) → slice_get files i ≡ Some f → slice_get documents i ≡ Some d → ((g : SourceFile) (e : Document) → P g e → Q g e) → Q f d → FilesBelow P i → FilesBelow Q (i + 1)
-  FilesBelow-more P Q i f d f_at d_at keeps here all j h = below_more (λ (m : ℕ). (g : SourceFile) (e : Document) → slice_get files m ≡ Some g → slice_get documents m ≡ Some e → Q g e) i (λ m below g e g_at e_at. keeps g e (all m below g e g_at e_at))
-      (λ g e g_at e_at. subst (λ (p : SourceFile × Document). Q p.0 p.1) (λ k. (same_Some f g (sym f_at ∙ g_at) k, same_Some d e (sym d_at ∙ e_at) k)) here) j h
-
-  FilesBelow-end : (P : SourceFile → Document → Type 0) (limit : ℕ) → length documents ≤ limit → FilesBelow P limit → (i : ℕ) (f : SourceFile) (d : Document) → slice_get files i ≡ Some f → slice_get documents i ≡ Some d → P f d
-  FilesBelow-end P limit past all i f d f_at d_at = all i (omega (arith, slice_get_within documents i d d_at, past)) f d f_at d_at
-
-  -- groups that are known
-  abbrev NamesKnown : (ℕ → Option (Bor PackageName)) → SourceFile → Document → Type 0
-  NamesKnown known f d = (n : PackageName) → d.package ≡ Some n → HasGroup known f.group n
-
-  abbrev pub HasGroupsBelow : (ℕ → Option (Bor PackageName)) → ℕ → Type 0
-  HasGroupsBelow known limit = FilesBelow (NamesKnown known) limit
-
-  pub HasGroupsBelow-none : (known : ℕ → Option (Bor PackageName)) → HasGroupsBelow known 0
-  HasGroupsBelow-none known = FilesBelow-none (NamesKnown known)
-
-  pub HasGroupsBelow-more : (before after : ℕ → Option (Bor PackageName)) (i : ℕ) (f : SourceFile) (d : Document) → slice_get files i ≡ Some f → slice_get documents i ≡ Some d → ((g : ℕ) (n : PackageName) → HasGroup before g n → HasGroup after g n)
-      → ((n : PackageName) → d.package ≡ Some n → HasGroup after f.group n) → HasGroupsBelow before i → HasGroupsBelow after (i + 1)
-  HasGroupsBelow-more before after i f d f_at d_at keeps here all = FilesBelow-more (NamesKnown before) (NamesKnown after) i f d f_at d_at (λ g e h n is. keeps g.group n (h n is)) here all
-
-  pub HasGroupsBelow-end : (known : ℕ → Option (Bor PackageName)) (limit : ℕ) → length documents ≤ limit → HasGroupsBelow known limit → HasGroups known files documents
-  HasGroupsBelow-end known limit past all = FilesBelow-end (NamesKnown known) limit past all
-
-  -- scopes that are found
-  module _ (known : ℕ → Option (Bor PackageName)) where
-    abbrev ScopesFound : List ScopeItems → SourceFile → Document → Type 0
-    ScopesFound ws f d = HasFileScopes ws known f.group d
-
-    abbrev pub HasScopesBelow : List ScopeItems → ℕ → Type 0
-    HasScopesBelow ws limit = FilesBelow (ScopesFound ws) limit
-
-    pub HasScopesBelow-none : (ws : List ScopeItems) → HasScopesBelow ws 0
-    HasScopesBelow-none ws = FilesBelow-none (ScopesFound ws)
-
-    pub HasScopesBelow-more : (before after : List ScopeItems) (i : ℕ) (f : SourceFile) (d : Document) (n : Bor PackageName) → slice_get files i ≡ Some f → slice_get documents i ≡ Some d → ((w : ScopeSyntax) → HasScope before w → HasScope after w)
-        → known f.group ≡ Some n → HasScopes after n.now d → HasScopesBelow before i → HasScopesBelow after (i + 1)
-    HasScopesBelow-more before after i f d n f_at d_at keeps is here all = FilesBelow-more (ScopesFound before) (ScopesFound after) i f d f_at d_at
-        (λ g e h. record { package_name = h.package_name; at = h.at; scopes = record { own = keeps _ h.scopes.own; nested = λ p among. keeps _ (h.scopes.nested p among) } })
-        (record { package_name = n; at = is; scopes = here }) all
-
-    pub HasScopesBelow-end : (ws : List ScopeItems) (limit : ℕ) → length documents ≤ limit → HasScopesBelow ws limit → HasAllScopes ws known files documents
-    HasScopesBelow-end ws limit past all = FilesBelow-end (ScopesFound ws) limit past all
-
-module _ (files : List SourceFile) (documents : List Document) (features : Features) where
-  file_read : (f : FileSyntax) → Contains (sources_of files documents features).files f → (i : ℕ) × (s : SourceFile) × (slice_get files i ≡ Some s) × (s.group ≡ f.group) × (slice_get documents i ≡ Some f.document)
-  file_read f among = let h = zipped_file files documents among.0 f (slice_get-get_or _ among.0 f among.1 ∙ ap Some among.2) in (among.0, h.0, h.1, h.2, h.3)
-
-  module _ (known : ℕ → Option (Bor PackageName)) (groups : HasGroups known files documents) (ws : List ScopeItems) (all : HasAllScopes ws known files documents) where
-    scopes_at : (f : FileSyntax) → Contains (sources_of files documents features).files f → HasFileScopes ws known f.group f.document
-    scopes_at f among = let r = file_read f among in subst (λ (g : ℕ). HasFileScopes ws known g f.document) r.3 (all r.0 r.1 f.document r.2 r.4)
-
-    group_at : (f : FileSyntax) (n : PackageName) → Contains (sources_of files documents features).files f → f.document.package ≡ Some n → HasGroup known f.group n
-    group_at f n among names = let r = file_read f among in subst (λ (g : ℕ). HasGroup known g n) r.3 (groups r.0 r.1 f.document r.2 r.4 n names)
-
-    -- each scope is among those that were found
-    pub scopes_found : (w : ScopeSyntax) → IsScopeOf (sources_of files documents features) w → HasScope ws w
-    scopes_found _ (a_file f g n f_in g_in same names) =
-        let h = scopes_at f f_in in
-        let group = subst (λ (k : ℕ). HasGroup known k n) same (group_at g n g_in names) in
-        let one = ap (λ (m : Bor PackageName). package_id m.now) (same_Some _ _ (sym h.at ∙ group.at)) ∙ group.same in
-        subst (λ (p : PackageId). HasScope ws (record { «package» = p; items = f.document.items.items })) one h.scopes.own
-    scopes_found _ (a_nested f n f_in n_in) = (scopes_at f f_in).scopes.nested n n_in
-
--- a group whose package wasn't known
-module _ (before after : ℕ → Option (Bor PackageName)) (group : ℕ) (n : Bor PackageName) (updates : (q : ℕ) → after q ≡ cond (nat_eq group q) (Some n) (before q)) where
-  at_group : (g : ℕ) (b : Bool) → nat_eq group g ≡ b → after g ≡ cond b (Some n) (before g)
-  at_group g b is = updates g ∙ ap (λ c. cond c (Some n) (before g)) is
-
-  pub HasGroup-put : HasGroup after group n.now
-  HasGroup-put = record { package_name = n; at = at_group group true ((Decides-eqb group group).1 refl); same = refl }
-
-  pub HasGroup-kept : before group ≡ None → (g : ℕ) (m : PackageName) → HasGroup before g m → HasGroup after g m
-  HasGroup-kept none g m h = record { package_name = h.package_name; at = by (nat_eq group g) refl; same = h.same }
-    where
-      by : (b : Bool) → nat_eq group g ≡ b → after g ≡ Some h.package_name
-      by true e = let same : group ≡ g = (Decides-eqb group g).0 e in let no = sym none ∙ ap before same ∙ h.at in absurd (cc)
-      by false e = at_group g false e ∙ h.at
-
--- scopes with one more
-pub HasScope-push : (ws : List ScopeItems) (x : ScopeItems) (w : ScopeSyntax) → HasScope ws w → HasScope (ws ++ x ∷ []) w
-HasScope-push ws x w h = record { scope = h.scope; among = Contains-append_left ws (x ∷ []) h.scope h.among; is = h.is }
-
-pub HasScope-last : (ws : List ScopeItems) (x : ScopeItems) → HasScope (ws ++ x ∷ []) (scope_syntax x)
-HasScope-last ws x = record { scope = x; among = Contains-push ws x; is = refl }
-
--- ---- names are given once
 
 -- an item that was noted where nothing was noted before
 module _ (before after : Text → Option ItemPlace) (k : Text) (p : ItemPlace) (updates : (q : Text) → after q ≡ cond (bytes_eq k q) (Some p) (before q)) where

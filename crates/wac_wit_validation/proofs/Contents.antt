@@ -11,7 +11,7 @@ use Rattle.wac_component.specs.declared.items.Type.TheVariants.{Value as TypeVal
 use Rattle.wac_component.specs.declared.items.ValueType.{ValueType}
 use Rattle.wac_wit_validation.specs.Denoted.{Denoted, value_type, Setting, IsDefined, a_record, some_flags, an_enum, AreFieldsOf, field_names}
 use Rattle.wac_wit_validation.specs.Reading.{type_meaning}
-use Rattle.wac_wit_validation.specs.WitSources.{ident_text}
+use Rattle.wac_wit_scopes.specs.WitSources.{ident_text}
 use Rattle.wac_wit_syntax.specs.declared.tree.Field.{Field}
 use Rattle.wac_wit_syntax.specs.declared.tree.Ident.{Ident}
 use Rattle.wac_wit_syntax.specs.declared.tree.TypeDef.TheVariants as def

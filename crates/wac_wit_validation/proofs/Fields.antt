@@ -11,7 +11,7 @@ use Rattle.wac_component.specs.declared.items.ValueType.{ValueType}
 use Rattle.wac_wit_validation.specs.Denoted.{Setting, IsValue, AreFieldsOf, no_fields, more_fields, AreCasesOf, no_cases, bare, with_type, field_names}
 use Rattle.wac_wit_validation.specs.Functions.{IsReturned, returns_nothing, returns}
 use Rattle.wac_wit_validation.specs.Reading.{StandForTypes}
-use Rattle.wac_wit_validation.specs.WitSources.{ident_text}
+use Rattle.wac_wit_scopes.specs.WitSources.{ident_text}
 use Rattle.wac_wit_validation.specs.declared.names.NamedTypes.{NamedTypes}
 use Rattle.wac_wit_syntax.specs.declared.tree.Case.{Case}
 use Rattle.wac_wit_syntax.specs.declared.tree.Field.{Field}

@@ -22,7 +22,7 @@ use Rattle.wac_wit_validation.specs.Denoted.{Denoted, NamesType, Setting, define
 use Rattle.wac_wit_validation.specs.Functions.{HasMethod, of_resource}
 use Rattle.wac_wit_validation.specs.Interfaces.{HasExportOf, a_func, a_method, a_type}
 use Rattle.wac_wit_validation.specs.Reading.{TypesAreNamed, IsItemNamed}
-use Rattle.wac_wit_validation.specs.WitSources.{ScopeSyntax, WitSources}
+use Rattle.wac_wit_scopes.specs.WitSources.{ScopeSyntax, WitSources}
 use Rattle.wac_wit_validation.specs.declared.names.NamedTypes.{NamedTypes}
 use Rattle.wac_wit_validation.specs.declared.progress.ExportMarks.{ExportMarks}
 

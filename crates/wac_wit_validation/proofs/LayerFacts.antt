@@ -20,8 +20,8 @@ use Rattle.wac_wit_validation.proofs.AmbiguityFacts.{EachBelow, EachBelow-end, E
 use Rattle.wac_wit_validation.specs.Denoted.{renamed}
 use Rattle.wac_wit_validation.specs.Placed.{LeadsToWorld, PlacedWorld}
 use Rattle.wac_wit_validation.specs.Reading.{AreNamesBy, IsComposed, new_name, new_name_or}
-use Rattle.wac_wit_validation.specs.WitSources.{IsEnabled, ScopeSyntax, WitSources, given_name, ident_text}
-use Rattle.wac_wit_validation.specs.WorldChecking.{AddsLayersIn, AreLayersOf, AreNamingItems, CoversInside, GivesNames, IsLayerIn, IsLayerOf, IsRenamedLayer, IsScopeAt, IsTextAt, IsValidatedWorld, IsWorldAt}
+use Rattle.wac_wit_scopes.specs.WitSources.{IsEnabled, ScopeSyntax, WitSources, given_name, ident_text}
+use Rattle.wac_wit_validation.specs.WorldChecking.{AddsLayersIn, AreLayersOf, AreNamingItems, CoversInside, GivesNames, IsLayerIn, IsLayerOf, IsRenamedLayer, IsIndexedScope, IsTextAt, IsValidatedWorld, IsWorldAt}
 use Rattle.wac_wit_validation.specs.WorldClauses.{LeadsToPlace}
 use Rattle.wac_wit_validation.specs.Worlds.{BringsIn, by_include, itself}
 use Rattle.wac_wit_validation.specs.declared.layers.Layer.{Layer}
@@ -199,7 +199,7 @@ not_false b is so = no_truth (subst (λ (x : Bool). IsTrue x) is so)
 
 module _ (of : WitSources) (v : Validator) (scope : ℕ) (item : IncludeItem) (f : FoundWorld) (by : NewNames) (valid : IsValidatedWorld of v f) (leads : LeadsToPlace v scope item.path f.place)
     (is : (n : Text) → new_name_or by n ≡ renamed item.renames.items n) (old new : List Layer) where
-  pub AddsLayersIn-renamed : (w : PlacedWorld) → IsScopeAt v scope of w.scope → Contains w.decl.items.items (of_world.Include item) → IsEnabled of item.gates → AreRenamedLayers f.layers.items by old new
+  pub AddsLayersIn-renamed : (w : PlacedWorld) → IsIndexedScope v scope of w.scope → Contains w.decl.items.items (of_world.Include item) → IsEnabled of item.gates → AreRenamedLayers f.layers.items by old new
       → ((l : Layer) → Contains old l → IsLayerIn of v w l) → (l : Layer) → Contains new l → IsLayerIn of v w l
   AddsLayersIn-renamed w at among there each before l found = in_case (each l found)
     where
@@ -212,7 +212,7 @@ module _ (of : WitSources) (v : Validator) (scope : ℕ) (item : IncludeItem) (f
         is = IsLayerOf-renamed of v h.0 l by item.renames.items inner.renames inner.inside h.2 is inner.is;
       }
 
-  pub CoversInside-renamed : (w : ScopeSyntax) → IsScopeAt v scope of w → ((x : Layer) (t : Bor WorldItem) → Contains f.layers.items x → Contains x.items.items t → (l : Layer) × Contains new l × IsRenamedLayer x by l)
+  pub CoversInside-renamed : (w : ScopeSyntax) → IsIndexedScope v scope of w → ((x : Layer) (t : Bor WorldItem) → Contains f.layers.items x → Contains x.items.items t → (l : Layer) × Contains new l × IsRenamedLayer x by l)
       → (u : PlacedWorld) → LeadsToWorld of w item.path u → (rss : List (List Rename)) (x : PlacedWorld) (t : WorldItem) → BringsIn of u rss x → Contains x.decl.items.items t → GivesNames of t
       → (l : Layer) × Contains new l × IsLayerOf of v l (item.renames.items ∷ rss) x
   CoversInside-renamed w at all u to rss x t brings among gives =

@@ -6,9 +6,8 @@ pub mod NameFacts
 pub mod ValueFacts
 pub mod MarkFacts
 pub mod ItemFacts
-pub mod PathFacts
+pub mod LedNames
 pub mod FoundFacts
-pub mod ScopeFacts
 pub mod WorldFacts
 pub mod WorldWhole
 pub mod AmbiguityFacts

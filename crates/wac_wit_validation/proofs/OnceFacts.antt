@@ -13,12 +13,12 @@ use Rattle.wac_wit_syntax.specs.declared.tree.UseItem.{UseItem}
 use Rattle.wac_wit_validation.proofs.AmbiguityFacts.{slice_get-among}
 use Rattle.wac_wit_validation.proofs.ItemFacts.{offered_items}
 use Rattle.wac_wit_validation.specs.Ambiguity.{KeepsNoted}
-use Rattle.wac_wit_validation.specs.Checking.{HasScope}
+use Rattle.wac_wit_scopes.specs.Scopes.{HasScope}
 use Rattle.wac_wit_validation.specs.Denoted.{Setting, interface_setting}
 use Rattle.wac_wit_validation.specs.Once.{HasFeatures, InsideGivesOnce, ItemsGiveOnce, NotesInner}
 use Rattle.wac_wit_validation.specs.OneMeaning.{AllGiveOnce, GivesOnce, GivesType, GivesUse}
-use Rattle.wac_wit_validation.specs.WitSources.{IsScopeOf, ScopeSyntax, WitSources, given_name, ident_text}
-use Rattle.wac_wit_validation.specs.declared.sources.ScopeItems.{ScopeItems}
+use Rattle.wac_wit_scopes.specs.WitSources.{IsScopeOf, ScopeSyntax, WitSources, given_name, ident_text}
+use Rattle.wac_wit_scopes.specs.declared.scopes.ScopeItems.{ScopeItems}
 use Rattle.wac_wit_validation.specs.declared.validator.ItemPlace.{ItemPlace}
 
 -- a name that a `use` gives is noted

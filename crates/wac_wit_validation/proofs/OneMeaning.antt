@@ -22,7 +22,7 @@ use Rattle.wac_wit_syntax.specs.declared.tree.UseItem.{UseItem}
 use Rattle.wac_wit_validation.specs.Denoted.{Denoted, value_type, resource_type, Setting, NamesType, defined, used, IsDefined, another_name, alias, a_record, a_variant, some_flags, an_enum, a_resource, IsValue, a_primitive, name, handle, owned, borrowed, a_list, fixed_list, an_option, a_result, a_tuple, a_map, a_future, a_stream, IsOptional, nothing, something, AreValuesOf, no_values, more_values, AreFieldsOf, no_fields, more_fields, AreCasesOf, no_cases, bare, with_type, field_names, interface_setting, type_name}
 use Rattle.wac_wit_validation.specs.OneMeaning.{AllGiveOnce, GivesOnce, GivesUse, HaveOneMeaning}
 use Rattle.wac_wit_validation.specs.Placed.{IsUnambiguous, PlacedInterface}
-use Rattle.wac_wit_validation.specs.WitSources.{HasInterface, PathLeadsTo, ScopeSyntax, WitSources, ident_text}
+use Rattle.wac_wit_scopes.specs.WitSources.{HasInterface, PathLeadsTo, ScopeSyntax, WitSources, ident_text}
 
 value_type-same : (v w : ValueTree) → value_type v ≡ value_type w → v ≡ w
 value_type-same v w e = cc

@@ -32,16 +32,17 @@ use Rattle.wac_wit_syntax.specs.declared.tree.TypeExpr.{TypeExpr}
 use Rattle.wac_wit_syntax.specs.declared.tree.TypeExpr.TheVariants as ty
 use Rattle.wac_wit_syntax.specs.declared.tree.TypeItem.{TypeItem}
 use Rattle.wac_wit_syntax.specs.declared.tree.UseItem.{UseItem}
-use Rattle.wac_wit_validation.specs.Checking.{AreExportsOf, HasOrigin, HaveOrigins, IsInterfaceEntry, IsValidated, Knows, LeadsToFound, Offers, scope_syntax}
+use Rattle.wac_wit_validation.specs.Checking.{AreExportsOf, HasOrigin, HaveOrigins, IsInterfaceEntry, IsValidated, Knows, LeadsToFound, Offers}
+use Rattle.wac_wit_scopes.specs.Scopes.{scope_syntax}
 use Rattle.wac_wit_validation.specs.Denoted.{Denoted, IsDefined, NamesType, Setting, a_record, a_resource, a_variant, alias, an_enum, another_name, defined, interface_setting, renamed_by, some_flags, used}
 use Rattle.wac_wit_validation.specs.OneMeaning.{GivesType, GivesUse}
 use Rattle.wac_wit_validation.specs.OriginClauses.{HasOwner, HasRoot, TellsItem, TellsOrigins, TellsUsed, origin_at}
 use Rattle.wac_wit_validation.specs.Origins.{AreOwnersOf, AreUsesOf, ComesFrom, IsOriginOf, IsOwnName, IsOwnerOf, defined_here, named_here, named_so, placed_setting, use_at, used_from, used_through}
 use Rattle.wac_wit_validation.specs.Placed.{LeadsToInterface, PlacedInterface, placed_identifier}
 use Rattle.wac_wit_validation.specs.Reading.{IsTypeNamed, type_meaning}
-use Rattle.wac_wit_validation.specs.WitSources.{HasInterface, IsEnabled, IsScopeOf, ScopeSyntax, WitSources, given_name, ident_text, interface_identifier, package_id}
+use Rattle.wac_wit_scopes.specs.WitSources.{HasInterface, IsEnabled, IsScopeOf, ScopeSyntax, WitSources, given_name, ident_text, interface_identifier, package_id}
 use Rattle.wac_wit_validation.specs.WorldChecking.{IsFoundAs}
-use Rattle.wac_wit_validation.specs.declared.sources.ScopeItems.{ScopeItems}
+use Rattle.wac_wit_scopes.specs.declared.scopes.ScopeItems.{ScopeItems}
 use Rattle.wac_wit_validation.specs.declared.validator.FoundInterface.{FoundInterface}
 use Rattle.wac_wit_validation.specs.declared.validator.Validator.{Validator}
 use Rattle.wac_wit_validation.proofs.FoundFacts.{among_got, tree_of_exports}

@@ -34,25 +34,26 @@ use Rattle.wac_wit_syntax.specs.declared.tree.UseItem.{UseItem}
 use Rattle.wac_wit_syntax.specs.declared.tree.WorldDecl.{WorldDecl}
 use Rattle.wac_wit_validation.specs.Validated.{IsWorldNamed, package_text}
 use Rattle.wac_wit_syntax.specs.declared.tree.TopItem.TheVariants as top
-use Rattle.wac_wit_validation.specs.Checking.{HasItem, IsSettingAt, IsValidated, Knows, scope_syntax}
+use Rattle.wac_wit_validation.specs.Checking.{HasItem, IsSettingAt, IsValidated, Knows}
+use Rattle.wac_wit_scopes.specs.Scopes.{scope_syntax}
 use Rattle.wac_wit_validation.specs.Denoted.{Setting, uses_in}
 use Rattle.wac_wit_validation.specs.Interfaces.{IsInterfaceTree}
 use Rattle.wac_wit_validation.specs.Placed.{HasWorld, LeadsToInterface, PlacedInterface, PlacedWorld, placed_identifier}
-use Rattle.wac_wit_validation.specs.WitSources.{HasInterface, IsScopeOf, ScopeSyntax, WitSources, ident_text, package_id, version_text}
-use Rattle.wac_wit_validation.specs.WorldChecking.{AreInterfacesThere, AreItemsOf, AreLayersOf, AreMarksOf, AreSideOf, AreWorldSides, IsFoundAs, IsInterfaceAt, IsLayerOf, IsMarkOf, IsPlacedAt, IsScopeAt, IsTextAt, IsValidatedWorld, IsWorldAt, KnowsWorlds, StaysAs, UsesTypes}
+use Rattle.wac_wit_scopes.specs.WitSources.{HasInterface, IsScopeOf, ScopeSyntax, WitSources, ident_text, package_id, version_text}
+use Rattle.wac_wit_validation.specs.WorldChecking.{AreInterfacesThere, AreItemsOf, AreLayersOf, AreMarksOf, AreSideOf, AreWorldSides, IsFoundAs, IsInterfaceAt, IsLayerOf, IsMarkOf, IsPlacedAt, IsIndexedScope, IsTextAt, IsValidatedWorld, IsWorldAt, KnowsWorlds, StaysAs, UsesTypes}
 use Rattle.wac_wit_validation.specs.Worlds.{HasExternInterface, HasExternOf, SaysExtern, SaysInclude, SaysInterface, UsesInterface, by_include, extern_interface, extern_item, imported, itself, used_by_import}
 use Rattle.wac_wit_validation.specs.declared.marks.ExternMark.{ExternMark}
 use Rattle.wac_wit_validation.specs.declared.marks.ExternMark.TheVariants.{Found, Unmarked, Written}
 use Rattle.wac_wit_validation.specs.declared.layers.Layer.{Layer}
 use Rattle.wac_wit_validation.specs.declared.marks.ExternMarks.{ExternMarks}
 use Rattle.wac_wit_validation.specs.declared.marks.WorldMarks.{WorldMarks}
-use Rattle.wac_wit_validation.specs.declared.sources.ScopeItems.{ScopeItems}
+use Rattle.wac_wit_scopes.specs.declared.scopes.ScopeItems.{ScopeItems}
 use Rattle.wac_wit_validation.specs.declared.validator.FoundInterface.{FoundInterface}
 use Rattle.wac_wit_validation.specs.declared.validator.FoundWorld.{FoundWorld}
 use Rattle.wac_wit_validation.specs.declared.validator.ItemPlace.{ItemPlace}
 use Rattle.wac_wit_validation.specs.declared.validator.Validator.{Validator}
 use Rattle.wac_wit_validation.specs.declared.validator.WorldText.{WorldText}
-use Rattle.wac_wit_validation.proofs.PathFacts.{contains_at}
+use Rattle.wac_wit_scopes.proofs.PathFacts.{contains_at}
 use Rattle.wac_wit_validation.proofs.FoundFacts.{found_kept, knows_kept}
 
 -- ---- what is told of results, and items under names
@@ -106,19 +107,19 @@ module _ (of : WitSources) (v : Validator) (f : FoundInterface) (i : PlacedInter
       (record { scope = (knows.scopes f.place.scope found.valid.scope found.valid.at_scope).is_scope; item = contains_at found.valid.scope.items.now f.place.item (top.Interface found.valid.decl) found.valid.at_item; there = found.valid.there; named = refl })
 
 -- a scope that is looked at is that of the setting
-pub setting_at : (of : WitSources) (v : Validator) (scope : ℕ) (s : Setting) → IsScopeAt v scope s.sources s.scope → IsSettingAt v scope s
+pub setting_at : (of : WitSources) (v : Validator) (scope : ℕ) (s : Setting) → IsIndexedScope v scope s.sources s.scope → IsSettingAt v scope s
 setting_at of v scope s h = record { knows = h.knows.interfaces; at = λ x at. h.is ∙ ap scope_syntax (same_Some _ _ (sym h.at ∙ at)) }
 
 -- the scope of an interface that was found
-pub scope_placed : (of : WitSources) (v : Validator) (place : ItemPlace) (i : PlacedInterface) → KnowsWorlds of v → IsPlacedAt v place i → IsScopeAt v place.scope of i.scope
+pub scope_placed : (of : WitSources) (v : Validator) (place : ItemPlace) (i : PlacedInterface) → KnowsWorlds of v → IsPlacedAt v place i → IsIndexedScope v place.scope of i.scope
 scope_placed of v place i knows at = record { knows = knows; items = at.scope; at = at.at_scope; is = at.is }
 
 -- the scope of a world that is written at a place
-pub scope_of_world : (of : WitSources) (v : Validator) (place : ItemPlace) (w : PlacedWorld) → KnowsWorlds of v → IsWorldAt of v place w → IsScopeAt v place.scope of w.scope
+pub scope_of_world : (of : WitSources) (v : Validator) (place : ItemPlace) (w : PlacedWorld) → KnowsWorlds of v → IsWorldAt of v place w → IsIndexedScope v place.scope of w.scope
 scope_of_world of v place w knows at = record { knows = knows; items = at.scope; at = at.at_scope; is = at.is }
 
 -- the scope is one of what is read
-pub scope_of : (of : WitSources) (v : Validator) (scope : ℕ) (w : ScopeSyntax) → IsScopeAt v scope of w → IsScopeOf of w
+pub scope_of : (of : WitSources) (v : Validator) (scope : ℕ) (w : ScopeSyntax) → IsIndexedScope v scope of w → IsScopeOf of w
 scope_of of v scope w h = subst (IsScopeOf of) (sym h.is) (h.knows.interfaces.scopes scope h.items h.at).is_scope
 
 -- ---- what a world says

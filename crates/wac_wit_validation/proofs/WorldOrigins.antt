@@ -23,7 +23,7 @@ use Rattle.wac_wit_validation.specs.OriginClauses.{HasUseRoot, TellsItem, TellsW
 use Rattle.wac_wit_validation.specs.Origins.{AreOwnersOf, AreWorldUsesOf, IsWorldOriginOf, use_at}
 use Rattle.wac_wit_validation.specs.Placed.{PlacedWorld}
 use Rattle.wac_wit_validation.specs.Reading.{type_meaning}
-use Rattle.wac_wit_validation.specs.WitSources.{ScopeSyntax, WitSources}
+use Rattle.wac_wit_scopes.specs.WitSources.{ScopeSyntax, WitSources}
 use Rattle.wac_wit_validation.specs.WorldChecking.{AreItemsOf, AreLayersOf, AreWorldSides, GivesNames, IsEntryOf, IsTextAt, IsValidatedWorld, IsWorldAt, KnowsWorlds, StaysAs, text_content}
 use Rattle.wac_wit_validation.specs.Worlds.{BringsIn, HasExternOf, extern_func, extern_inline, extern_interface, extern_method, extern_type, world_setting}
 use Rattle.wac_wit_validation.specs.declared.layers.Layer.{Layer}

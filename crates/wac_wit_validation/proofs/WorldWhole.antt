@@ -32,7 +32,7 @@ use Rattle.wac_wit_validation.specs.Checking.{HasItem, IsRepresented, Offers}
 use Rattle.wac_wit_validation.specs.Denoted.{Denoted, NamesType, defined, renamed_by, resource_type, used, value_type}
 use Rattle.wac_wit_validation.specs.Functions.{HasMethod, of_resource}
 use Rattle.wac_wit_validation.specs.Placed.{PlacedInterface, PlacedWorld, placed_identifier}
-use Rattle.wac_wit_validation.specs.WitSources.{IsEnabled, WitSources}
+use Rattle.wac_wit_scopes.specs.WitSources.{IsEnabled, WitSources}
 use Rattle.wac_wit_validation.specs.WorldChecking.{AreInterfacesThere, AreItemsOf, AreLayersOf, AreMarksOf, AreNamingItems, ExportNeeds, GivesNames, HasAllNeeds, HasNamed, HasOwnName, ImportNeeds, IsEntryOf, IsImportedOrExported, IsItemRepresented, IsMarkedAs, IsNamedThere, IsPathThere, KnowsWorlds, OffersItem}
 use Rattle.wac_wit_validation.specs.WorldClauses.{CoversLayer, imported_name}
 use Rattle.wac_wit_validation.specs.Worlds.{AreWorldExterns, BringsIn, ExportsInterface, HasExternInterface, HasExternOf, ImportsInterface, IsUsedByExport, IsWorldTree, SaysExtern, SaysInclude, SaysInterface, by_include, extern_item, extern_func, extern_inline, extern_interface, extern_method, extern_type, imported, itself, used_by_export, used_by_import, used_by_inline, used_by_interface, used_by_world, used_inside, types_of_world, uses_of_world, world_setting}

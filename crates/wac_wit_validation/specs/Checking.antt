@@ -15,7 +15,8 @@ use Rattle.wac_component.specs.declared.items.Type.{«Type» as TypeOf}
 use Rattle.wac_wit_names.specs.Features.{has_feature}
 use Rattle.wac_wit_validation.specs.Origins.{AreOwnersOf, AreUsesOf, ComesFrom, placed_setting, use_at}
 use Rattle.wac_wit_validation.specs.Placed.{IsUnambiguous, PlacedInterface, placed_identifier}
-use Rattle.wac_wit_validation.specs.WitSources.{WitSources, ScopeSyntax, IsInGroup, IsOnlyVersion, IsScopeOf, IsEnabled, HasInterface, PathLeadsTo, ident_text, given_name, interface_identifier, package_id}
+use Rattle.wac_wit_scopes.specs.Scopes.{HasScope, IsKnownScope, scope_syntax}
+use Rattle.wac_wit_scopes.specs.WitSources.{WitSources, ScopeSyntax, IsScopeOf, IsEnabled, HasInterface, PathLeadsTo, ident_text, given_name, interface_identifier, package_id}
 use Rattle.wac_wit_validation.specs.Denoted.{Denoted, Setting, NamesType, interface_setting, type_name}
 use Rattle.wac_wit_validation.specs.Functions.{IsMethodOf, HasMethod, method_name}
 use Rattle.wac_wit_validation.specs.Interfaces.{HasExportOf, IsInterfaceTree}
@@ -23,7 +24,7 @@ use Rattle.wac_wit_validation.specs.OneMeaning.{HaveOneMeaning}
 use Rattle.wac_wit_validation.specs.Reading.{Renames, TypesAreNamed, IsItemNamed}
 use Rattle.wac_wit_validation.specs.declared.progress.ExportMarks.{ExportMarks}
 use Rattle.wac_wit_validation.specs.declared.names.NamedTypes.{NamedTypes}
-use Rattle.wac_wit_validation.specs.declared.sources.ScopeItems.{ScopeItems}
+use Rattle.wac_wit_scopes.specs.declared.scopes.ScopeItems.{ScopeItems}
 use Rattle.wac_wit_validation.specs.declared.validator.FoundInterface.{FoundInterface}
 use Rattle.wac_wit_validation.specs.declared.validator.Validator.{Validator}
 use Rattle.wac_wit_syntax.specs.declared.tree.InterfaceDecl.{InterfaceDecl}
@@ -97,16 +98,6 @@ pub record AreExportsOf (s : Setting) (c : Collection) (es : List (Text × ItemK
   pub types : (n : Text) (m : Denoted) → NamesType s n m → HasTypeItem es n
   pub methods : (n : Text) (g : FuncTree) → HasMethod s n g → HasFuncItem es n
 
-abbrev pub scope_syntax : ScopeItems → ScopeSyntax
-scope_syntax w = record { «package» = package_id w.package.now; items = w.items.now }
-
--- where the items of a scope of what is read stand, in which group of files, and whether it is said that no other version is
--- there, which is so
-pub record IsKnownScope (of : WitSources) (w : ScopeItems) : Type 0 where
-  pub is_scope : IsScopeOf of (scope_syntax w)
-  pub in_group : IsInGroup of (package_id w.package.now) w.group
-  pub alone : w.is_alone ≡ true → IsOnlyVersion of (package_id w.package.now)
-
 -- an entry is that of an interface
 pub record IsInterfaceEntry (of : WitSources) (c : Collection) (i : PlacedInterface) (e : InterfaceContent) : Type 0 where
   pub identified : e.id ≡ Some (placed_identifier i)
@@ -138,12 +129,6 @@ pub record IsValidated (of : WitSources) (v : Validator) (f : FoundInterface) : 
   pub origins : (content : InterfaceContent) → slice_get v.types.now.interfaces f.id.index ≡ Some content → HaveOrigins v.types.now (interface_setting of (scope_syntax scope) decl.items.items) content.uses
   pub owners : (content : InterfaceContent) → slice_get v.types.now.interfaces f.id.index ≡ Some content → AreOwnersOf v.types.now content.uses content.exports
   pub tree : IsInterfaceTree of (scope_syntax scope) decl.items.items (item_tree v.types.now (Instance f.id))
-
--- a scope is one of those that were found
-pub record HasScope (ws : List ScopeItems) (w : ScopeSyntax) : Type 0 where
-  pub scope : ScopeItems
-  pub among : Contains ws scope
-  pub is : scope_syntax scope ≡ w
 
 -- what is known is so of what is read
 pub record Knows (of : WitSources) (v : Validator) : Type 0 where

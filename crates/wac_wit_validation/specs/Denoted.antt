@@ -6,7 +6,7 @@ use Rattle.std.specs.declared.alloc.Global.{Global}
 use Rattle.wac_model.specs.Text.{Text}
 use Rattle.wac_model.specs.ValueTree.{ValueTree, borrow, enum, fixed_size_list, flags, future, list, map_of, no_parts, node, option, own, part, parts_of, primitive, record_of, result_of, stream, tuple, variant}
 use Rattle.wac_model.specs.declared.primitive.PrimitiveType.{PrimitiveType}
-use Rattle.wac_wit_validation.specs.WitSources.{WitSources, ScopeSyntax, ident_text, given_name, IsEnabled, HasInterface, PathLeadsTo}
+use Rattle.wac_wit_scopes.specs.WitSources.{WitSources, ScopeSyntax, ident_text, given_name, IsEnabled, HasInterface, PathLeadsTo}
 use Rattle.wac_wit_syntax.specs.declared.positions.Span.{Span}
 use Rattle.wac_wit_syntax.specs.declared.tree.Case.{Case}
 use Rattle.wac_wit_syntax.specs.declared.tree.Field.{Field}

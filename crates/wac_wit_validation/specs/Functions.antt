@@ -3,7 +3,7 @@ use Rattle.std.specs.Prelude.{◌≡◌, codes, List, [], ◌∷◌, ◌++◌, C
 use Rattle.std.specs.declared.alloc.Global.{Global}
 use Rattle.wac_model.specs.Text.{Text}
 use Rattle.wac_model.specs.ValueTree.{FuncTree, ValueTree, borrow, no_parts, node, own}
-use Rattle.wac_wit_validation.specs.WitSources.{IsEnabled, ident_text}
+use Rattle.wac_wit_scopes.specs.WitSources.{IsEnabled, ident_text}
 use Rattle.wac_wit_validation.specs.Denoted.{Setting, IsValue, AreFieldsOf, field_names, type_name}
 use Rattle.wac_wit_syntax.specs.declared.tree.Method.{Method}
 use Rattle.wac_wit_syntax.specs.declared.tree.MethodKind.{MethodKind}

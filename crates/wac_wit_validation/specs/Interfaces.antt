@@ -3,7 +3,7 @@ use Rattle.std.specs.Prelude.{◌≡◌, List, [], Contains, Some, IsSome}
 use Rattle.wac_model.specs.Text.{Text}
 use Rattle.wac_model.specs.ItemTree.{ItemTree, Items, leaf, composite, func, interface, item, item_at, no_items, resource, type_item, value}
 use Rattle.wac_model.specs.ValueTree.{FuncTree}
-use Rattle.wac_wit_validation.specs.WitSources.{WitSources, ScopeSyntax, IsEnabled, ident_text}
+use Rattle.wac_wit_scopes.specs.WitSources.{WitSources, ScopeSyntax, IsEnabled, ident_text}
 use Rattle.wac_wit_validation.specs.Denoted.{Denoted, value_type, resource_type, Setting, NamesType, interface_setting}
 use Rattle.wac_wit_validation.specs.Functions.{IsFuncOf, HasMethod}
 use Rattle.wac_wit_syntax.specs.declared.tree.FuncItem.{FuncItem}

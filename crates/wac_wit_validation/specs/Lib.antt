@@ -1,4 +1,3 @@
-pub mod WitSources
 pub mod Placed
 pub mod Denoted
 pub mod Functions
@@ -12,7 +11,6 @@ pub mod WorldChecking
 pub mod WorldClauses
 pub mod Validated
 pub mod Listing
-pub mod Naming
 pub mod Ambiguity
 pub mod OneMeaning
 pub mod Once

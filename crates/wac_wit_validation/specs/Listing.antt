@@ -9,7 +9,7 @@ use Rattle.wac_wit_syntax.specs.declared.tree.TopItem.TheVariants as top
 use Rattle.wac_wit_syntax.specs.declared.tree.WorldDecl.{WorldDecl}
 use Rattle.wac_wit_validation.specs.Placed.{HasWorld}
 use Rattle.wac_wit_validation.specs.Validated.{package_text}
-use Rattle.wac_wit_validation.specs.WitSources.{HasInterface, IsEnabled, IsInGroup, PackageId, ScopeSyntax, WitSources, ident_text}
+use Rattle.wac_wit_scopes.specs.WitSources.{HasInterface, IsEnabled, IsInGroup, IsScopeOf, PackageId, ScopeSyntax, WitSources, ident_text}
 use Rattle.wac_wit_validation.specs.declared.listing.PackageListing.{PackageListing}
 
 -- what is said is said of the package, and of the group of files that it is in
@@ -28,10 +28,17 @@ ListsWorld l n = IsSome (get_by_text l.worlds.now n)
 abbrev pub HasListing : WitSources → List PackageListing → PackageId → (PackageListing → Type 0) → Type 0
 HasListing of ls p Has = (l : PackageListing) × Contains ls l × IsListingOf of l p × Has l
 
--- each interface and each world that is read is listed, under its name in its package
+-- it is said of the package of a scope
+pub record IsOfText (of : WitSources) (l : PackageListing) : Type 0 where
+  pub scope : ScopeSyntax
+  pub is_scope : IsScopeOf of scope
+  pub listing : IsListingOf of l scope.package
+
+-- each interface and each world that is read is listed, under its name in its package; and nothing is said of other packages
 pub record AreAllListed (of : WitSources) (ls : List PackageListing) : Type 0 where
   pub interfaces : (w : ScopeSyntax) (n : Text) (d : InterfaceDecl) → HasInterface of w n d → HasListing of ls w.«package» (λ l. ListsInterface l n)
   pub worlds : (w : ScopeSyntax) (n : Text) (d : WorldDecl) → HasWorld of w n d → HasListing of ls w.«package» (λ l. ListsWorld l n)
+  pub of_texts : (l : PackageListing) → Contains ls l → IsOfText of l
 
 -- ---- facts of clauses
 

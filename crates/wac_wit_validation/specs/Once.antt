@@ -11,7 +11,7 @@ use Rattle.wac_wit_syntax.specs.declared.tree.TopItem.{TopItem}
 use Rattle.wac_wit_syntax.specs.declared.tree.TopItem.TheVariants as top
 use Rattle.wac_wit_syntax.specs.declared.tree.TypeItem.{TypeItem}
 use Rattle.wac_wit_syntax.specs.declared.tree.UseItem.{UseItem}
-use Rattle.wac_wit_validation.specs.WitSources.{IsEnabled, WitSources, given_name, ident_text}
+use Rattle.wac_wit_scopes.specs.WitSources.{IsEnabled, WitSources, given_name, ident_text}
 use Rattle.wac_wit_validation.specs.declared.validator.ItemPlace.{ItemPlace}
 
 -- these features are on

@@ -6,7 +6,7 @@ use Rattle.wac_wit_syntax.specs.declared.tree.Rename.{Rename}
 use Rattle.wac_wit_syntax.specs.declared.tree.TypeItem.{TypeItem}
 use Rattle.wac_wit_syntax.specs.declared.tree.UseItem.{UseItem}
 use Rattle.wac_wit_validation.specs.Denoted.{Denoted, NamesType, Setting, interface_setting}
-use Rattle.wac_wit_validation.specs.WitSources.{HasInterface, IsEnabled, ScopeSyntax, WitSources, given_name, ident_text}
+use Rattle.wac_wit_scopes.specs.WitSources.{HasInterface, IsEnabled, ScopeSyntax, WitSources, given_name, ident_text}
 
 -- a type that is there has the name
 pub record GivesType (s : Setting) (n : Text) (t : TypeItem) : Type 0 where

@@ -21,17 +21,18 @@ use Rattle.wac_wit_syntax.specs.declared.tree.TypeItem.{TypeItem}
 use Rattle.wac_wit_syntax.specs.declared.tree.UseItem.{UseItem}
 use Rattle.wac_wit_syntax.specs.declared.tree.WorldItem.{WorldItem}
 use Rattle.wac_wit_syntax.specs.declared.tree.WorldItem.TheVariants as of_world
-use Rattle.wac_wit_validation.specs.Checking.{IsSettingAt, Knows, LeadsToFound, Offers, scope_syntax}
+use Rattle.wac_wit_validation.specs.Checking.{IsSettingAt, Knows, LeadsToFound, Offers}
+use Rattle.wac_wit_scopes.specs.Scopes.{scope_syntax}
 use Rattle.wac_wit_validation.specs.Denoted.{Setting, interface_setting, renamed_by}
 use Rattle.wac_wit_validation.specs.Origins.{AreOwnersOf, IsOwnerOf, use_at}
 use Rattle.wac_wit_validation.specs.Placed.{PlacedWorld}
 use Rattle.wac_wit_validation.specs.Reading.{name_by, type_meaning}
-use Rattle.wac_wit_validation.specs.WitSources.{IsEnabled, WitSources, given_name, ident_text}
+use Rattle.wac_wit_scopes.specs.WitSources.{IsEnabled, WitSources, given_name, ident_text}
 use Rattle.wac_wit_validation.specs.WorldChecking.{IsLayerOf, KnowsWorlds}
 use Rattle.wac_wit_validation.specs.Worlds.{world_setting}
 use Rattle.wac_wit_validation.specs.declared.layers.Layer.{Layer}
 use Rattle.wac_wit_validation.specs.declared.origins.NotedUses.{NotedUses}
-use Rattle.wac_wit_validation.specs.declared.sources.ScopeItems.{ScopeItems}
+use Rattle.wac_wit_scopes.specs.declared.scopes.ScopeItems.{ScopeItems}
 use Rattle.wac_wit_validation.specs.declared.validator.FoundInterface.{FoundInterface}
 use Rattle.wac_wit_validation.specs.declared.validator.Validator.{Validator}
 

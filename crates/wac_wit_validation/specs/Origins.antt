@@ -18,7 +18,7 @@ use Rattle.wac_wit_syntax.specs.declared.tree.TypeItem.{TypeItem}
 use Rattle.wac_wit_syntax.specs.declared.tree.UseItem.{UseItem}
 use Rattle.wac_wit_validation.specs.Denoted.{Denoted, NamesType, Setting, interface_setting, renamed_by}
 use Rattle.wac_wit_validation.specs.Placed.{LeadsToInterface, PlacedInterface, PlacedWorld, placed_identifier}
-use Rattle.wac_wit_validation.specs.WitSources.{IsEnabled, WitSources, given_name, ident_text}
+use Rattle.wac_wit_scopes.specs.WitSources.{IsEnabled, WitSources, given_name, ident_text}
 use Rattle.wac_wit_validation.specs.Worlds.{BringsIn, world_setting}
 
 abbrev pub placed_setting : WitSources → PlacedInterface → Setting

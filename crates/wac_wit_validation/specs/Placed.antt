@@ -5,7 +5,7 @@ use Rattle.wac_wit_syntax.specs.declared.tree.InterfaceDecl.{InterfaceDecl}
 use Rattle.wac_wit_syntax.specs.declared.tree.Path.{Path}
 use Rattle.wac_wit_syntax.specs.declared.tree.TopItem.TheVariants as top
 use Rattle.wac_wit_syntax.specs.declared.tree.WorldDecl.{WorldDecl}
-use Rattle.wac_wit_validation.specs.WitSources.{WitSources, ScopeSyntax, HasInterface, IsEnabled, IsScopeOf, PathLeadsTo, ident_text, interface_identifier}
+use Rattle.wac_wit_scopes.specs.WitSources.{WitSources, ScopeSyntax, HasInterface, IsEnabled, IsScopeOf, PathLeadsTo, ident_text, interface_identifier}
 
 -- an interface, with what it stands in
 pub record PlacedInterface : Type 0 where

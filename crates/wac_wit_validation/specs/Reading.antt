@@ -9,7 +9,7 @@ use Rattle.wac_component.specs.declared.items.ItemKind.TheVariants.{«Type» as 
 use Rattle.wac_component.specs.declared.items.Type.{«Type» as TypeOf}
 use Rattle.wac_component.specs.declared.items.Type.TheVariants.{Resource as TypeResource, Value as TypeValue}
 use Rattle.wac_wit_validation.specs.declared.names.NamedTypes.{NamedTypes}
-use Rattle.wac_wit_validation.specs.WitSources.{ident_text}
+use Rattle.wac_wit_scopes.specs.WitSources.{ident_text}
 use Rattle.wac_wit_validation.specs.declared.layers.NewNames.{NewNames}
 use Rattle.std.specs.Borrow.{Bor}
 use Rattle.indexmap.specs.IndexMap.{get_by_text}

@@ -12,7 +12,7 @@ use Rattle.wac_wit_validation.specs.Interfaces.{IsInterfaceTree}
 use Rattle.wac_wit_validation.specs.Origins.{AreOwnersOf, AreUsesOf, AreWorldUsesOf}
 use Rattle.wac_wit_validation.specs.Placed.{HasWorld, PlacedWorld}
 use Rattle.wac_wit_validation.specs.Worlds.{IsWorldTree}
-use Rattle.wac_wit_validation.specs.WitSources.{HasInterface, PackageId, ScopeSyntax, WitSources, interface_identifier}
+use Rattle.wac_wit_scopes.specs.WitSources.{HasInterface, PackageId, ScopeSyntax, WitSources, interface_identifier}
 
 -- the name of a package without its version, as `wasi:http`
 abbrev pub package_text : PackageId → Text

@@ -22,14 +22,15 @@ use Rattle.wac_wit_syntax.specs.declared.tree.TopItem.TheVariants as top
 use Rattle.wac_wit_syntax.specs.declared.tree.UseItem.{UseItem}
 use Rattle.wac_wit_syntax.specs.declared.tree.WorldItem.{WorldItem}
 use Rattle.wac_wit_syntax.specs.declared.tree.WorldItem.TheVariants as of_world
-use Rattle.wac_wit_validation.specs.Checking.{HasItem, IsRepresented, IsValidated, Knows, named_items, scope_syntax}
+use Rattle.wac_wit_validation.specs.Checking.{HasItem, IsRepresented, IsValidated, Knows, named_items}
+use Rattle.wac_wit_scopes.specs.Scopes.{scope_syntax}
 use Rattle.wac_wit_validation.specs.Denoted.{Denoted, NamesType, Setting, renamed_by, uses_in}
 use Rattle.wac_wit_validation.specs.Functions.{HasMethod}
 use Rattle.wac_wit_syntax.specs.declared.tree.Rename.{Rename}
 use Rattle.wac_wit_validation.specs.Origins.{AreOwnersOf, AreWorldUsesOf}
 use Rattle.wac_wit_validation.specs.Placed.{LeadsToInterface, LeadsToWorld, PlacedInterface, PlacedWorld, placed_identifier}
 use Rattle.wac_wit_validation.specs.Reading.{AreNamesBy, Renames, StandForTypes, IsComposed}
-use Rattle.wac_wit_validation.specs.WitSources.{IsEnabled, IsScopeOf, ScopeSyntax, WitSources, ident_text}
+use Rattle.wac_wit_scopes.specs.WitSources.{IsEnabled, IsScopeOf, ScopeSyntax, WitSources, ident_text}
 use Rattle.wac_wit_validation.specs.Worlds.{BringsIn, ExportsIdentifier, HasExternInterface, HasExternOf, IsUsedByExport, IsWorldTree, SaysExtern, SaysInclude, UsesInterface, world_setting}
 use Rattle.wac_wit_validation.specs.declared.marks.ExternMark.{ExternMark}
 use Rattle.wac_wit_validation.specs.declared.marks.ExternMark.TheVariants.{Found, Unmarked, Written}
@@ -41,7 +42,7 @@ use Rattle.wac_wit_validation.specs.declared.layers.Layer.{Layer}
 use Rattle.wac_wit_validation.specs.declared.layers.NewNames.{NewNames}
 use Rattle.wac_wit_validation.specs.declared.validator.WorldText.{WorldText}
 use Rattle.wac_wit_validation.specs.declared.names.NamedTypes.{NamedTypes}
-use Rattle.wac_wit_validation.specs.declared.sources.ScopeItems.{ScopeItems}
+use Rattle.wac_wit_scopes.specs.declared.scopes.ScopeItems.{ScopeItems}
 use Rattle.wac_wit_validation.specs.declared.validator.FoundInterface.{FoundInterface}
 use Rattle.wac_wit_validation.specs.declared.validator.FoundWorld.{FoundWorld}
 use Rattle.wac_wit_validation.specs.declared.validator.ItemPlace.{ItemPlace}
@@ -178,7 +179,7 @@ pub record KnowsWorlds (of : WitSources) (v : Validator) : Type 0 where
 -- ---- where something stands
 
 -- the scope of the packages that is looked at
-pub record IsScopeAt (v : Validator) (scope : ℕ) (of : WitSources) (w : ScopeSyntax) : Type 0 where
+pub record IsIndexedScope (v : Validator) (scope : ℕ) (of : WitSources) (w : ScopeSyntax) : Type 0 where
   pub knows : KnowsWorlds of v
   pub items : ScopeItems
   pub at : slice_get v.scopes.items scope ≡ Some items
@@ -199,7 +200,7 @@ side_items side = named (λ k. k) side.externs.now.entries
 -- a world comes in, its scope is looked at, and the names stand for what they do there
 pub record ComesInAt (v : Validator) (scope : ℕ) (names : NamedTypes) (of : WitSources) (w : PlacedWorld) (rss : List (List Rename)) (x : PlacedWorld) : Type 0 where
   pub brings : BringsIn of w rss x
-  pub at : IsScopeAt v scope of x.scope
+  pub at : IsIndexedScope v scope of x.scope
   pub new_names : Renames names rss
   pub stand : StandForTypes names (world_setting of rss x)
 
@@ -210,7 +211,7 @@ KeepsSide v scope side Has old new = side.names.types.now ≡ v.types.now → (o
 
 -- in each world at a scope that has something, marks stay so
 abbrev pub KeepsPaths : Validator → ℕ → ExternKind → List (Text × ItemKind) → (WitSources → PlacedWorld → Type 0) → ExternMarks → ExternMarks → Type 0
-KeepsPaths v scope k es Has old new = (of : WitSources) (w : PlacedWorld) → IsScopeAt v scope of w.scope → Has of w → AreMarksOf of v w k es old → AreMarksOf of v w k es new
+KeepsPaths v scope k es Has old new = (of : WitSources) (w : PlacedWorld) → IsIndexedScope v scope of w.scope → Has of w → AreMarksOf of v w k es old → AreMarksOf of v w k es new
 
 -- what is imported, or exported, under a name of its own is there
 abbrev pub IsNamedThere : List (List Rename) → List (Text × ItemKind) → Extern → Type 0
@@ -231,12 +232,12 @@ pub record IsRenamedLayer (old : Layer) (by : NewNames) (new : Layer) : Type 0 w
 
 -- where the items of a world have this one, each layer stays of a world that comes in
 abbrev pub AddsLayersIn : Validator → ℕ → WorldItem → List Layer → List Layer → Type 0
-AddsLayersIn v scope t old new = (of : WitSources) (w : PlacedWorld) → IsScopeAt v scope of w.scope → Contains w.decl.items.items t
+AddsLayersIn v scope t old new = (of : WitSources) (w : PlacedWorld) → IsIndexedScope v scope of w.scope → Contains w.decl.items.items t
     → ((l : Layer) → Contains old l → IsLayerIn of v w l) → (l : Layer) → Contains new l → IsLayerIn of v w l
 
 -- each world that comes in by the item, and gives names, has a layer
 abbrev pub CoversInside : Validator → ℕ → IncludeItem → List Layer → Type 0
-CoversInside v scope i ls = (of : WitSources) (w : ScopeSyntax) → IsScopeAt v scope of w → IsEnabled of i.gates → (u : PlacedWorld) → LeadsToWorld of w i.path u
+CoversInside v scope i ls = (of : WitSources) (w : ScopeSyntax) → IsIndexedScope v scope of w → IsEnabled of i.gates → (u : PlacedWorld) → LeadsToWorld of w i.path u
     → (rss : List (List Rename)) (x : PlacedWorld) (t : WorldItem) → BringsIn of u rss x → Contains x.decl.items.items t → GivesNames of t → (l : Layer) × Contains ls l × IsLayerOf of v l (i.renames.items ∷ rss) x
 
 -- what a world that comes in says under names of its own has items under the new ones
@@ -250,7 +251,7 @@ pub record HasNamed (of : WitSources) (rss : List (List Rename)) (x : PlacedWorl
 
 -- each interface that items use, where they stand, is marked
 abbrev pub MarksUses : Validator → ℕ → List UseItem → ExternMarks → Type 0
-MarksUses v scope us m = (of : WitSources) (w : ScopeSyntax) → IsScopeAt v scope of w → (i : PlacedInterface) → UsesInterface of w us i → IsMarkedAs v m i
+MarksUses v scope us m = (of : WitSources) (w : ScopeSyntax) → IsIndexedScope v scope of w → (i : PlacedInterface) → UsesInterface of w us i → IsMarkedAs v m i
 
 -- what this interface uses is imported
 abbrev pub ImportsUsed : WitSources → PlacedWorld → ScopeSyntax → List UseItem → Type 0
@@ -258,7 +259,7 @@ ImportsUsed of w v us = (i : PlacedInterface) → UsesInterface of v us i → Ha
 
 -- in a scope of which a world imports what these items use, marks of imports stay so
 abbrev pub KeepsUses : Validator → ℕ → List UseItem → List (Text × ItemKind) → ExternMarks → ExternMarks → Type 0
-KeepsUses v scope us es old new = (of : WitSources) (w : PlacedWorld) (x : ScopeSyntax) → IsScopeAt v scope of x → ImportsUsed of w x us → AreMarksOf of v w Import es old → AreMarksOf of v w Import es new
+KeepsUses v scope us es old new = (of : WitSources) (w : PlacedWorld) (x : ScopeSyntax) → IsIndexedScope v scope of x → ImportsUsed of w x us → AreMarksOf of v w Import es old → AreMarksOf of v w Import es new
 
 -- the same of what an interface uses, if the world imports it
 abbrev pub KeepsUsesOf : Validator → FoundInterface → List (Text × ItemKind) → ExternMarks → ExternMarks → Type 0
@@ -278,17 +279,17 @@ IsImportedOrExported of v w m i = IsMarkedAs v m i ⊎ ExportsIdentifier of w (p
 
 -- marks of imports stay so where what these uses name is used by an export, and all exported interfaces are there
 abbrev pub KeepsUnexported : Validator → ℕ → WorldContent → List UseItem → ExternMarks → ExternMarks → Type 0
-KeepsUnexported v scope e us old new = (of : WitSources) (w : PlacedWorld) (x : ScopeSyntax) → IsScopeAt v scope of x → AreInterfacesThere of Export w e.exports
+KeepsUnexported v scope e us old new = (of : WitSources) (w : PlacedWorld) (x : ScopeSyntax) → IsIndexedScope v scope of x → AreInterfacesThere of Export w e.exports
     → ((i : PlacedInterface) → UsesInterface of x us i → IsUsedByExport of w i) → AreMarksOf of v w Import e.imports old → AreMarksOf of v w Import e.imports new
 
 -- the same of an item of the world
 abbrev pub KeepsNeeds : Validator → ℕ → WorldContent → WorldItem → ExternMarks → ExternMarks → Type 0
-KeepsNeeds v scope e item old new = (of : WitSources) (w : PlacedWorld) → IsScopeAt v scope of w.scope → AreInterfacesThere of Export w e.exports → Contains w.decl.items.items item
+KeepsNeeds v scope e item old new = (of : WitSources) (w : PlacedWorld) → IsIndexedScope v scope of w.scope → AreInterfacesThere of Export w e.exports → Contains w.decl.items.items item
     → AreMarksOf of v w Import e.imports old → AreMarksOf of v w Import e.imports new
 
 -- what these uses name is imported, or exported
 abbrev pub UsesAreThere : Validator → ℕ → WorldContent → List UseItem → WorldMarks → Type 0
-UsesAreThere v scope e us m = (of : WitSources) (w : PlacedWorld) (x : ScopeSyntax) → IsScopeAt v scope of x → AreMarksOf of v w Export e.exports m.exports
+UsesAreThere v scope e us m = (of : WitSources) (w : PlacedWorld) (x : ScopeSyntax) → IsIndexedScope v scope of x → AreMarksOf of v w Export e.exports m.exports
     → (i : PlacedInterface) → UsesInterface of x us i → IsImportedOrExported of v w m.imports i
 
 -- what an import, or an export, of the world needs is there
@@ -310,13 +311,13 @@ ItemNeeds of v w m (of_world.Export e) = IsEnabled of e.gates → ExportNeeds of
 ItemNeeds of v w m x = Unit {0}
 
 abbrev pub HasNeeds : Validator → ℕ → WorldContent → WorldItem → WorldMarks → Type 0
-HasNeeds v scope e item m = (of : WitSources) (w : PlacedWorld) → IsScopeAt v scope of w.scope → AreMarksOf of v w Export e.exports m.exports → ItemNeeds of v w m item
+HasNeeds v scope e item m = (of : WitSources) (w : PlacedWorld) → IsIndexedScope v scope of w.scope → AreMarksOf of v w Export e.exports m.exports → ItemNeeds of v w m item
 
 -- ---- whole worlds
 
 -- where a world is written
 pub record IsTextAt (v : Validator) (text : WorldText) (of : WitSources) (w : PlacedWorld) : Type 0 where
-  pub at : IsScopeAt v text.place.scope of w.scope
+  pub at : IsIndexedScope v text.place.scope of w.scope
   pub written : IsWorldAt of v text.place w
   pub decl : w.decl ≡ text.decl.now
 

@@ -17,7 +17,7 @@ use Rattle.wac_wit_validation.specs.Denoted.{renamed_by}
 use Rattle.wac_wit_syntax.specs.declared.tree.Rename.{Rename}
 use Rattle.wac_wit_validation.specs.Placed.{LeadsToInterface, LeadsToWorld, PlacedInterface, PlacedWorld, placed_identifier}
 use Rattle.wac_wit_validation.specs.Reading.{Renames}
-use Rattle.wac_wit_validation.specs.WitSources.{IsEnabled, ScopeSyntax, WitSources}
+use Rattle.wac_wit_scopes.specs.WitSources.{IsEnabled, ScopeSyntax, WitSources}
 use Rattle.wac_wit_validation.specs.Worlds.{BringsIn, HasExternInterface, HasExternOf, SaysExtern, SaysInclude, extern_item, world_setting}
 use Rattle.wac_wit_validation.specs.declared.marks.ExternMarks.{ExternMarks}
 use Rattle.wac_wit_validation.specs.declared.externs.WorldSide.{WorldSide}
@@ -29,7 +29,7 @@ use Rattle.wac_wit_validation.specs.declared.validator.FoundInterface.{FoundInte
 use Rattle.wac_wit_validation.specs.declared.validator.FoundWorld.{FoundWorld}
 use Rattle.wac_wit_validation.specs.declared.validator.ItemPlace.{ItemPlace}
 use Rattle.wac_wit_validation.specs.declared.validator.Validator.{Validator}
-use Rattle.wac_wit_validation.specs.WorldChecking.{AreInterfacesThere, AreLayersOf, AreMarksOf, AreSideOf, AreWorldSides, ExportNeeds, HasAllNeeds, HasInterfacesOf, HasNamed, IsLayerIn, IsLayerOf, IsMarkedAs, IsNamedThere, IsPathThere, IsPlacedAt, IsReadyFor, IsScopeAt, IsTextAt, IsValidatedWorld, IsWorldAt, KeepsBoth, KeepsExterns, KeepsPaths, KnowsWorlds, side_items, text_content}
+use Rattle.wac_wit_validation.specs.WorldChecking.{AreInterfacesThere, AreLayersOf, AreMarksOf, AreSideOf, AreWorldSides, ExportNeeds, HasAllNeeds, HasInterfacesOf, HasNamed, IsLayerIn, IsLayerOf, IsMarkedAs, IsNamedThere, IsPathThere, IsPlacedAt, IsReadyFor, IsIndexedScope, IsTextAt, IsValidatedWorld, IsWorldAt, KeepsBoth, KeepsExterns, KeepsPaths, KnowsWorlds, side_items, text_content}
 
 -- what an item says under a name of its own is there
 abbrev pub CoversExtern : Validator → WorldSide → ExternItem → Type 0
@@ -40,7 +40,7 @@ CoversItem v side item = (of : WitSources) (rss : List (List Rename)) → Knows 
 
 -- the interface that an item says is there
 abbrev pub CoversPath : Validator → ℕ → List (Text × ItemKind) → ExternItem → Type 0
-CoversPath v scope es e = (of : WitSources) (w : ScopeSyntax) → IsScopeAt v scope of w → IsEnabled of e.gates → IsPathThere of w es e.what
+CoversPath v scope es e = (of : WitSources) (w : ScopeSyntax) → IsIndexedScope v scope of w → IsEnabled of e.gates → IsPathThere of w es e.what
 
 -- marks of either side stay so in a world that has the item there
 abbrev pub KeepsSaidPath : Validator → ℕ → List (Text × ItemKind) → ExternItem → ExternMarks → ExternMarks → Type 0
@@ -52,14 +52,14 @@ KeepsPath v scope es p old new = (k : ExternKind) → KeepsPaths v scope k es (�
 
 -- the interface that a path leads to is there
 abbrev pub HasPath : Validator → ℕ → List (Text × ItemKind) → Path → Type 0
-HasPath v scope es p = (of : WitSources) (w : ScopeSyntax) → IsScopeAt v scope of w → IsPathThere of w es (extern.Path p)
+HasPath v scope es p = (of : WitSources) (w : ScopeSyntax) → IsIndexedScope v scope of w → IsPathThere of w es (extern.Path p)
 
 -- each interface that an item says on this side is there, and each that items say
 abbrev pub CoversPathItem : Validator → ℕ → ExternKind → List (Text × ItemKind) → WorldItem → Type 0
-CoversPathItem v scope k es item = (of : WitSources) (w : ScopeSyntax) → IsScopeAt v scope of w → (e : ExternItem) → item ≡ extern_item k e → IsEnabled of e.gates → IsPathThere of w es e.what
+CoversPathItem v scope k es item = (of : WitSources) (w : ScopeSyntax) → IsIndexedScope v scope of w → (e : ExternItem) → item ≡ extern_item k e → IsEnabled of e.gates → IsPathThere of w es e.what
 
 abbrev pub CoversPaths : Validator → ℕ → ExternKind → List (Text × ItemKind) → List WorldItem → Type 0
-CoversPaths v scope k es is = (of : WitSources) (w : ScopeSyntax) → IsScopeAt v scope of w → (e : ExternItem) → Contains is (extern_item k e) → IsEnabled of e.gates → IsPathThere of w es e.what
+CoversPaths v scope k es is = (of : WitSources) (w : ScopeSyntax) → IsIndexedScope v scope of w → (e : ExternItem) → Contains is (extern_item k e) → IsEnabled of e.gates → IsPathThere of w es e.what
 
 -- marks of imports stay so
 abbrev pub KeepsImportMarks : Validator → List (Text × ItemKind) → ExternMarks → ExternMarks → Type 0
@@ -67,21 +67,21 @@ KeepsImportMarks v es old new = (of : WitSources) (w : PlacedWorld) → KnowsWor
 
 -- the interface that a path leads to is marked
 abbrev pub MarksPath : Validator → ℕ → Path → ExternMarks → Type 0
-MarksPath v scope path m = (of : WitSources) (w : ScopeSyntax) → IsScopeAt v scope of w → (i : PlacedInterface) → LeadsToInterface of w path i → IsMarkedAs v m i
+MarksPath v scope path m = (of : WitSources) (w : ScopeSyntax) → IsIndexedScope v scope of w → (i : PlacedInterface) → LeadsToInterface of w path i → IsMarkedAs v m i
 
 -- marks of both sides stay so in a world that has these items, or this one
 abbrev pub KeepsIncluded : Validator → ℕ → WorldContent → List WorldItem → WorldMarks → WorldMarks → Type 0
-KeepsIncluded v scope e items old new = (of : WitSources) (w : PlacedWorld) → IsScopeAt v scope of w.scope → w.decl.items.items ≡ items → KeepsBoth of v w e old new
+KeepsIncluded v scope e items old new = (of : WitSources) (w : PlacedWorld) → IsIndexedScope v scope of w.scope → w.decl.items.items ≡ items → KeepsBoth of v w e old new
 
 abbrev pub KeepsItem : Validator → ℕ → WorldContent → WorldItem → WorldMarks → WorldMarks → Type 0
-KeepsItem v scope e item old new = (of : WitSources) (w : PlacedWorld) → IsScopeAt v scope of w.scope → Contains w.decl.items.items item → KeepsBoth of v w e old new
+KeepsItem v scope e item old new = (of : WitSources) (w : PlacedWorld) → IsIndexedScope v scope of w.scope → Contains w.decl.items.items item → KeepsBoth of v w e old new
 
 abbrev pub CoversIncluded : Validator → ℕ → WorldContent → WorldItem → Type 0
-CoversIncluded v scope e item = (of : WitSources) (w : ScopeSyntax) → IsScopeAt v scope of w → HasInterfacesOf of w e item
+CoversIncluded v scope e item = (of : WitSources) (w : ScopeSyntax) → IsIndexedScope v scope of w → HasInterfacesOf of w e item
 
 -- a path leads to the world at a place
 abbrev pub LeadsToPlace : Validator → ℕ → Path → ItemPlace → Type 0
-LeadsToPlace v scope path place = (of : WitSources) (w : ScopeSyntax) → IsScopeAt v scope of w → (x : PlacedWorld) → IsWorldAt of v place x → LeadsToWorld of w path x
+LeadsToPlace v scope path place = (of : WitSources) (w : ScopeSyntax) → IsIndexedScope v scope of w → (x : PlacedWorld) → IsWorldAt of v place x → LeadsToWorld of w path x
 
 -- marks stay so in a world that includes another one
 abbrev pub KeepsAllOf : Validator → FoundWorld → WorldContent → WorldMarks → WorldMarks → Type 0
@@ -99,10 +99,10 @@ KeepsInterfacesOf v es others found old new = (of : WitSources) (k : ExternKind)
 
 -- what an exported interface of a package needs
 abbrev pub KeepsPathNeeds : Validator → ℕ → WorldContent → Path → ExternMarks → ExternMarks → Type 0
-KeepsPathNeeds v scope e p old new = (of : WitSources) (w : PlacedWorld) → IsScopeAt v scope of w.scope → AreInterfacesThere of Export w e.exports → SaysExtern of w Export (extern.Path p) → KeepsExterns of v w Import e.imports old new
+KeepsPathNeeds v scope e p old new = (of : WitSources) (w : PlacedWorld) → IsIndexedScope v scope of w.scope → AreInterfacesThere of Export w e.exports → SaysExtern of w Export (extern.Path p) → KeepsExterns of v w Import e.imports old new
 
 abbrev pub HasPathNeeds : Validator → ℕ → WorldContent → Path → WorldMarks → Type 0
-HasPathNeeds v scope e p m = (of : WitSources) (w : PlacedWorld) → IsScopeAt v scope of w.scope → AreMarksOf of v w Export e.exports m.exports → ExportNeeds of v w m (extern.Path p)
+HasPathNeeds v scope e p m = (of : WitSources) (w : PlacedWorld) → IsIndexedScope v scope of w.scope → AreMarksOf of v w Export e.exports m.exports → ExportNeeds of v w m (extern.Path p)
 
 -- the names are those of the types of a layer's world
 abbrev pub AreOwnTypes : Validator → Layer → NamedTypes → Type 0

@@ -19,7 +19,7 @@ use Rattle.wac_wit_syntax.specs.declared.tree.TypeItem.{TypeItem}
 use Rattle.wac_wit_syntax.specs.declared.tree.UseItem.{UseItem}
 use Rattle.wac_wit_syntax.specs.declared.tree.WorldItem.{WorldItem}
 use Rattle.wac_wit_syntax.specs.declared.tree.WorldItem.TheVariants as of_world
-use Rattle.wac_wit_validation.specs.WitSources.{WitSources, ScopeSyntax, IsEnabled, ident_text}
+use Rattle.wac_wit_scopes.specs.WitSources.{WitSources, ScopeSyntax, IsEnabled, ident_text}
 use Rattle.wac_wit_validation.specs.Placed.{PlacedInterface, PlacedWorld, LeadsToInterface, LeadsToWorld, placed_identifier}
 use Rattle.wac_wit_validation.specs.Denoted.{Denoted, NamesType, Setting, renamed_by, uses_in}
 use Rattle.wac_wit_validation.specs.Functions.{HasMethod, IsFuncOf}

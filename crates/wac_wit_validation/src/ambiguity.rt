@@ -6,13 +6,13 @@ ghost use Rattle.wac_model.specs.Text.{Text};
 ghost use Rattle.wac_wit_syntax.specs.declared.tree.TopItem.TheVariants.{Use};
 ghost use Rattle.wac_wit_syntax.specs.declared.tree.TopUse.{TopUse as Used};
 ghost use Rattle.wac_wit_validation.specs.Ambiguity.{GiveNamesOnce, KeepsNoted, HasFreeUses, IsFreeUse, KeepsName, NotesItems, NotesScopes, item_identifier, item_use_name};
-ghost use Rattle.wac_wit_validation.specs.WitSources.{ident_text, interface_identifier, package_id, version_part, version_text};
-ghost use Rattle.wac_wit_validation.specs.declared.sources.ScopeItems.{ScopeItems as Scopes};
+ghost use Rattle.wac_wit_scopes.specs.WitSources.{ident_text, interface_identifier, package_id, version_part, version_text};
+ghost use Rattle.wac_wit_scopes.specs.declared.scopes.ScopeItems.{ScopeItems as Scopes};
 
-use super::sources::ScopeItems;
-use super::validator::{ItemPlace, used_name};
+use super::validator::ItemPlace;
 use indexmap::IndexMap;
 use std::alloc::{AllocError, Global};
+use wac_wit_scopes::{ScopeItems, used_name};
 use wac_wit_syntax::{Gate, Ident, PackageName, TopItem, TopUse};
 
 /// Whether each package gives a name to one interface or world alone, and each file's `use` gives

@@ -7,30 +7,19 @@ ghost use Rattle.wac_wit_validation.specs.Checking.{IsValidated, Knows};
 ghost use Rattle.wac_wit_validation.specs.OneMeaning.{HaveOneMeaning};
 ghost use Rattle.wac_wit_validation.specs.Placed.{IsUnambiguous};
 ghost use Rattle.wac_wit_validation.specs.WorldChecking.{KnowsWorlds, StaysAs};
-ghost use Rattle.wac_wit_validation.specs.WitSources.{WitSources, sources_of};
+ghost use Rattle.wac_wit_scopes.specs.WitSources.{WitSources, sources_of};
 ghost use Rattle.wac_wit_validation.specs.Validated.{IsInterfaceOf};
 
 use super::ambiguity::give_names_once;
 use super::once::all_give_once;
-use super::sources::{ScopeItems, scopes_of};
 use super::texts::{is_identifier_of, is_package_text, is_version_text, is_word};
 use super::validator::{FoundInterface, ItemPlace, Validator};
 use indexmap::IndexMap;
 use std::alloc::{AllocError, Global};
 use wac_component::{ExternKind, InterfaceId, Type, Types};
-use wac_wit_names::{Catalog, Features, SourceFile};
+use wac_wit_names::Catalog;
+use wac_wit_scopes::{ScopeItems, SourceTrees, scopes_of};
 use wac_wit_syntax::{Document, InterfaceDecl, TopItem};
-
-/// The files of packages, with their trees and the features that are on.
-#[derive(Clone, Copy)]
-pub struct SourceTrees<'s> {
-    /// The files.
-    pub files: &'s [SourceFile],
-    /// Their trees, in the same order.
-    pub documents: &'s [Document],
-    /// The features that are on.
-    pub features: Features<'s>,
-}
 
 impl<'v> Validator<'v> {
     /// Begins with no interface. `None` is answered where no file of a package names it, or two

@@ -3,7 +3,7 @@
 ghost use Rattle.std.specs.Prelude.{◌≡◌, ◌↔◌, ◌∷◌, [], IfOk, IsTrue, Some, slice_get};
 ghost use Rattle.wac_component.specs.Content.{named};
 ghost use Rattle.wac_wit_validation.specs.Denoted.{uses_in};
-ghost use Rattle.wac_wit_validation.specs.WitSources.{WitSources};
+ghost use Rattle.wac_wit_scopes.specs.WitSources.{WitSources};
 ghost use Rattle.wac_wit_validation.specs.declared.marks.ExternMark.TheVariants.{Found as FoundMark};
 ghost use Rattle.wac_wit_validation.specs.declared.validator.FoundInterface.{FoundInterface as FoundOf};
 ghost use Rattle.wac_wit_validation.specs.WorldChecking.{IsClosed, KeepsUses, KeepsUsesOf, KnowsWorlds, MarksUses, MarksUsesOf, UsesTypes};

@@ -8,17 +8,17 @@ ghost use Rattle.wac_wit_syntax.specs.declared.tree.TopItem.TheVariants.{World a
 ghost use Rattle.wac_wit_syntax.specs.declared.tree.WorldItem.TheVariants.{Include as IncludeOf};
 ghost use Rattle.wac_wit_validation.specs.Checking.{HasItem};
 ghost use Rattle.wac_wit_validation.specs.Placed.{PlacedInterface, PlacedWorld, placed_identifier};
-ghost use Rattle.wac_wit_validation.specs.WitSources.{WitSources};
-ghost use Rattle.wac_wit_validation.specs.WorldChecking.{HasIncluded, HasInterfaces, IsScopeAt, IsValidatedWorld};
+ghost use Rattle.wac_wit_scopes.specs.WitSources.{WitSources};
+ghost use Rattle.wac_wit_validation.specs.WorldChecking.{HasIncluded, HasInterfaces, IsIndexedScope, IsValidatedWorld};
 ghost use Rattle.wac_wit_validation.specs.WorldClauses.{CoversIncluded, HasInterfacesOfSide, KeepsAllOf, KeepsIncluded, KeepsInterfaceOf, KeepsInterfacesOf, KeepsItem, LeadsToPlace};
 
 use super::imports::is_same_place;
 use super::marks::{ExternMark, ExternMarks, WorldMarks};
-use super::sources::ScopeItems;
-use super::validator::{FoundInterface, FoundWorld, ItemPlace, Validator, leads};
+use super::validator::{FoundInterface, FoundWorld, ItemPlace, Validator};
 use indexmap::IndexMap;
 use wac_component::{ItemKind, Type, World};
 use wac_wit_names::FoundPlace;
+use wac_wit_scopes::{ScopeItems, leads};
 use wac_wit_syntax::{IncludeItem, Path, Rename, TopItem, WorldDecl, WorldItem};
 
 impl<'v> Validator<'v> {
@@ -61,7 +61,7 @@ impl<'v> Validator<'v> {
         items: &[WorldItem],
     ) -> bool
         ensures marks { IsTrue result → KeepsIncluded self.now scope (world_content entry.now) items.now marks.old marks.new }
-        ensures covers { IsTrue result → (of : WitSources) (w : PlacedWorld) → IsScopeAt self.now scope of w.scope → w.decl.items.items ≡ items.now → HasIncluded of w (world_content entry.now) }
+        ensures covers { IsTrue result → (of : WitSources) (w : PlacedWorld) → IsIndexedScope self.now scope of w.scope → w.decl.items.items ≡ items.now → HasIncluded of w (world_content entry.now) }
     {
         for item in items {
             if !self.mark_item_included(scope, entry, marks, item) {

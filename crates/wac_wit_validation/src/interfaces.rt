@@ -10,7 +10,7 @@ ghost use Rattle.wac_wit_validation.specs.Checking.{AreExportsAt, Brings, Brings
 ghost use Rattle.wac_wit_validation.specs.Denoted.{Setting};
 ghost use Rattle.wac_wit_validation.specs.Functions.{IsFuncOf};
 ghost use Rattle.wac_wit_validation.specs.Reading.{Renames, StandForTypes};
-ghost use Rattle.wac_wit_validation.specs.WitSources.{IsEnabled, WitSources, given_name, ident_text};
+ghost use Rattle.wac_wit_scopes.specs.WitSources.{IsEnabled, WitSources, given_name, ident_text};
 
 use super::methods::is_next_method;
 use super::names::NamedTypes;

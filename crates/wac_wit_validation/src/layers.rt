@@ -10,7 +10,7 @@ ghost use Rattle.wac_wit_syntax.specs.declared.tree.WorldItem.{WorldItem as Item
 ghost use Rattle.wac_wit_validation.specs.Denoted.{renamed};
 ghost use Rattle.wac_wit_validation.specs.Placed.{PlacedWorld};
 ghost use Rattle.wac_wit_validation.specs.Reading.{AreNamesBy, IsComposed, new_name, new_name_or};
-ghost use Rattle.wac_wit_validation.specs.WitSources.{IsEnabled, WitSources, ident_text};
+ghost use Rattle.wac_wit_scopes.specs.WitSources.{IsEnabled, WitSources, ident_text};
 ghost use Rattle.wac_wit_validation.specs.WorldChecking.{AddsLayersIn, AreLayersOf, AreNamingItems, CoversInside, GivesNames, HasOwnName, IsLayerOf, IsRenamedLayer, IsTextAt, KnowsWorlds};
 ghost use Rattle.wac_wit_validation.specs.declared.layers.Layer.{Layer as LayerOf};
 

@@ -18,15 +18,12 @@ mod noting;
 mod once;
 mod origins;
 mod own;
-mod packages;
 mod progress;
-mod sources;
 mod texts;
 mod typedefs;
 mod validator;
 mod values;
 mod worlds;
 
-pub use checks::SourceTrees;
 pub use listing::PackageListing;
 pub use validator::Validator;

@@ -5,7 +5,7 @@ ghost use Rattle.wac_component.specs.Tree.{root_name};
 ghost use Rattle.wac_wit_validation.specs.Checking.{Gives, HasFuncItem, HasRootName, IsFuncBehind, IsFuncItem, MarksExports, named_items};
 ghost use Rattle.wac_wit_validation.specs.Denoted.{Setting};
 ghost use Rattle.wac_wit_validation.specs.Functions.{IsMethodOf, method_name};
-ghost use Rattle.wac_wit_validation.specs.WitSources.{ident_text};
+ghost use Rattle.wac_wit_scopes.specs.WitSources.{ident_text};
 
 use super::names::NamedTypes;
 use super::progress::ExportMarks;

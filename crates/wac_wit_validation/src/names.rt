@@ -10,7 +10,7 @@ ghost use Rattle.wac_wit_validation.specs.Denoted.{NamesType, Setting, resource_
 ghost use Rattle.wac_wit_validation.specs.Reading.{IsTypeNamed, Renames, StandForTypes, name_by, type_meaning};
 ghost use Rattle.wac_wit_syntax.specs.declared.tree.Rename.{Rename as RenameOf};
 ghost use Rattle.wac_wit_validation.specs.WorldClauses.{imported_name};
-ghost use Rattle.wac_wit_validation.specs.WitSources.{ident_text};
+ghost use Rattle.wac_wit_scopes.specs.WitSources.{ident_text};
 
 use super::layers::NewNames;
 use indexmap::IndexMap;

@@ -4,16 +4,16 @@ ghost use Rattle.std.specs.Prelude.{◌↔◌, Contains, IfOk, IsTrue};
 ghost use Rattle.indexmap.specs.IndexMap.{get_by_text};
 ghost use Rattle.wac_wit_validation.specs.Ambiguity.{KeepsNoted};
 ghost use Rattle.wac_wit_validation.specs.Once.{HasFeatures, InsideGivesOnce, ItemGivesOnce, ItemsGiveOnce, NotesInside, NotesInner, NotesRenames, NotesType, NotesUse};
-ghost use Rattle.wac_wit_validation.specs.WitSources.{IsEnabled, WitSources};
-ghost use Rattle.wac_wit_validation.specs.declared.sources.ScopeItems.{ScopeItems as Scopes};
+ghost use Rattle.wac_wit_scopes.specs.WitSources.{IsEnabled, WitSources};
+ghost use Rattle.wac_wit_scopes.specs.declared.scopes.ScopeItems.{ScopeItems as Scopes};
 
 use super::ambiguity::note_given;
 use super::interfaces::local_name;
-use super::sources::ScopeItems;
 use super::validator::ItemPlace;
 use indexmap::IndexMap;
 use std::alloc::{AllocError, Global};
 use wac_wit_names::Features;
+use wac_wit_scopes::ScopeItems;
 use wac_wit_syntax::{Gates, InterfaceDecl, InterfaceItem, Rename, TopItem, TypeItem, UseItem};
 
 /// Whether each interface that is there gives each name of a type once.

@@ -17,7 +17,7 @@ ghost use Rattle.wac_wit_validation.specs.Checking.{Knows};
 ghost use Rattle.wac_wit_validation.specs.Denoted.{renamed_by};
 ghost use Rattle.wac_wit_validation.specs.OriginClauses.{HasNoOrigin, HasOwner, HasRoot, HasUseRoot, HaveOneOrigin, RenamesAs, TellsFrom, TellsItemAt, TellsLayer, TellsName, TellsOriginsAt, TellsTypeAs, TellsWorld, TellsWorldItemAt, noted_uses, origin_at};
 ghost use Rattle.wac_wit_validation.specs.Origins.{AreOwnersOf, IsOwnerOf, use_at};
-ghost use Rattle.wac_wit_validation.specs.WitSources.{IsEnabled, WitSources, ident_text};
+ghost use Rattle.wac_wit_scopes.specs.WitSources.{IsEnabled, WitSources, ident_text};
 ghost use Rattle.wac_wit_validation.specs.declared.layers.Layer.{Layer as LayerOf};
 
 use super::interfaces::local_name;

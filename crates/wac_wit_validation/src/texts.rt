@@ -2,7 +2,7 @@
 
 ghost use Rattle.std.specs.Prelude.{◌≡◌, ◌++◌, IfSome, IsTrue, Option, Some, codes, string_bytes};
 ghost use Rattle.std.specs.Option.{option_map};
-ghost use Rattle.wac_wit_validation.specs.WitSources.{interface_identifier, package_id, version_part, version_text};
+ghost use Rattle.wac_wit_scopes.specs.WitSources.{interface_identifier, package_id, version_part, version_text};
 ghost use Rattle.wac_wit_validation.specs.Validated.{package_text};
 
 use wac_wit_syntax::{Gate, PackageName};

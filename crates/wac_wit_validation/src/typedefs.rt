@@ -8,7 +8,7 @@ ghost use Rattle.wac_wit_validation.specs.Denoted.{value_type, renamed_by, resou
 ghost use Rattle.wac_wit_validation.specs.Functions.{IsReturned};
 ghost use Rattle.wac_wit_validation.specs.Reading.{IsTypeDefined, IsTypeNamed, Renames, StandForTypes, type_meaning};
 ghost use Rattle.wac_wit_syntax.specs.declared.tree.Rename.{Rename as RenameOf};
-ghost use Rattle.wac_wit_validation.specs.WitSources.{ident_text};
+ghost use Rattle.wac_wit_scopes.specs.WitSources.{ident_text};
 ghost use Rattle.wac_wit_syntax.specs.declared.tree.TypeDef.TheVariants as def;
 ghost use Rattle.wac_wit_syntax.specs.declared.tree.TypeItem.{TypeItem};
 

@@ -2,19 +2,18 @@
 
 ghost use Rattle.std.specs.Prelude.{◌≡◌, ◌↔◌, IfOk, IfSome, IsTrue, None, Some, length, slice_get};
 ghost use Rattle.wac_component.specs.Collection.{InterfaceContent};
-ghost use Rattle.wac_wit_validation.specs.Checking.{AreNamesAt, IsKnownScope, IsSettingAt, Knows, LeadsToFound, named_items, scope_syntax};
+ghost use Rattle.wac_wit_validation.specs.Checking.{AreNamesAt, IsSettingAt, Knows, LeadsToFound, named_items};
 ghost use Rattle.wac_wit_validation.specs.Denoted.{Setting};
-ghost use Rattle.wac_wit_validation.specs.WitSources.{IsNamedPackage, IsPackageOf, IsEnabled, PathLeadsTo, WitSources, given_name, ident_text};
+ghost use Rattle.wac_wit_scopes.specs.WitSources.{IsEnabled, WitSources};
 
 use super::layers::Layer;
 use super::marks::WorldMarks;
 use super::names::NamedTypes;
-use super::packages::{have_one_name, is_same_package};
-use super::sources::ScopeItems;
 use indexmap::IndexMap;
 use std::alloc::{AllocError, Global};
 use wac_component::{ExternKind, Interface, InterfaceId, Type, Types, World, WorldId};
 use wac_wit_names::{Catalog, Features, FoundPlace};
+use wac_wit_scopes::{ScopeItems, leads};
 use wac_wit_syntax::{Gates, Ident, PackageName, Path, TopItem, TopUse, WorldDecl};
 
 /// Where an interface or a world is written: the index of what it stands in, and its own there.
@@ -215,61 +214,4 @@ impl<'v> Validator<'v> {
             new_names: None,
         }
     }
-}
-
-// Whether a path leads to a name, by way of a `use` outside of interfaces and worlds if there is
-// one.
-pub(crate) fn leads(
-    from: &ScopeItems<'_>,
-    path: &Path,
-    via: Option<usize>,
-    to: &ScopeItems<'_>,
-    name: &Ident,
-) -> bool
-    ensures { IsTrue result → (of : WitSources) → IsKnownScope of to.now → PathLeadsTo of (scope_syntax from.now) path.now (scope_syntax to.now) (ident_text name.now) }
-{
-    let Some(item) = via else {
-        return leads_directly(from, path, to, name);
-    };
-    let Some(TopItem::Use(used)) = from.items.get(item) else {
-        return false;
-    };
-    path.package.is_none()
-        && used_name(used).name == path.name.name
-        && leads_directly(from, &used.path, to, name)
-}
-
-/// The name that a `use` outside of interfaces and worlds gives.
-pub(crate) fn used_name(used: &TopUse) -> &Ident
-    ensures { ident_text result.now ≡ given_name used.now.path.name used.now.alias }
-{
-    match &used.alias {
-        Some(alias) => alias,
-        None => &used.path.name,
-    }
-}
-
-fn leads_directly(from: &ScopeItems<'_>, path: &Path, to: &ScopeItems<'_>, name: &Ident) -> bool
-    ensures name { IsTrue result → ident_text path.now.name ≡ ident_text name.now }
-    ensures package { IsTrue result → (of : WitSources) → IsKnownScope of to.now → IsPackageOf of (scope_syntax from.now) path.now.package (scope_syntax to.now).package }
-{
-    path.name.name == name.name && is_package_of(from, &path.package, to)
-}
-
-// Whether it is the package that a path names.
-fn is_package_of(from: &ScopeItems<'_>, package: &Option<PackageName>, to: &ScopeItems<'_>) -> bool
-    ensures { IsTrue result → (of : WitSources) → IsKnownScope of to.now → IsPackageOf of (scope_syntax from.now) «package».now (scope_syntax to.now).package }
-{
-    match package {
-        Some(named) => is_named(named, to),
-        None => is_same_package(from.package, to.package),
-    }
-}
-
-// Whether it is the package of a name, or the only one where that has no version.
-fn is_named(named: &PackageName, to: &ScopeItems<'_>) -> bool
-    ensures { IsTrue result → (of : WitSources) → IsKnownScope of to.now → IsNamedPackage of named.now (scope_syntax to.now).package }
-{
-    is_same_package(named, to.package)
-        || named.version.is_none() && to.is_alone && have_one_name(to.package, named)
 }

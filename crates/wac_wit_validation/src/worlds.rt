@@ -6,7 +6,7 @@ ghost use Rattle.wac_component.specs.Content.{world_content};
 ghost use Rattle.wac_wit_validation.specs.Checking.{MarksAt};
 ghost use Rattle.wac_wit_validation.specs.Placed.{PlacedWorld};
 ghost use Rattle.wac_wit_validation.specs.Validated.{IsWorldOf};
-ghost use Rattle.wac_wit_validation.specs.WitSources.{WitSources};
+ghost use Rattle.wac_wit_scopes.specs.WitSources.{WitSources};
 ghost use Rattle.wac_wit_validation.specs.WorldChecking.{IsEntryOf, IsTextAt, IsValidatedWorld, KnowsWorlds, OffersItem, RepresentsItem, StaysAs, text_content};
 ghost use Rattle.wac_wit_validation.specs.WorldClauses.{AreOwnTypes, CoversLayer, CoversOwn, CoversType, HasExportMarks, HasImportsFor, HasNeedsOf, HasWorldMarks, KeepsAllNeeds, KeepsLayer, KeepsLayers, KeepsOwn, KeepsType};
 ghost use Rattle.wac_wit_validation.specs.declared.layers.Layer.{Layer as LayerOf};

@@ -5,7 +5,7 @@ use Rattle.wac_component.specs.Id.{Id}
 use Rattle.wac_wit.proofs.Listing.{AllBefore}
 use Rattle.wac_wit.proofs.packages.has_interfaces.Given as goal
 use Rattle.wac_wit_validation.specs.WorldChecking.{KnowsWorlds}
-use Rattle.wac_wit_validation.specs.WitSources.{WitSources}
+use Rattle.wac_wit_scopes.specs.WitSources.{WitSources}
 use Rattle.wac_wit_validation.specs.Validated.{IsInterfaceOf}
 
 abbrev pub invariant-loop-index : goal.invariant-loop-index

@@ -6,7 +6,7 @@ use Rattle.wac_wit.proofs.packages.has_worlds.Given as goal
 use Rattle.wac_wit_validation.specs.WorldChecking.{KnowsWorlds}
 use Rattle.wac_wit.specs.Read.{version_bytes}
 use Rattle.wac_wit_validation.specs.Validated.{IsWorldOf}
-use Rattle.wac_wit_validation.specs.WitSources.{WitSources}
+use Rattle.wac_wit_scopes.specs.WitSources.{WitSources}
 
 abbrev pub invariant-loop-index : goal.invariant-loop-index
 invariant-loop-index l = (of : WitSources) → KnowsWorlds of l.validator → AllBefore (λ (e : String Global × Id). IsWorldOf of l.validator.types.now (string_bytes l.«package».name) (version_bytes l.«package») (string_bytes e.0) e.1) l.«package».worlds.entries l.index

@@ -1,9 +1,9 @@
 use Rattle.std.proofs.Common.{refl}
 use Rattle.indexmap.specs.IndexMap.{get_by_text}
 use Rattle.wac_wit_syntax.specs.declared.tree.TopItem.TheVariants.{Use}
-use Rattle.wac_wit_validation.specs.WitSources.{package_id}
+use Rattle.wac_wit_scopes.specs.WitSources.{package_id}
 use Rattle.wac_wit_validation.proofs.AmbiguityFacts.{IsFreeItem}
-use Rattle.wac_wit_validation.proofs.ScopeFacts.{All-end, All-next}
+use Rattle.wac_wit_scopes.proofs.ScopeFacts.{All-end, All-next}
 use Rattle.wac_wit_validation.proofs.ambiguity.are_free.Goals as goal
 
 pub loop-item-preserved : goal.loop-item-preserved

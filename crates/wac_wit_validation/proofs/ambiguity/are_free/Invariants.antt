@@ -1,7 +1,7 @@
 use Rattle.std.proofs.Common.{take}
 use Rattle.std.specs.Prelude.{All}
 use Rattle.indexmap.specs.IndexMap.{get_by_text}
-use Rattle.wac_wit_validation.specs.WitSources.{package_id}
+use Rattle.wac_wit_scopes.specs.WitSources.{package_id}
 use Rattle.wac_wit_validation.proofs.AmbiguityFacts.{IsFreeItem}
 use Rattle.wac_wit_validation.proofs.ambiguity.are_free.Given as goal
 

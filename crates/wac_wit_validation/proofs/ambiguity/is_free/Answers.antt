@@ -2,7 +2,7 @@ use Rattle.std.proofs.Common.{◌≡◌, ◌∙◌, sym, subst}
 use Rattle.std.proofs.lemmas.Result.{IfOk-weaker}
 use Rattle.indexmap.specs.IndexMap.{get_by_text}
 use Rattle.wac_wit_validation.specs.Ambiguity.{IsFreeUse}
-use Rattle.wac_wit_validation.specs.WitSources.{package_id}
+use Rattle.wac_wit_scopes.specs.WitSources.{package_id}
 use Rattle.wac_wit_validation.proofs.ambiguity.is_free.Goals as goal
 
 pub returns-in-Use : goal.returns-in-Use

@@ -1,6 +1,6 @@
 use Rattle.std.proofs.Common.{inl, inr, ap, sym, refl, ◌∙◌}
 use Rattle.indexmap.specs.IndexMap.{get_by_text}
-use Rattle.wac_wit_validation.specs.WitSources.{interface_identifier, package_id}
+use Rattle.wac_wit_scopes.specs.WitSources.{interface_identifier, package_id}
 use Rattle.wac_wit_validation.proofs.AmbiguityFacts.{none_copied}
 use Rattle.wac_wit_validation.proofs.ambiguity.is_free_use.Goals as goal
 

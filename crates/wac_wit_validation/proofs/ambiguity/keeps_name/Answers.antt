@@ -1,6 +1,6 @@
 use Rattle.std.proofs.Common.{sym, ◌∙◌}
 use Rattle.std.proofs.lemmas.Slice.Eq.{bytes_eq-Decides}
-use Rattle.wac_wit_validation.proofs.PathFacts.{no_value}
+use Rattle.wac_wit_scopes.proofs.PathFacts.{no_value}
 use Rattle.wac_wit_validation.proofs.ambiguity.keeps_name.Goals as goal
 
 pub returns-then-is_none : goal.returns-then-is_none

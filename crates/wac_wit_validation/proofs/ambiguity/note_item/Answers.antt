@@ -1,7 +1,7 @@
 use Rattle.std.proofs.Common.{ap, sym, ◌∙◌}
 use Rattle.indexmap.specs.IndexMap.{get_by_text}
 use Rattle.wac_wit_validation.specs.Ambiguity.{item_identifier}
-use Rattle.wac_wit_validation.specs.WitSources.{package_id}
+use Rattle.wac_wit_scopes.specs.WitSources.{package_id}
 use Rattle.wac_wit_validation.proofs.AmbiguityFacts.{noted_under}
 use Rattle.wac_wit_validation.proofs.ambiguity.note_item.Goals as goal
 

@@ -1,6 +1,6 @@
 use Rattle.indexmap.specs.IndexMap.{get_by_text}
 use Rattle.wac_wit_validation.specs.Ambiguity.{item_identifier}
-use Rattle.wac_wit_validation.specs.WitSources.{package_id}
+use Rattle.wac_wit_scopes.specs.WitSources.{package_id}
 use Rattle.wac_wit_validation.proofs.AmbiguityFacts.{KeepsNoted-none, KeepsNoted-then, NotesBelow-end, NotesBelow-more, NotesBelow-none}
 use Rattle.wac_wit_validation.proofs.ambiguity.note_items.Goals as goal
 

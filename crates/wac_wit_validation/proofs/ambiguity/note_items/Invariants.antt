@@ -1,6 +1,6 @@
 use Rattle.indexmap.specs.IndexMap.{get_by_text}
 use Rattle.wac_wit_validation.specs.Ambiguity.{KeepsNoted, item_identifier}
-use Rattle.wac_wit_validation.specs.WitSources.{package_id}
+use Rattle.wac_wit_scopes.specs.WitSources.{package_id}
 use Rattle.wac_wit_validation.proofs.AmbiguityFacts.{NotesBelow}
 use Rattle.wac_wit_validation.proofs.ambiguity.note_items.Given as goal
 

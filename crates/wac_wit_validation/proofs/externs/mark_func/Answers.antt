@@ -3,7 +3,7 @@ use Rattle.wac_component.specs.Collection.{Collection}
 use Rattle.wac_component.specs.Tree.{func_tree}
 use Rattle.wac_wit_validation.specs.Denoted.{renamed_by}
 use Rattle.wac_wit_validation.specs.Functions.{IsFuncOf}
-use Rattle.wac_wit_validation.specs.WitSources.{ident_text}
+use Rattle.wac_wit_scopes.specs.WitSources.{ident_text}
 use Rattle.wac_wit_validation.specs.WorldChecking.{side_items}
 use Rattle.wac_wit_validation.specs.Worlds.{extern_func, world_setting}
 use Rattle.wac_wit_validation.specs.declared.marks.ExternMark.TheVariants.{Written}

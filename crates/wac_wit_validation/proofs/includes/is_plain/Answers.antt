@@ -1,6 +1,6 @@
 use Rattle.std.proofs.Common.{codes, ◌++◌, ◌∙◌}
 use Rattle.std.proofs.lemmas.Str.Pattern.{contains_text}
-use Rattle.wac_wit_validation.specs.WitSources.{ident_text, version_part}
+use Rattle.wac_wit_scopes.specs.WitSources.{ident_text, version_part}
 use Rattle.wac_wit_validation.proofs.WorldFacts.{append_three, not_and_is}
 use Rattle.wac_wit_validation.proofs.includes.is_plain.Goals as goal
 

@@ -1,7 +1,7 @@
 use Rattle.std.proofs.Common.{refl}
 use Rattle.wac_wit_syntax.specs.declared.tree.Rename.{Rename}
 use Rattle.wac_wit_validation.specs.Checking.{HasTypeItem, named_items}
-use Rattle.wac_wit_validation.specs.WitSources.{given_name}
+use Rattle.wac_wit_scopes.specs.WitSources.{given_name}
 use Rattle.wac_wit_validation.proofs.MarkFacts.{AllBelow-contains, AllBelow-more, AllBelow-none, among_at, marks_none, marks_then}
 use Rattle.wac_wit_validation.proofs.interfaces.are_used.Goals as goal
 

@@ -3,7 +3,7 @@ use Rattle.wac_wit_syntax.specs.declared.tree.Rename.{Rename}
 use Rattle.wac_wit_validation.specs.Checking.{Brings, HasTypeItem, MarksExports, named_items}
 use Rattle.wac_wit_validation.specs.Denoted.{Setting}
 use Rattle.wac_wit_validation.specs.Reading.{StandForTypes}
-use Rattle.wac_wit_validation.specs.WitSources.{given_name}
+use Rattle.wac_wit_scopes.specs.WitSources.{given_name}
 use Rattle.wac_wit_validation.proofs.MarkFacts.{AllBelow}
 use Rattle.wac_wit_validation.proofs.interfaces.are_used.Given as goal
 

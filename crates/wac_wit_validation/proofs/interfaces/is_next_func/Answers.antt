@@ -2,7 +2,7 @@ use Rattle.std.proofs.Common.{[], refl}
 use Rattle.wac_wit_validation.specs.Checking.{named_items}
 use Rattle.wac_wit_validation.specs.Functions.{IsFuncOf}
 use Rattle.wac_wit_validation.specs.Interfaces.{a_func}
-use Rattle.wac_wit_validation.specs.WitSources.{ident_text}
+use Rattle.wac_wit_scopes.specs.WitSources.{ident_text}
 use Rattle.wac_wit_validation.proofs.MarkFacts.{func_exported, has_item_at, marks_one}
 use Rattle.wac_wit_validation.proofs.NameFacts.{item_at_index}
 use Rattle.wac_wit_validation.proofs.interfaces.is_next_func.Goals as goal

@@ -2,7 +2,7 @@ use Rattle.std.proofs.Common.{refl, subst}
 use Rattle.wac_wit_validation.specs.Checking.{named_items}
 use Rattle.wac_wit_validation.specs.Denoted.{defined}
 use Rattle.wac_wit_validation.specs.Reading.{Renames, StandForTypes, IsTypeDefined}
-use Rattle.wac_wit_validation.specs.WitSources.{ident_text}
+use Rattle.wac_wit_scopes.specs.WitSources.{ident_text}
 use Rattle.wac_wit_validation.specs.declared.names.NamedTypes.{NamedTypes}
 use Rattle.wac_wit_validation.proofs.MarkFacts.{has_type_at, marks_one, type_exported}
 use Rattle.wac_wit_validation.proofs.interfaces.is_typedef.Goals as goal

@@ -3,7 +3,7 @@ use Rattle.wac_component.specs.Collection.{Collection}
 use Rattle.wac_wit_validation.specs.Checking.{HasTypeItem, named_items}
 use Rattle.wac_wit_validation.specs.Denoted.{NamesType}
 use Rattle.wac_wit_validation.specs.Reading.{type_meaning}
-use Rattle.wac_wit_validation.specs.WitSources.{ident_text}
+use Rattle.wac_wit_scopes.specs.WitSources.{ident_text}
 use Rattle.wac_wit_validation.proofs.MarkFacts.{has_type_at, marks_one, type_exported}
 use Rattle.wac_wit_validation.proofs.interfaces.is_used.Goals as goal
 

@@ -4,7 +4,7 @@ use Rattle.wac_wit_validation.specs.Checking.{IsFuncItem, named_items}
 use Rattle.wac_wit_validation.specs.Functions.{IsMethodOf, method_name}
 use Rattle.wac_wit_validation.specs.Interfaces.{a_method}
 use Rattle.wac_wit_validation.specs.Reading.{TypesAreNamed}
-use Rattle.wac_wit_validation.specs.WitSources.{ident_text}
+use Rattle.wac_wit_scopes.specs.WitSources.{ident_text}
 use Rattle.wac_wit_validation.proofs.MarkFacts.{func_exported, has_func_at, marks_one}
 use Rattle.wac_wit_validation.proofs.NameFacts.{item_at_index}
 use Rattle.wac_wit_validation.proofs.methods.is_next_method.Goals as goal

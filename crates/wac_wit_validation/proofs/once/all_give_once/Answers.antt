@@ -1,6 +1,6 @@
 use Rattle.wac_wit_validation.specs.Once.{ItemsGiveOnce}
-use Rattle.wac_wit_validation.specs.declared.sources.ScopeItems.{ScopeItems}
-use Rattle.wac_wit_validation.proofs.ScopeFacts.{All-end, All-next}
+use Rattle.wac_wit_scopes.specs.declared.scopes.ScopeItems.{ScopeItems}
+use Rattle.wac_wit_scopes.proofs.ScopeFacts.{All-end, All-next}
 use Rattle.wac_wit_validation.proofs.once.all_give_once.Goals as goal
 
 pub loop-scope-preserved : goal.loop-scope-preserved

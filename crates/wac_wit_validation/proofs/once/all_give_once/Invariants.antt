@@ -1,7 +1,7 @@
 use Rattle.std.proofs.Common.{take}
 use Rattle.std.specs.Prelude.{All}
 use Rattle.wac_wit_validation.specs.Once.{ItemsGiveOnce}
-use Rattle.wac_wit_validation.specs.declared.sources.ScopeItems.{ScopeItems}
+use Rattle.wac_wit_scopes.specs.declared.scopes.ScopeItems.{ScopeItems}
 use Rattle.wac_wit_validation.proofs.once.all_give_once.Given as goal
 
 abbrev pub invariant-loop-scope : goal.invariant-loop-scope

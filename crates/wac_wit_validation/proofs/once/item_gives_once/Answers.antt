@@ -2,7 +2,7 @@ use Rattle.std.proofs.Common.{◌≡◌, ◌∙◌, sym, subst}
 use Rattle.std.proofs.lemmas.Result.{IfOk-weaker}
 use Rattle.wac_wit_syntax.specs.declared.tree.InterfaceDecl.{InterfaceDecl}
 use Rattle.wac_wit_validation.specs.Once.{InsideGivesOnce}
-use Rattle.wac_wit_validation.specs.WitSources.{IsEnabled}
+use Rattle.wac_wit_scopes.specs.WitSources.{IsEnabled}
 use Rattle.wac_wit_validation.proofs.once.item_gives_once.Goals as goal
 
 pub returns-in-Interface : goal.returns-in-Interface

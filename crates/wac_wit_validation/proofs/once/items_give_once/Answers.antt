@@ -1,5 +1,5 @@
 use Rattle.wac_wit_validation.specs.Once.{ItemGivesOnce}
-use Rattle.wac_wit_validation.proofs.ScopeFacts.{All-end, All-next}
+use Rattle.wac_wit_scopes.proofs.ScopeFacts.{All-end, All-next}
 use Rattle.wac_wit_validation.proofs.once.items_give_once.Goals as goal
 
 pub loop-item-preserved : goal.loop-item-preserved

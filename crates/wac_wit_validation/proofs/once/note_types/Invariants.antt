@@ -1,6 +1,6 @@
 use Rattle.indexmap.specs.IndexMap.{get_by_text}
 use Rattle.wac_wit_validation.specs.Once.{HasFeatures, NotesInner}
-use Rattle.wac_wit_validation.specs.WitSources.{WitSources}
+use Rattle.wac_wit_scopes.specs.WitSources.{WitSources}
 use Rattle.wac_wit_validation.proofs.AmbiguityFacts.{EachBelow}
 use Rattle.wac_wit_validation.proofs.once.note_types.Given as goal
 

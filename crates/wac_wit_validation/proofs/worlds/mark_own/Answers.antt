@@ -10,7 +10,7 @@ use Rattle.wac_wit_validation.specs.WorldClauses.{CoversType, imported_name}
 use Rattle.wac_wit_validation.specs.Worlds.{HasExternOf}
 use Rattle.wac_wit_validation.proofs.MarkFacts.{AllBelow-contains, AllBelow-more, AllBelow-none}
 use Rattle.wac_wit_validation.proofs.NameFacts.{named_at}
-use Rattle.wac_wit_validation.proofs.PathFacts.{contains_at}
+use Rattle.wac_wit_scopes.proofs.PathFacts.{contains_at}
 use Rattle.wac_wit_validation.proofs.WorldFacts.{named_past}
 use Rattle.wac_wit_validation.proofs.WorldWhole.{own_extern}
 use Rattle.wac_wit_validation.proofs.worlds.mark_own.Goals as goal

@@ -1,7 +1,7 @@
 use Rattle.std.proofs.Common.{◌≡◌, Some, sym, subst}
 use Rattle.std.specs.Prelude.{slice_get}
 use Rattle.wac_model.specs.Text.{Text}
-use Rattle.wac_wit_validation.specs.WitSources.{ident_text}
+use Rattle.wac_wit_scopes.specs.WitSources.{ident_text}
 use Rattle.wac_wit_validation.specs.WorldChecking.{side_items}
 use Rattle.wac_wit_validation.proofs.WorldFacts.{full_named}
 use Rattle.wac_wit_validation.proofs.externs.WorldSide.named.Goals as goal

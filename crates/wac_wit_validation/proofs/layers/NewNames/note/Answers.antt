@@ -1,6 +1,6 @@
 use Rattle.std.proofs.Common.{refl}
-use Rattle.wac_wit_validation.specs.WitSources.{ident_text}
-use Rattle.wac_wit_validation.proofs.ScopeFacts.{on_ok_both}
+use Rattle.wac_wit_scopes.specs.WitSources.{ident_text}
+use Rattle.wac_wit_scopes.proofs.ScopeFacts.{on_ok_both}
 use Rattle.wac_wit_validation.proofs.LayerFacts.{AreNamesBy-put}
 use Rattle.wac_wit_validation.proofs.layers.NewNames.note.Goals as goal
 

@@ -1,7 +1,7 @@
 use Rattle.std.proofs.Common.{◌≡◌, ℕ, ◌+◌, ◌-◌, Some, arith, ap, refl, subst, ◌∙◌}
 use Rattle.wac_model.specs.Text.{Text}
 use Rattle.wac_wit_validation.proofs.LayerFacts.{AreRenamedFrom, AreRenamedFrom-put}
-use Rattle.wac_wit_validation.proofs.PathFacts.{read_at}
+use Rattle.wac_wit_scopes.proofs.PathFacts.{read_at}
 use Rattle.wac_wit_validation.proofs.layers.NewNames.of_include.Goals as goal
 
 pub loop-index-preserved-in-Continue-1 : goal.loop-index-preserved-in-Continue-1

@@ -5,7 +5,7 @@ use Rattle.std.proofs.lemmas.Map.Text.{hash_map_updates_text}
 use Rattle.indexmap.specs.IndexMap.{get_by_text}
 use Rattle.wac_model.specs.Text.{Text}
 use Rattle.wac_wit_syntax.specs.declared.tree.Ident.{Ident}
-use Rattle.wac_wit_validation.specs.WitSources.{ident_text}
+use Rattle.wac_wit_scopes.specs.WitSources.{ident_text}
 use Rattle.wac_wit_validation.proofs.LayerFacts.{update-others}
 use Rattle.wac_wit_validation.proofs.layers.NewNames.put.Goals as goal
 

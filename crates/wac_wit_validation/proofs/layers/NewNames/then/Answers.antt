@@ -1,6 +1,6 @@
 use Rattle.std.proofs.Common.{◌≡◌, Some, string_bytes}
 use Rattle.wac_wit_validation.specs.Reading.{new_name}
-use Rattle.wac_wit_validation.specs.WitSources.{ident_text}
+use Rattle.wac_wit_scopes.specs.WitSources.{ident_text}
 use Rattle.wac_wit_validation.proofs.LayerFacts.{Thens-put}
 use Rattle.wac_wit_validation.proofs.layers.NewNames.then.Goals as goal
 

@@ -1,6 +1,6 @@
 use Rattle.std.proofs.Common.{◌≡◌}
 use Rattle.std.specs.Prelude.{string_bytes}
-use Rattle.wac_wit_validation.specs.WitSources.{ident_text}
+use Rattle.wac_wit_scopes.specs.WitSources.{ident_text}
 use Rattle.wac_wit_validation.proofs.NameFacts.{key_found, key_of_full, named_at}
 use Rattle.wac_wit_validation.proofs.names.NamedTypes.type_at.Goals as goal
 

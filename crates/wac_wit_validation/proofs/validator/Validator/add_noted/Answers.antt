@@ -2,7 +2,7 @@ use Rattle.std.proofs.Common.{List, Vec, sym, subst}
 use Rattle.std.specs.declared.alloc.Global.{Global}
 use Rattle.wac_wit_validation.specs.OriginClauses.{TellsWorld}
 use Rattle.wac_wit_validation.specs.Placed.{PlacedWorld}
-use Rattle.wac_wit_validation.specs.WitSources.{WitSources}
+use Rattle.wac_wit_scopes.specs.WitSources.{WitSources}
 use Rattle.wac_wit_validation.specs.WorldChecking.{AreLayersOf, AreWorldSides, IsTextAt, text_content}
 use Rattle.wac_wit_validation.specs.declared.layers.Layer.{Layer}
 use Rattle.wac_wit_validation.specs.declared.marks.WorldMarks.{WorldMarks}

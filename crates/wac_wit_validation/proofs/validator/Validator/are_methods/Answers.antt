@@ -6,7 +6,7 @@ use Rattle.wac_wit_syntax.specs.declared.tree.TypeDef.TheVariants as def
 use Rattle.wac_wit_validation.specs.Checking.{HasMethods, OffersMethods, named_items}
 use Rattle.wac_wit_validation.specs.Denoted.{type_name}
 use Rattle.wac_wit_validation.specs.Functions.{of_resource}
-use Rattle.wac_wit_validation.specs.WitSources.{ident_text}
+use Rattle.wac_wit_scopes.specs.WitSources.{ident_text}
 use Rattle.wac_wit_validation.proofs.validator.Validator.are_methods.Goals as goal
 
 same_methods : (ms ns : Vec Method Global) → def.Resource ms ≡ def.Resource ns → ms ≡ ns

@@ -3,7 +3,7 @@ use Rattle.wac_component.specs.Tree.{root_name}
 use Rattle.wac_wit_syntax.specs.declared.tree.Method.{Method}
 use Rattle.wac_wit_validation.specs.Checking.{HasMethodItem, Knows, MarksExports, OffersMethods, named_items}
 use Rattle.wac_wit_validation.specs.Denoted.{Setting}
-use Rattle.wac_wit_validation.specs.WitSources.{WitSources, ident_text}
+use Rattle.wac_wit_scopes.specs.WitSources.{WitSources, ident_text}
 use Rattle.wac_wit_validation.proofs.MarkFacts.{AllBelow}
 use Rattle.wac_wit_validation.proofs.validator.Validator.are_resource_methods.Given as goal
 

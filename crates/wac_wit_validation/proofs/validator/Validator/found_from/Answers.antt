@@ -1,7 +1,7 @@
 use Rattle.std.proofs.Common.{refl, sym, subst}
-use Rattle.wac_wit_validation.specs.Checking.{scope_syntax}
-use Rattle.wac_wit_validation.specs.WitSources.{PathLeadsTo, ScopeSyntax, ident_text}
-use Rattle.wac_wit_validation.proofs.PathFacts.{contains_at, read_at, read_from}
+use Rattle.wac_wit_scopes.specs.Scopes.{scope_syntax}
+use Rattle.wac_wit_scopes.specs.WitSources.{PathLeadsTo, ScopeSyntax, ident_text}
+use Rattle.wac_wit_scopes.proofs.PathFacts.{contains_at, read_at, read_from}
 use Rattle.wac_wit_validation.proofs.validator.Validator.found_from.Goals as goal
 
 pub returns : goal.returns

@@ -1,5 +1,5 @@
 use Rattle.wac_component.specs.declared.worlds.ExternKind.TheVariants.{Export}
-use Rattle.wac_wit_validation.specs.WitSources.{WitSources}
+use Rattle.wac_wit_scopes.specs.WitSources.{WitSources}
 use Rattle.wac_wit_validation.specs.Placed.{PlacedWorld}
 use Rattle.wac_wit_validation.proofs.MarkFacts.{AllBelow}
 use Rattle.wac_wit_validation.specs.WorldChecking.{AreMarksOf, IsTextAt, ItemNeeds, text_content}

@@ -1,4 +1,4 @@
-use Rattle.wac_wit_validation.proofs.PathFacts.{contains_at, read_from}
+use Rattle.wac_wit_scopes.proofs.PathFacts.{contains_at, read_from}
 use Rattle.wac_wit_validation.proofs.WorldFacts.{then_some_told}
 use Rattle.wac_wit_validation.proofs.validator.Validator.included.Goals as goal
 

@@ -1,7 +1,7 @@
 use Rattle.std.proofs.Common.{◌∙◌, inl, inr, sym, ap}
 use Rattle.wac_component.specs.Content.{named}
-use Rattle.wac_wit_validation.specs.WitSources.{ScopeSyntax, WitSources}
-use Rattle.wac_wit_validation.specs.WorldChecking.{IsScopeAt, LeadsToExtern}
+use Rattle.wac_wit_scopes.specs.WitSources.{ScopeSyntax, WitSources}
+use Rattle.wac_wit_validation.specs.WorldChecking.{IsIndexedScope, LeadsToExtern}
 use Rattle.wac_wit_validation.specs.declared.externs.LedExtern.{LedExtern}
 use Rattle.wac_wit_validation.specs.declared.marks.ExternMark.TheVariants.{Found}
 use Rattle.wac_wit_validation.proofs.NameFacts.{some_told}
@@ -19,7 +19,7 @@ pub returns-in-Some : goal.returns-in-Some
 returns-in-Some c = λ is of w x at marks i uses.
     let es = named (λ k. k) c.args.entry.now.exports.entries in
     let path = c.args.item.now.path in
-    let led = some_told c.in_ok-led.field-0 c.in-Some.led (λ (l : LedExtern). (of : WitSources) (y : ScopeSyntax) → IsScopeAt c.args.self.now c.args.scope of y → LeadsToExtern of c.args.self.now y path es l) c.in-Some.is c.in_ok-led.ensures of x at in
+    let led = some_told c.in_ok-led.field-0 c.in-Some.led (λ (l : LedExtern). (of : WitSources) (y : ScopeSyntax) → IsIndexedScope c.args.self.now c.args.scope of y → LeadsToExtern of c.args.self.now y path es l) c.in-Some.is c.in_ok-led.ensures of x at in
     let one = at.knows.interfaces.unambiguous.interfaces x path led.interface i led.scope led.leads (one_use of x c.args.item.now i uses).1 in
     let mark = some_there c.found_at.result _ c.found_at.ensures.some (sym is ∙ c.is_some.ensures) in
     let here = marks.each c.in-Some.led.index (Found mark.0) mark.1 in

@@ -7,7 +7,7 @@ use Rattle.wac_component.specs.Content.{world_content}
 use Rattle.wac_component.specs.Id.{Id}
 use Rattle.wac_wit_validation.specs.Placed.{PlacedWorld}
 use Rattle.wac_wit_validation.specs.Validated.{IsWorldOf}
-use Rattle.wac_wit_validation.specs.WitSources.{interface_identifier}
+use Rattle.wac_wit_scopes.specs.WitSources.{interface_identifier}
 use Rattle.wac_wit_validation.proofs.WorldFacts.{IsWorldAt-one, world_called}
 use Rattle.wac_wit_validation.proofs.validator.Validator.is_world_of.Goals as goal
 

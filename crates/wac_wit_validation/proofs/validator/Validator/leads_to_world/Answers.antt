@@ -1,10 +1,10 @@
 use Rattle.std.proofs.Common.{◌∙◌, sym, ap, subst}
 use Rattle.std.proofs.lemmas.Option.{same_Some}
-use Rattle.wac_wit_validation.specs.Checking.{scope_syntax}
+use Rattle.wac_wit_scopes.specs.Scopes.{scope_syntax}
 use Rattle.wac_wit_validation.specs.Placed.{HasWorld, LeadsToWorld, PlacedWorld}
-use Rattle.wac_wit_validation.specs.WitSources.{PathLeadsTo, ScopeSyntax, ident_text}
+use Rattle.wac_wit_scopes.specs.WitSources.{PathLeadsTo, ScopeSyntax, ident_text}
 use Rattle.wac_wit_validation.specs.WorldChecking.{IsWorldAt}
-use Rattle.wac_wit_validation.proofs.PathFacts.{read_from}
+use Rattle.wac_wit_scopes.proofs.PathFacts.{read_from}
 use Rattle.wac_wit_validation.proofs.WorldFacts.{IsWorldAt-one, world_placed}
 use Rattle.wac_wit_validation.proofs.validator.Validator.leads_to_world.Goals as goal
 

@@ -1,19 +1,8 @@
-use Rattle.std.proofs.Common.{Contains, List, refl, subst, sym}
-use Rattle.wac_wit_validation.specs.Checking.{IsKnownScope, scope_syntax}
-use Rattle.wac_wit_validation.specs.Listing.{IsScopeListed}
-use Rattle.wac_wit_validation.specs.declared.sources.ScopeItems.{ScopeItems}
+use Rattle.std.proofs.Common.{refl}
+use Rattle.std.proofs.lemmas.Result.{IfOk-weaker}
 use Rattle.wac_wit_validation.proofs.ListingFacts.{AreAllListed-scopes}
-use Rattle.wac_wit_validation.proofs.MarkFacts.{AllBelow-contains, AllBelow-more, AllBelow-none}
 use Rattle.wac_wit_validation.proofs.validator.Validator.lists_all.Goals as goal
 
-pub loop-index-init : goal.loop-index-init
-loop-index-init c = λ of knows. AllBelow-none (λ (w : ScopeItems). IsKnownScope of w → IsScopeListed of c.args.listed.now (scope_syntax w)) c.deref-scope-items.result.now
-
-pub loop-index-preserved : goal.loop-index-preserved
-loop-index-preserved c = λ of knows. AllBelow-more (λ (w : ScopeItems). IsKnownScope of w → IsScopeListed of c.args.listed.now (scope_syntax w)) c.deref-scope-items.result.now c.loop-index.index c.scope-item.result c.loop-index-test.true c.scope-item.is (c.loop-index.invariant of knows) (c.if-not-is_scope_listed.ensures refl of knows)
-
 pub returns : goal.returns
-returns c = λ is of knows.
-    let scopes = c.deref-scope-items.result.now in
-    AreAllListed-scopes of c.args.self.now c.args.listed.now knows.interfaces (λ w among.
-    AllBelow-contains (λ (w : ScopeItems). IsKnownScope of w → IsScopeListed of c.args.listed.now (scope_syntax w)) scopes c.loop-index.index w c.loop-index-test.false (c.loop-index.invariant of knows.interfaces) (subst (λ (l : List ScopeItems). Contains l w) (sym c.deref-scope-items.ensures.value) among))
+returns c = IfOk-weaker c.are_of_texts.result _ _ (λ is told yes of knows.
+    AreAllListed-scopes of c.args.listed.now (c.if-not-are_scopes_listed.ensures refl of knows.interfaces) (told yes of knows.interfaces)) c.are_of_texts.ensures

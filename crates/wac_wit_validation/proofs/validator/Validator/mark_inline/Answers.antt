@@ -1,9 +1,9 @@
 use Rattle.wac_component.specs.Content.{interface_content}
 use Rattle.wac_component.specs.Tree.{item_tree}
 use Rattle.wac_component.specs.declared.items.ItemKind.TheVariants.{Instance}
-use Rattle.wac_wit_validation.specs.Checking.{scope_syntax}
+use Rattle.wac_wit_scopes.specs.Scopes.{scope_syntax}
 use Rattle.wac_wit_validation.specs.Denoted.{renamed_by}
-use Rattle.wac_wit_validation.specs.WitSources.{ident_text}
+use Rattle.wac_wit_scopes.specs.WitSources.{ident_text}
 use Rattle.wac_wit_validation.specs.WorldChecking.{side_items}
 use Rattle.wac_wit_validation.specs.Worlds.{extern_inline}
 use Rattle.wac_wit_validation.specs.declared.marks.ExternMark.TheVariants.{Written}

@@ -1,7 +1,7 @@
 use Rattle.std.proofs.Common.{◌∙◌, sym, subst, Contains}
 use Rattle.wac_wit_syntax.specs.declared.tree.WorldItem.{WorldItem}
 use Rattle.wac_wit_syntax.specs.declared.tree.ExternItem.{ExternItem}
-use Rattle.wac_wit_validation.specs.WitSources.{IsEnabled}
+use Rattle.wac_wit_scopes.specs.WitSources.{IsEnabled}
 use Rattle.wac_wit_validation.specs.WorldChecking.{IsNamedThere, side_items}
 use Rattle.wac_wit_validation.proofs.WorldFacts.{IfOk-map, none_is, same_extern}
 use Rattle.wac_wit_validation.proofs.validator.Validator.mark_item.Goals as goal

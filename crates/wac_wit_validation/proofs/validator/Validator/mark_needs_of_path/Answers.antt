@@ -1,7 +1,7 @@
 use Rattle.wac_component.specs.Content.{named}
 use Rattle.wac_wit_validation.specs.Worlds.{used_by_interface}
-use Rattle.wac_wit_validation.specs.WitSources.{ScopeSyntax, WitSources}
-use Rattle.wac_wit_validation.specs.WorldChecking.{IsScopeAt, LeadsToExtern}
+use Rattle.wac_wit_scopes.specs.WitSources.{ScopeSyntax, WitSources}
+use Rattle.wac_wit_validation.specs.WorldChecking.{IsIndexedScope, LeadsToExtern}
 use Rattle.wac_wit_validation.specs.declared.externs.LedExtern.{LedExtern}
 use Rattle.wac_wit_validation.proofs.NameFacts.{some_told}
 use Rattle.wac_wit_validation.proofs.WorldFacts.{IfOk-map, scope_placed, uses_placed}
@@ -11,7 +11,7 @@ pub returns-in-Some-interface_at : goal.returns-in-Some-interface_at
 returns-in-Some-interface_at c = IfOk-map c.mark_unexported.result _ _ c.mark_unexported.ensures (λ b told is of w at there says.
     let v = c.args.self.now in
     let place = c.in-Some.led.found.place in
-    let led = some_told c.in_ok-led.field-0 c.in-Some.led (λ (l : LedExtern). (of : WitSources) (y : ScopeSyntax) → IsScopeAt c.args.self.now c.args.scope of y → LeadsToExtern of c.args.self.now y c.args.path.now (named (λ k. k) c.args.entry.now.exports.entries) l) c.in-Some.is c.in_ok-led.ensures of w.scope at in
+    let led = some_told c.in_ok-led.field-0 c.in-Some.led (λ (l : LedExtern). (of : WitSources) (y : ScopeSyntax) → IsIndexedScope c.args.self.now c.args.scope of y → LeadsToExtern of c.args.self.now y c.args.path.now (named (λ k. k) c.args.entry.now.exports.entries) l) c.in-Some.is c.in_ok-led.ensures of w.scope at in
     let x = led.interface in
     let placed = led.is.found.at in
     told is of w x.scope (scope_placed of v place x at.knows placed) there (λ i uses. used_by_interface c.args.path.now says led.leads ((uses_placed of v place x i c.in-Some-interface_at.field-0-0.now c.in-Some-interface_at.decl.now c.deref.result.now placed c.in-Some-interface_at.ensures.scope c.in-Some-interface_at.ensures.item c.deref.ensures.value).1 uses)))

@@ -2,8 +2,8 @@ use Rattle.std.proofs.Common.{subst}
 use Rattle.wac_component.specs.Content.{named}
 use Rattle.wac_wit_validation.specs.Checking.{HasItem}
 use Rattle.wac_wit_validation.specs.Placed.{PlacedInterface, placed_identifier}
-use Rattle.wac_wit_validation.specs.WitSources.{ScopeSyntax, WitSources}
-use Rattle.wac_wit_validation.specs.WorldChecking.{IsScopeAt, LeadsToExtern}
+use Rattle.wac_wit_scopes.specs.WitSources.{ScopeSyntax, WitSources}
+use Rattle.wac_wit_validation.specs.WorldChecking.{IsIndexedScope, LeadsToExtern}
 use Rattle.wac_wit_validation.specs.declared.externs.LedExtern.{LedExtern}
 use Rattle.wac_wit_validation.specs.declared.marks.ExternMark.TheVariants.{Found}
 use Rattle.wac_wit_validation.proofs.MarkFacts.{has_item_at}
@@ -12,8 +12,8 @@ use Rattle.wac_wit_validation.proofs.WorldFacts.{AreMarksOf-marked, IsMarkOf-fou
 use Rattle.wac_wit_validation.proofs.validator.Validator.mark_path.Goals as goal
 
 -- where the path leads
-led_at : (c : goal.After-mark) (of : WitSources) (w : ScopeSyntax) → IsScopeAt c.args.self.now c.args.scope of w → LeadsToExtern of c.args.self.now w c.args.path.now (named (λ k. k) c.args.externs.now.entries) c.in-Some.led
-led_at c = some_told c.in_ok-led.field-0 c.in-Some.led (λ (l : LedExtern). (of : WitSources) (w : ScopeSyntax) → IsScopeAt c.args.self.now c.args.scope of w → LeadsToExtern of c.args.self.now w c.args.path.now (named (λ k. k) c.args.externs.now.entries) l) c.in-Some.is c.in_ok-led.ensures
+led_at : (c : goal.After-mark) (of : WitSources) (w : ScopeSyntax) → IsIndexedScope c.args.self.now c.args.scope of w → LeadsToExtern of c.args.self.now w c.args.path.now (named (λ k. k) c.args.externs.now.entries) c.in-Some.led
+led_at c = some_told c.in_ok-led.field-0 c.in-Some.led (λ (l : LedExtern). (of : WitSources) (w : ScopeSyntax) → IsIndexedScope c.args.self.now c.args.scope of w → LeadsToExtern of c.args.self.now w c.args.path.now (named (λ k. k) c.args.externs.now.entries) l) c.in-Some.is c.in_ok-led.ensures
 
 pub returns-in-Some-clause-marks : goal.returns-in-Some-clause-marks
 returns-in-Some-clause-marks c = λ is k of w at says.

@@ -2,7 +2,8 @@ use Rattle.wac_wit_validation.specs.Checking.{IsSettingAt, LeadsToFound}
 use Rattle.wac_wit_validation.specs.Denoted.{Setting}
 use Rattle.wac_wit_validation.specs.declared.validator.FoundInterface.{FoundInterface}
 use Rattle.wac_wit_validation.proofs.NameFacts.{some_told}
-use Rattle.wac_wit_validation.proofs.PathFacts.{AreNamesAt-found, if_all}
+use Rattle.wac_wit_validation.proofs.LedNames.{AreNamesAt-found}
+use Rattle.wac_wit_scopes.proofs.PathFacts.{if_all}
 use Rattle.wac_wit_validation.proofs.validator.Validator.names_at.Goals as goal
 
 pub returns-in-Some-clause-named : goal.returns-in-Some-clause-named

@@ -1,4 +1,4 @@
-use Rattle.wac_wit_validation.specs.WitSources.{WitSources}
+use Rattle.wac_wit_scopes.specs.WitSources.{WitSources}
 use Rattle.wac_wit_validation.specs.WorldChecking.{KnowsWorlds}
 use Rattle.wac_wit_validation.proofs.LayerFacts.{AreNamingBelow}
 use Rattle.wac_wit_validation.proofs.validator.Validator.naming_items.Given as goal

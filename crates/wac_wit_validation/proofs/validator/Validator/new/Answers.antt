@@ -1,15 +1,14 @@
 use Rattle.wac_wit_validation.specs.declared.validator.FoundWorld.{FoundWorld}
 use Rattle.std.proofs.Common.{◌≡◌, Contains, List, refl, subst}
 use Rattle.wac_wit_validation.specs.Ambiguity.{GiveNamesOnce}
-use Rattle.wac_wit_validation.specs.Checking.{HasScope}
-use Rattle.wac_wit_validation.specs.Checking.{IsKnownScope}
+use Rattle.wac_wit_scopes.specs.Scopes.{HasScope, IsKnownScope}
 use Rattle.wac_wit_validation.specs.Once.{ItemsGiveOnce}
-use Rattle.wac_wit_validation.specs.declared.sources.ScopeItems.{ScopeItems}
+use Rattle.wac_wit_scopes.specs.declared.scopes.ScopeItems.{ScopeItems}
 use Rattle.wac_wit_validation.specs.declared.validator.FoundInterface.{FoundInterface}
 use Rattle.std.specs.Prelude.{slice_get, Some, ℕ, Vec}
 use Rattle.std.specs.declared.alloc.Global.{Global}
 use Rattle.wac_wit_names.specs.declared.features.Features.{Features}
-use Rattle.wac_wit_validation.specs.WitSources.{IsScopeOf, ScopeSyntax, sources_of}
+use Rattle.wac_wit_scopes.specs.WitSources.{IsScopeOf, ScopeSyntax, sources_of}
 use Rattle.wac_wit_validation.proofs.AmbiguityFacts.{unambiguous}
 use Rattle.wac_wit_validation.proofs.FoundFacts.{Contains-nothing}
 use Rattle.wac_wit_validation.proofs.NameFacts.{some_told}

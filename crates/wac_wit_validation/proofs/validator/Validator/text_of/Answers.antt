@@ -1,5 +1,5 @@
 use Rattle.std.proofs.Common.{refl}
-use Rattle.wac_wit_validation.specs.Checking.{scope_syntax}
+use Rattle.wac_wit_scopes.specs.Scopes.{scope_syntax}
 use Rattle.wac_wit_validation.specs.Placed.{PlacedWorld}
 use Rattle.wac_wit_validation.proofs.validator.Validator.text_of.Goals as goal
 

@@ -1,0 +1,15 @@
+pub mod TypeFacts
+pub mod WrittenFacts
+pub mod TwiceFacts
+pub mod Pushed
+pub mod NamingFacts
+pub mod JudgeFacts
+pub mod Walks
+pub mod Known
+pub mod Reached
+pub mod PathPlaces
+pub mod Versions
+pub mod Lacking
+pub mod NameFacts
+pub mod HandleFacts
+pub mod ConstructorFacts

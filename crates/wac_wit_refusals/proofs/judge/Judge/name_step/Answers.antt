@@ -1,0 +1,8 @@
+use Rattle.wac_wit_refusals.proofs.TypeFacts.{some_fact}
+use Rattle.wac_wit_refusals.proofs.judge.Judge.name_step.Goals as goal
+
+pub returns-in-Some : goal.returns-in-Some
+returns-in-Some c of knows known = some_fact _ _ _ c.in-Some.is c.in_ok-next.ensures of knows known
+
+pub returns-in-None : goal.returns-in-None
+returns-in-None c = c.defined_name.ensures

@@ -1,0 +1,11 @@
+use Rattle.wac_wit_refusals.proofs.PathPlaces.{path_at}
+use Rattle.wac_wit_refusals.proofs.members.names_own.Goals as goal
+
+pub returns-then-is_at : goal.returns-then-is_at
+returns-then-is_at c = λ is of file known. record {
+  place = path_at of file c.args.of.now known;
+  named = c.in-Some.named;
+  says = c.in-Some.is;
+  is_at = c.is_at.ensures c.if-is_at.true;
+  own = c.is_named.ensures is of known.scope;
+}

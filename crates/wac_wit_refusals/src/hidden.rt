@@ -1,0 +1,70 @@
+//! Types that are there in interfaces that features hide.
+
+ghost use Rattle.std.specs.Prelude.{◌≡◌, Contains, IsTrue};
+ghost use Rattle.wac_wit_refusals.specs.Attributes.{HasTypeOfHidden, HasTypeThere, IsTypeOfHidden, IsTypeThere};
+ghost use Rattle.wac_wit_refusals.specs.Judging.{Judges};
+ghost use Rattle.wac_wit_scopes.specs.WitSources.{WitSources};
+ghost use Rattle.wac_wit_syntax.specs.declared.tree.Rename.{Rename as RenameOf};
+
+use super::judge::{Judge, is_at};
+use wac_wit_syntax::{InterfaceItem, Rename, Span, TopItem};
+
+impl Judge<'_> {
+    /// Whether the type at this place doesn't need the feature that its interface needs.
+    pub(crate) fn is_type_of_hidden(&self, file: usize, span: Span) -> bool
+        ensures { IsTrue result → (of : WitSources) → Judges of self.now → IsTypeOfHidden of file span }
+    {
+        for scope in &self.scopes {
+            if scope.file == file && self.has_type_of_hidden(scope.items, span) {
+                return true;
+            }
+        }
+        false
+    }
+
+    fn has_type_of_hidden(&self, items: &[TopItem], span: Span) -> bool
+        ensures { IsTrue result → (of : WitSources) → Judges of self.now → HasTypeOfHidden of items.now span }
+    {
+        for item in items {
+            if let TopItem::Interface(decl) = item {
+                if !self.is_there(&decl.gates) && self.has_type_there(&decl.items, span) {
+                    return true;
+                }
+            }
+        }
+        false
+    }
+
+    fn has_type_there(&self, items: &[InterfaceItem], span: Span) -> bool
+        ensures { IsTrue result → (of : WitSources) → Judges of self.now → HasTypeThere of items.now span }
+    {
+        for item in items {
+            if self.is_type_there(item, span) {
+                return true;
+            }
+        }
+        false
+    }
+
+    fn is_type_there(&self, item: &InterfaceItem, span: Span) -> bool
+        ensures { IsTrue result → (of : WitSources) → Judges of self.now → IsTypeThere of item.now span }
+    {
+        match item {
+            InterfaceItem::Use(it) => self.is_there(&it.gates) && is_name_at(&it.names, span),
+            InterfaceItem::Type(it) => self.is_there(&it.gates) && is_at(it.name.span, span),
+            InterfaceItem::Func(_) => false,
+        }
+    }
+}
+
+// Whether one of the names stands at a place.
+fn is_name_at(names: &[Rename], span: Span) -> bool
+    ensures { IsTrue result → (r : RenameOf) × Contains names.now r × (r.name.span ≡ span) }
+{
+    for rename in names {
+        if is_at(rename.name.span, span) {
+            return true;
+        }
+    }
+    false
+}

@@ -1,0 +1,263 @@
+//! Types of other interfaces that aren't there.
+
+ghost use Rattle.std.specs.Prelude.{◌≡◌, ◌↔◌, ℕ, Contains, IfOk, IfSome, IsTrue};
+ghost use Rattle.wac_wit_refusals.specs.Judging.{IsKnownBody, Judges, body_syntax};
+ghost use Rattle.wac_wit_refusals.specs.Leading.{IsFoundUsed, IsTypeHidden, IsUsedIf, IsUsedInWorld, IsUsedInside};
+ghost use Rattle.wac_wit_refusals.specs.Sites.{HasUseIn, interface_items, world_items};
+ghost use Rattle.wac_wit_refusals.specs.UsedReasons.{GivesTypeName, IsHiddenUsed, IsInsideEnabled, IsUnknownUsed};
+ghost use Rattle.wac_wit_scopes.specs.WitSources.{WitSources, given_name, ident_text};
+ghost use Rattle.wac_wit_syntax.specs.declared.tree.InterfaceItem.{InterfaceItem as InsideOf};
+ghost use Rattle.wac_wit_syntax.specs.declared.tree.Rename.{Rename as RenameOf};
+ghost use Rattle.wac_wit_syntax.specs.declared.tree.TopItem.TheVariants as top;
+
+use super::bodies::{Body, PlacedBody};
+use super::judge::{Judge, is_at};
+use std::alloc::AllocError;
+use wac_wit_syntax::{
+    Ident, InterfaceDecl, InterfaceItem, Rename, Span, TopItem, UseItem, WorldItem,
+};
+
+/// A type that is used: the interface, and the name.
+#[derive(Clone, Copy)]
+pub(crate) struct FoundUsed<'b> {
+    pub(crate) from: &'b InterfaceDecl,
+    pub(crate) name: &'b Ident,
+}
+
+impl<'j> Judge<'j> {
+    /// Whether an interface has no type of a name that is used.
+    pub(crate) fn is_unknown_used(&self, file: usize, span: Span) -> Result<bool, AllocError>
+        ensures { IfOk result (λ is. IsTrue is → (of : WitSources) → Judges of self.now → IsUnknownUsed of file span) }
+    {
+        match self.used_at(file, span)? {
+            Some(used) => Ok(lacks_type(&used.from.items, used.name)),
+            None => Ok(false),
+        }
+    }
+
+    /// Whether an interface has a type of a name that is used, which a feature hides.
+    pub(crate) fn is_hidden_used(&self, file: usize, span: Span) -> Result<bool, AllocError>
+        ensures { IfOk result (λ is. IsTrue is → (of : WitSources) → Judges of self.now → IsHiddenUsed of file span) }
+    {
+        match self.used_at(file, span)? {
+            Some(used) => Ok(self.is_type_hidden(&used.from.items, used.name)),
+            None => Ok(false),
+        }
+    }
+
+    fn is_type_hidden(&self, items: &[InterfaceItem], name: &Ident) -> bool
+        ensures { IsTrue result → (of : WitSources) → Judges of self.now → IsTypeHidden of items.now (ident_text name.now) }
+    {
+        has_type(items, name) && self.lacks_type_there(items, name)
+    }
+
+    fn lacks_type_there(&self, items: &[InterfaceItem], name: &Ident) -> bool
+        ensures { IsTrue result → (of : WitSources) → Judges of self.now → (t : InsideOf) → Contains items.now t → GivesTypeName t (ident_text name.now) → IsInsideEnabled of t → ⊥ }
+    {
+        for item in items {
+            if gives_type(item, name) && self.is_inside_there(item) {
+                return false;
+            }
+        }
+        true
+    }
+
+    fn is_inside_there(&self, item: &InterfaceItem) -> bool
+        ensures { (of : WitSources) → Judges of self.now → IsTrue result ↔ IsInsideEnabled of item.now }
+    {
+        match item {
+            InterfaceItem::Type(it) => self.is_there(&it.gates),
+            InterfaceItem::Use(it) => self.is_there(&it.gates),
+            InterfaceItem::Func(it) => self.is_there(&it.gates),
+        }
+    }
+
+    // The type whose name stands at a place of a file, where it is used.
+    fn used_at(&self, file: usize, span: Span) -> Result<Option<FoundUsed<'j>>, AllocError>
+        ensures { IfOk result (λ o. IfSome o (λ u. (of : WitSources) → Judges of self.now → IsFoundUsed of file span u)) }
+    {
+        let bodies = self.bodies_in(file)?;
+        for body in &bodies {
+            if let Some(used) = self.used_in(body, span)? {
+                return Ok(Some(used));
+            }
+        }
+        Ok(None)
+    }
+
+    fn used_in(
+        &self,
+        body: &PlacedBody<'j>,
+        span: Span,
+    ) -> Result<Option<FoundUsed<'j>>, AllocError>
+        ensures { IfOk result (λ o. IfSome o (λ u. (of : WitSources) → Judges of self.now → (file : ℕ) → IsKnownBody of file body.now → IsFoundUsed of file span u)) }
+    {
+        match body.body {
+            Body::Interface(items) => self.used_in_interface(body, items, span),
+            Body::World(items) => self.used_in_world(body, items, span),
+        }
+    }
+
+    fn used_in_interface(
+        &self,
+        body: &PlacedBody<'j>,
+        items: &'j [InterfaceItem],
+        span: Span,
+    ) -> Result<Option<FoundUsed<'j>>, AllocError>
+        ensures { IfOk result (λ o. IfSome o (IsUsedIf self.now body.now span (body_syntax body.now.body ≡ interface_items items.now))) }
+    {
+        for item in items {
+            if let Some(used) = self.used_in_interface_item(body, item, span)? {
+                return Ok(Some(used));
+            }
+        }
+        Ok(None)
+    }
+
+    fn used_in_interface_item(
+        &self,
+        body: &PlacedBody<'j>,
+        item: &'j InterfaceItem,
+        span: Span,
+    ) -> Result<Option<FoundUsed<'j>>, AllocError>
+        ensures { IfOk result (λ o. IfSome o (IsUsedInside self.now body.now span item.now)) }
+    {
+        match item {
+            InterfaceItem::Use(it) => self.used_by(body, it, span),
+            _ => Ok(None),
+        }
+    }
+
+    fn used_in_world(
+        &self,
+        body: &PlacedBody<'j>,
+        items: &'j [WorldItem],
+        span: Span,
+    ) -> Result<Option<FoundUsed<'j>>, AllocError>
+        ensures { IfOk result (λ o. IfSome o (IsUsedIf self.now body.now span (body_syntax body.now.body ≡ world_items items.now))) }
+    {
+        for item in items {
+            if let Some(used) = self.used_in_world_item(body, item, span)? {
+                return Ok(Some(used));
+            }
+        }
+        Ok(None)
+    }
+
+    fn used_in_world_item(
+        &self,
+        body: &PlacedBody<'j>,
+        item: &'j WorldItem,
+        span: Span,
+    ) -> Result<Option<FoundUsed<'j>>, AllocError>
+        ensures { IfOk result (λ o. IfSome o (IsUsedInWorld self.now body.now span item.now)) }
+    {
+        match item {
+            WorldItem::Use(it) => self.used_by(body, it, span),
+            _ => Ok(None),
+        }
+    }
+
+    // The type that a `use` names at a place.
+    fn used_by(
+        &self,
+        body: &PlacedBody<'j>,
+        item: &'j UseItem,
+        span: Span,
+    ) -> Result<Option<FoundUsed<'j>>, AllocError>
+        ensures { IfOk result (λ o. IfSome o (IsUsedIf self.now body.now span (HasUseIn (body_syntax body.now.body) item.now))) }
+    {
+        if !self.is_there(&item.gates) {
+            return Ok(None);
+        }
+        let Some(name) = name_at(&item.names, span) else {
+            return Ok(None);
+        };
+        match self.led_to(&body.scope, &item.path)? {
+            Some(led) => Ok(found_in(led.item, name)),
+            None => Ok(None),
+        }
+    }
+}
+
+// The name that stands at a place.
+fn name_at<'b>(names: &'b [Rename], span: Span) -> Option<&'b Ident>
+    ensures { IfSome result (λ n. (n.now.span ≡ span) × (r : RenameOf) × Contains names.now r × (r.name ≡ n.now)) }
+{
+    for rename in names {
+        if is_at(rename.name.span, span) {
+            return Some(&rename.name);
+        }
+    }
+    None
+}
+
+fn found_in<'b>(item: &'b TopItem, name: &'b Ident) -> Option<FoundUsed<'b>>
+    ensures { IfSome result (λ u. (item.now ≡ top.Interface u.from.now) × (u.name.now ≡ name.now)) }
+{
+    match item {
+        TopItem::Interface(from) => Some(FoundUsed { from, name }),
+        _ => None,
+    }
+}
+
+// Whether no item gives a type a name.
+fn lacks_type(items: &[InterfaceItem], name: &Ident) -> bool
+    ensures { IsTrue result → (t : InsideOf) → Contains items.now t → GivesTypeName t (ident_text name.now) → ⊥ }
+{
+    for item in items {
+        if gives_type(item, name) {
+            return false;
+        }
+    }
+    true
+}
+
+fn has_type(items: &[InterfaceItem], name: &Ident) -> bool
+    ensures { IsTrue result → (t : InsideOf) × Contains items.now t × GivesTypeName t (ident_text name.now) }
+{
+    for item in items {
+        if gives_type(item, name) {
+            return true;
+        }
+    }
+    false
+}
+
+fn gives_type(item: &InterfaceItem, name: &Ident) -> bool
+    ensures { IsTrue result ↔ GivesTypeName item.now (ident_text name.now) }
+{
+    match item {
+        InterfaceItem::Type(it) => it.name.name == name.name,
+        InterfaceItem::Use(it) => gives_any(&it.names, name),
+        InterfaceItem::Func(_) => false,
+    }
+}
+
+/// Whether one of the names that are used becomes this one.
+pub(crate) fn gives_any(names: &[Rename], name: &Ident) -> bool
+    ensures { IsTrue result ↔ (r : RenameOf) × Contains names.now r × (given_name r.name r.alias ≡ ident_text name.now) }
+{
+    for rename in names {
+        if gives_name(rename, name) {
+            return true;
+        }
+    }
+    false
+}
+
+fn gives_name(rename: &Rename, name: &Ident) -> bool
+    ensures { IsTrue result ↔ given_name rename.now.name rename.now.alias ≡ ident_text name.now }
+{
+    local_name(rename).name == name.name
+}
+
+// The name that a used type gets.
+fn local_name(rename: &Rename) -> &Ident
+    ensures { ident_text result.now ≡ given_name rename.now.name rename.now.alias }
+{
+    match &rename.alias {
+        Some(alias) => alias,
+        None => &rename.name,
+    }
+}

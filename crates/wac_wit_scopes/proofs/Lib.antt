@@ -1,0 +1,3 @@
+pub mod PathFacts
+pub mod ScopeFacts
+pub mod AllScopes

@@ -1,0 +1,28 @@
+use Rattle.std.proofs.Common.{nat_eq, refl}
+use Rattle.std.proofs.lemmas.Option.{slice_get_read}
+use Rattle.indexmap.specs.IndexMap.{get}
+use Rattle.wac_wit_scopes.specs.WitSources.{sources_of}
+use Rattle.wac_wit_scopes.proofs.AllScopes.{HasGroupsBelow-end, HasGroupsBelow-more}
+use Rattle.wac_wit_scopes.proofs.PathFacts.{read_at}
+use Rattle.wac_wit_scopes.proofs.ScopeFacts.{file_among}
+use Rattle.wac_wit_scopes.proofs.packages.groups_of.Goals as goal
+
+pub loop-index-preserved : goal.loop-index-preserved
+loop-index-preserved c =
+    let files = c.args.files.now in
+    let documents = c.args.documents.now in
+    let index = c.loop-index.index in
+    let file = c.in-Some.file.now in
+    let document = c.index-documents-index.result in
+    let file_at = read_at files index file file c.in-Some.ensures.lookup.0 c.in-Some.ensures.lookup.1 refl in
+    let document_at = slice_get_read documents _ index document refl c.loop-index-test.true c.index-documents-index.is in
+    record {
+      named = λ features. c.in_ok-add_file.ensures.named (sources_of files documents features) (file_among files documents features index file document file_at document_at) (c.loop-index.invariant.named features);
+      all = HasGroupsBelow-more files documents (get nat_eq c.loop-index.groups) (get nat_eq c.add_file.new.groups) index file document file_at document_at c.in_ok-add_file.ensures.keeps (c.in_ok-add_file.ensures.has c.if-not-branch.false) c.loop-index.invariant.all;
+    }
+
+pub returns-clause-named : goal.returns-clause-named
+returns-clause-named c = c.loop-index.invariant.named
+
+pub returns-clause-all : goal.returns-clause-all
+returns-clause-all c = HasGroupsBelow-end c.args.files.now c.args.documents.now (get nat_eq c.loop-index.groups) c.loop-index.index c.loop-index-test.false c.loop-index.invariant.all

@@ -1,8 +1,0 @@
-use Rattle.std.proofs.Common.{take}
-use Rattle.std.specs.Prelude.{All}
-use Rattle.indexmap.specs.IndexMap.{get_by_text}
-use Rattle.wac_wit_validation.specs.Naming.{KnowsNamesOf}
-use Rattle.wac_wit_validation.proofs.packages.versions_in.Given as goal
-
-abbrev pub invariant-loop-document : goal.invariant-loop-document
-invariant-loop-document l = All (KnowsNamesOf (get_by_text l.versions)) (take l.document-index l.documents)
