@@ -59,7 +59,7 @@ pub enum Reason {
     CharStream,
     /// A function returns borrowed handles.
     BorrowReturned,
-    /// A constructor returns something else than its resource.
+    /// A constructor returns what isn't written as its resource, nor as a `result` with it.
     NotConstructed,
     /// An interface has no type of a name that is used.
     UnknownUsed,
