@@ -1,6 +1,6 @@
 -- Names of types that are followed.
-use Rattle.std.proofs.Common.{◌≡◌, ◌∙◌, refl, subst, sym}
-use Rattle.wac_wit_refusals.specs.Following.{IsInside, IsNextName, NamesValues, UsesAs}
+use Rattle.std.proofs.Common.{◌≡◌, ◌∙◌, ap, refl, subst, sym}
+use Rattle.wac_wit_refusals.specs.Following.{IsInside, IsNextName, IsUsedName, NamesValues, UsesAs}
 use Rattle.wac_wit_refusals.specs.Handles.{IsHandleOf, IsNoTypeName, IsValueDef, NamesValueType, a_borrow, an_own, of_used}
 use Rattle.wac_wit_refusals.specs.Judging.{body_syntax}
 use Rattle.wac_wit_refusals.specs.Paths.{LeadsToItem}
@@ -13,6 +13,7 @@ use Rattle.wac_wit_scopes.specs.WitSources.{IsEnabled, WitSources, ident_text}
 use Rattle.wac_wit_scopes.specs.declared.scopes.ScopeItems.{ScopeItems}
 use Rattle.wac_wit_syntax.specs.declared.tree.Ident.{Ident}
 use Rattle.wac_wit_syntax.specs.declared.tree.Method.{Method}
+use Rattle.wac_wit_syntax.specs.declared.tree.TopItem.TheVariants as top
 use Rattle.wac_wit_syntax.specs.declared.tree.TypeDef.{TypeDef}
 use Rattle.wac_wit_syntax.specs.declared.tree.TypeDef.TheVariants as def
 use Rattle.wac_wit_syntax.specs.declared.tree.TypeExpr.{TypeExpr}
@@ -40,15 +41,34 @@ handle_of id _ other a_type_name = absurd (other id refl)
 handle_of id _ other an_owned_handle = an_own
 handle_of id _ other a_borrowed_handle = a_borrow
 
-pub next_by_use : (of : WitSources) (f g : FollowedName) (u : UseItem) (l : LedTo) (id : Ident) → HasUseIn (body_syntax f.placed.body) u → IsEnabled of u.gates → UsesAs u f.name.now id → IsKnownScope of l.scope
-    → LeadsToItem of (scope_syntax f.placed.scope) u.path (scope_syntax l.scope) l.item.now → IsInside of l id g → IsNextName of f g
-next_by_use of f g u l id among there uses known leads inside = record { known = subst (IsKnownScope of) (sym inside.scope) known; back = back }
+-- a `use` gives the name to a type of the interface that is found
+pub used_name : (of : WitSources) (f g : FollowedName) (u : UseItem) (l : LedTo) (id : Ident) → HasUseIn (body_syntax f.placed.body) u → IsEnabled of u.gates → UsesAs u f.name.now id → IsKnownScope of l.scope
+    → LeadsToItem of (scope_syntax f.placed.scope) u.path (scope_syntax l.scope) l.item.now → IsInside of l id g → IsUsedName of f g
+used_name of f g u l id among there uses known leads inside = record {
+  known = subst (IsKnownScope of) (sym inside.scope) known;
+  uses = record {
+    item = u;
+    among = among;
+    there = there;
+    used = uses.rename;
+    uses = uses.among;
+    gives = uses.gives;
+    interface = inside.interface;
+    leads = subst (λ (s : ScopeItems). LeadsToItem of (scope_syntax f.placed.scope) u.path (scope_syntax s) (top.Interface inside.interface)) (sym inside.scope)
+        (subst (LeadsToItem of (scope_syntax f.placed.scope) u.path (scope_syntax l.scope)) inside.is leads);
+    enabled = inside.there;
+    body = inside.body;
+    name = ap ident_text (uses.is ∙ sym inside.name);
+  };
+}
+
+pub next_by_use : (of : WitSources) (f g : FollowedName) → IsUsedName of f g → IsNextName of f g
+next_by_use of f g h = record { known = h.known; back = back }
   where
-    within : NamesValues of g → NamesValueType of (scope_syntax l.scope) (interface_items inside.interface.items.items) (ident_text uses.rename.name)
-    within h = subst (λ (i : Ident). NamesValueType of (scope_syntax l.scope) (interface_items inside.interface.items.items) (ident_text i)) (inside.name ∙ sym uses.is)
-        (subst (λ (x : BodySyntax). NamesValueType of (scope_syntax l.scope) x (ident_text g.name.now)) inside.body
-        (subst (λ (s : ScopeItems). NamesValueType of (scope_syntax s) (body_syntax g.placed.body) (ident_text g.name.now)) inside.scope h))
+    within : NamesValues of g → NamesValueType of (scope_syntax g.placed.scope) (interface_items h.uses.interface.items.items) (ident_text h.uses.used.name)
+    within k = subst (NamesValueType of (scope_syntax g.placed.scope) (interface_items h.uses.interface.items.items)) (sym h.uses.name)
+        (subst (λ (x : BodySyntax). NamesValueType of (scope_syntax g.placed.scope) x (ident_text g.name.now)) h.uses.body k)
 
     back : NamesValues of g → NamesValues of f
-    back h = subst (NamesValueType of (scope_syntax f.placed.scope) (body_syntax f.placed.body)) uses.gives
-        (of_used (scope_syntax f.placed.scope) (scope_syntax l.scope) (body_syntax f.placed.body) u uses.rename inside.interface among there uses.among (subst (LeadsToItem of (scope_syntax f.placed.scope) u.path (scope_syntax l.scope)) inside.is leads) inside.there (within h))
+    back k = subst (NamesValueType of (scope_syntax f.placed.scope) (body_syntax f.placed.body)) h.uses.gives
+        (of_used (scope_syntax f.placed.scope) (scope_syntax g.placed.scope) (body_syntax f.placed.body) h.uses.item h.uses.used h.uses.interface h.uses.among h.uses.there h.uses.uses h.uses.leads h.uses.enabled (within k))

@@ -13,3 +13,8 @@ pub mod Lacking
 pub mod NameFacts
 pub mod HandleFacts
 pub mod ConstructorFacts
+pub mod ComingFacts
+pub mod SoughtFacts
+pub mod NeededFacts
+pub mod BorrowFacts
+pub mod KeptFacts

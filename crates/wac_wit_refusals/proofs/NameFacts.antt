@@ -3,7 +3,7 @@ use Rattle.std.proofs.Common.{◌∙◌, List, Contains, ap, subst, sym}
 use Rattle.wac_model.specs.Text.{Text}
 use Rattle.wac_wit_refusals.specs.Sites.{BodySyntax}
 use Rattle.wac_wit_refusals.specs.TypeLists.{AreTypesOf, AreUseItemsOf, IsGivenAmong, IsNotThere, NoTypeGives, NoUseGives, type_gives, use_gives}
-use Rattle.wac_wit_refusals.specs.TypeNames.{IncludesNone, IsGivenHidden}
+use Rattle.wac_wit_refusals.specs.TypeNames.{IsGivenHidden}
 use Rattle.wac_wit_refusals.specs.TypeSites.{IsTypeGiven, by_type, by_used}
 use Rattle.wac_wit_refusals.specs.declared.type_items.PlacedType.{PlacedType}
 use Rattle.wac_wit_refusals.specs.declared.type_items.PlacedUse.{PlacedUse}
@@ -28,5 +28,5 @@ module _ (b : BodySyntax) (n : Text) (types : List PlacedType) (uses : List Plac
   given_among (type_gives p among named) = (p.ty.now.gates, by_type p.ty.now (type_among b p.item p.ty.now (are_types.at p among)) named)
   given_among (use_gives p among given) = (p.used.now.gates, by_used p.used.now given.0 (use_among b p.item p.used.now (are_uses.at p among)) given.1 given.2)
 
-  pub given_hidden : (of : WitSources) → IsNotThere of types uses n → IncludesNone of b → IsGivenHidden of b n
-  given_hidden of h none = let g = given_among h.given in record { gates = g.0; given = g.1; hidden = hidden_there of h; includes_none = none }
+  pub given_hidden : (of : WitSources) → IsNotThere of types uses n → IsGivenHidden of b n
+  given_hidden of h = let g = given_among h.given in record { gates = g.0; given = g.1; hidden = hidden_there of h }

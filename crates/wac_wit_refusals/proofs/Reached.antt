@@ -13,10 +13,10 @@ use Rattle.wac_wit_refusals.specs.declared.judge.Judge.{Judge}
 use Rattle.wac_wit_refusals.specs.declared.led.LedTo.{LedTo}
 
 module _ (j : Judge) (l s : LedTo) (same : l.place ≡ s.place) (left : IsPlacedItem j l) (right : IsPlacedItem j s) where
-  same_scope : l.scope ≡ s.scope
+  pub same_scope : l.scope ≡ s.scope
   same_scope = same_Some _ _ (sym left.scope ∙ ap (λ (p : MemberPlace). slice_get j.scopes.items p.scope) same ∙ right.scope)
 
-  same_item : l.item.now ≡ s.item.now
+  pub same_item : l.item.now ≡ s.item.now
   same_item = let scope = same_scope in same_Some _ _ (sym left.item ∙ (λ i. slice_get (scope i).items.now (same i).item) ∙ right.item)
 
   -- what is reached from something, and stands at its place, is that

@@ -1,6 +1,7 @@
 -- Names that stand twice among those that are listed.
 use Rattle.std.proofs.Common.{◌≡◌, ℕ, List, Option, Some, None, IfSome, refl}
-use Rattle.wac_wit_refusals.specs.NamesTwice.{IsTakenTwice, alias_ident}
+use Rattle.wac_wit_refusals.specs.NamesTwice.{IsTakenTwice}
+use Rattle.wac_wit_refusals.specs.Sites.{alias_ident}
 use Rattle.wac_wit_refusals.specs.TypeLists.{AreTaken, StandsTwice}
 use Rattle.wac_wit_refusals.specs.declared.taken_names.TakenName.{TakenName}
 use Rattle.wac_wit_scopes.specs.WitSources.{given_name, ident_text}

@@ -1,9 +1,11 @@
 -- What is known while names of types are followed.
 use Rattle.std.specs.Prelude.{◌≡◌, Contains}
+use Rattle.wac_wit_refusals.specs.Definitions.{BodyPlace, UsesTypeOf}
 use Rattle.wac_wit_refusals.specs.Handles.{NamesValueType}
 use Rattle.wac_wit_refusals.specs.Judging.{body_syntax}
 use Rattle.wac_wit_refusals.specs.Sites.{HasUseIn, interface_items}
 use Rattle.wac_wit_refusals.specs.TypeSites.{HasType}
+use Rattle.wac_wit_refusals.specs.declared.bodies.PlacedBody.{PlacedBody}
 use Rattle.wac_wit_refusals.specs.declared.handles.FollowedName.{FollowedName}
 use Rattle.wac_wit_refusals.specs.declared.handles.NameStep.{NameStep}
 use Rattle.wac_wit_refusals.specs.declared.handles.NameStep.TheVariants.{Another, Nowhere, Values}
@@ -16,6 +18,9 @@ use Rattle.wac_wit_syntax.specs.declared.tree.Rename.{Rename}
 use Rattle.wac_wit_syntax.specs.declared.tree.TopItem.TheVariants as top
 use Rattle.wac_wit_syntax.specs.declared.tree.TypeItem.{TypeItem}
 use Rattle.wac_wit_syntax.specs.declared.tree.UseItem.{UseItem}
+
+abbrev pub body_place : PlacedBody → BodyPlace
+body_place p = record { scope = scope_syntax p.scope; body = body_syntax p.body }
 
 abbrev pub NamesValues : WitSources → FollowedName → Type 0
 NamesValues of f = NamesValueType of (scope_syntax f.placed.scope) (body_syntax f.placed.body) (ident_text f.name.now)
@@ -31,6 +36,11 @@ HasTypeFor of f t = HasType of (body_syntax f.placed.body) t
 pub record IsNextName (of : WitSources) (f g : FollowedName) : Type 0 where
   pub known : IsKnownScope of g.placed.scope
   pub back : NamesValues of g → NamesValues of f
+
+-- a `use` gives the name to the type of the next
+pub record IsUsedName (of : WitSources) (f g : FollowedName) : Type 0 where
+  pub known : IsKnownScope of g.placed.scope
+  pub uses : UsesTypeOf of (body_place f.placed) (ident_text f.name.now) (body_place g.placed) (ident_text g.name.now)
 
 abbrev pub IsNameStep : WitSources → FollowedName → NameStep → Type 0
 IsNameStep of f Values = NamesValues of f

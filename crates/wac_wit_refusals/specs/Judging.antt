@@ -1,5 +1,5 @@
 -- What is known while reasons are looked for.
-use Rattle.std.specs.Prelude.{◌≡◌, ℕ, Contains, List, slice_get, Some, Vec}
+use Rattle.std.specs.Prelude.{◌≡◌, ℕ, Contains, List, Option, slice_get, Some, Vec}
 use Rattle.std.specs.declared.alloc.Global.{Global}
 use Rattle.wac_model.specs.Text.{Text}
 use Rattle.wac_wit_names.specs.Features.{has_feature}
@@ -54,6 +54,10 @@ IfExternIn of w x P = (d : WorldDecl) → HasWorldIn of w d → HasExternIn d.it
 -- a reason that is named holds
 abbrev pub IsJudged : WitSources → WitRefusal → Type 0
 IsJudged of r = (x : Reason) → r.reason ≡ Some x → IsWrong of r.file r.refusal.span x
+
+-- a reason of a refusal, if there is one, holds
+abbrev pub IsReasonOf : WitSources → WitRefusal → Option Reason → Type 0
+IsReasonOf of r o = (x : Reason) → o ≡ Some x → IsWrong of r.file r.refusal.span x
 
 abbrev pub AreJudged : WitSources → List WitRefusal → Type 0
 AreJudged of rs = (r : WitRefusal) → Contains rs r → IsJudged of r

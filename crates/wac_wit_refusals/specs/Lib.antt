@@ -25,3 +25,12 @@ pub mod Includes
 pub mod IncludeSteps
 pub mod Constructors
 pub mod ConstructorSteps
+pub mod Brought
+pub mod BroughtSteps
+pub mod NeededTwice
+pub mod NeededSteps
+pub mod Definitions
+pub mod Borrows
+pub mod CharStreams
+pub mod BorrowSteps
+pub mod Kept

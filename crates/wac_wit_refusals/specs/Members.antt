@@ -1,6 +1,8 @@
 -- Names that are given twice in files and in packages (WIT.md, "WIT Packages and `use`" and "Package Format").
-use Rattle.std.specs.Prelude.{◌≡◌, ℕ, List, Contains, Option, Some, None, slice_get}
+use Rattle.std.specs.Prelude.{◌≡◌, ℕ, List, Contains, Some, None, slice_get}
 use Rattle.wac_model.specs.Text.{Text}
+use Rattle.wac_wit_refusals.specs.Paths.{ident_of_item}
+use Rattle.wac_wit_refusals.specs.Sites.{alias_ident}
 use Rattle.wac_wit_scopes.specs.WitSources.{IsScopeAt, IsScopeOf, PackageId, ScopeSyntax, WitSources, ident_text}
 use Rattle.wac_wit_syntax.specs.declared.positions.Span.{Span}
 use Rattle.wac_wit_syntax.specs.declared.tree.Ident.{Ident}
@@ -8,14 +10,9 @@ use Rattle.wac_wit_syntax.specs.declared.tree.TopItem.{TopItem}
 use Rattle.wac_wit_syntax.specs.declared.tree.TopItem.TheVariants as top
 use Rattle.wac_wit_syntax.specs.declared.tree.TopUse.{TopUse}
 
--- the name that something has, or gets (`as`), as it stands there
-abbrev pub given_ident : Ident → Option Ident → Ident
-given_ident name None = name
-given_ident name (Some alias) = alias
-
 -- the name that a `use` outside of interfaces and worlds gives
 abbrev pub used_ident : TopUse → Ident
-used_ident u = given_ident u.path.name u.alias
+used_ident u = alias_ident u.path.name u.alias
 
 -- the item is a `use` that gives this name
 abbrev pub GivesName : TopItem → Text → Type 0
@@ -45,16 +42,10 @@ pub record IsUseTwice (of : WitSources) (file : ℕ) (span : Span) : Type 0 wher
   pub at : IsScopeAt of file scope
   pub twice : IsGivenTwice scope.items span
 
--- the name of an interface or a world
-abbrev pub member_ident : TopItem → Option Ident
-member_ident (top.Use u) = None
-member_ident (top.Interface d) = Some d.name
-member_ident (top.World d) = Some d.name
-
 -- the item is an interface or a world of this name
 pub record NamesMember (t : TopItem) (n : Text) : Type 0 where
   pub ident : Ident
-  pub is : member_ident t ≡ Some ident
+  pub is : ident_of_item t ≡ Some ident
   pub named : ident_text ident ≡ n
 
 -- an interface or a world of this name is among items
@@ -117,7 +108,7 @@ pub record IsTwiceIn (of : WitSources) (file : ℕ) (w : ScopeSyntax) (span : Sp
   pub item : TopItem
   pub at : slice_get w.items index ≡ Some item
   pub ident : Ident
-  pub is : member_ident item ≡ Some ident
+  pub is : ident_of_item item ≡ Some ident
   pub stands : ident.span ≡ span
   pub twice : HasMemberElsewhere of file w index (ident_text ident)
 

@@ -1,8 +1,8 @@
 -- Names that may stand once, and stand twice (WIT.md, "Identifiers", "Item: `interface`", "Item: `world`"; explainer, "Name
 -- Uniqueness"). Names that differ in the case of letters alone are one, but for those of the functions of a resource.
-use Rattle.std.specs.Prelude.{◌≡◌, ℕ, List, Option, Some, None, Vec, codes, slice_get}
+use Rattle.std.specs.Prelude.{◌≡◌, ℕ, List, Some, Vec, codes, slice_get}
 use Rattle.std.specs.declared.alloc.Global.{Global}
-use Rattle.wac_wit_refusals.specs.Sites.{BodySyntax, interface_items, world_items}
+use Rattle.wac_wit_refusals.specs.Sites.{BodySyntax, alias_ident, interface_items, world_items}
 use Rattle.wac_wit_refusals.specs.TypeSites.{AreOneName, BodyAt, HasMethodAt, HasSignature, HasType, IsTypeAt, IsUseAt}
 use Rattle.wac_wit_scopes.specs.WitSources.{IsEnabled, WitSources, ident_text}
 use Rattle.wac_wit_syntax.specs.declared.positions.Span.{Span}
@@ -25,11 +25,6 @@ use Rattle.wac_wit_syntax.specs.declared.tree.TypeItem.{TypeItem}
 use Rattle.wac_wit_syntax.specs.declared.tree.UseItem.{UseItem}
 use Rattle.wac_wit_syntax.specs.declared.tree.WorldItem.{WorldItem}
 use Rattle.wac_wit_syntax.specs.declared.tree.WorldItem.TheVariants as world_item
-
--- the name that a used type gets
-abbrev pub alias_ident : Ident → Option Ident → Ident
-alias_ident name None = name
-alias_ident name (Some alias) = alias
 
 -- an import or an export has a name of its own
 pub data HasPlainName : Extern → Ident → Type 0 where

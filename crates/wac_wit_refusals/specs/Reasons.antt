@@ -1,5 +1,5 @@
 -- Why files are refused, a case a reason.
-use Rattle.std.specs.Prelude.{◌≡◌, ℕ, List, Contains, Some, slice_get, string_bytes}
+use Rattle.std.specs.Prelude.{◌≡◌, ℕ, true, List, Contains, Some, slice_get, string_bytes}
 use Rattle.wac_model.specs.Text.{Text}
 use Rattle.wac_wit_names.specs.declared.error.WitError.{WitError}
 use Rattle.wac_wit_names.specs.declared.error.WitError.TheVariants.{Refused, Missing, Memory}
@@ -9,6 +9,9 @@ use Rattle.wac_wit_names.specs.declared.reason.Reason.{Reason}
 use Rattle.wac_wit_names.specs.declared.reason.Reason.TheVariants as why
 use Rattle.wac_wit_names.specs.declared.sources.SourceFile.{SourceFile}
 use Rattle.wac_wit_refusals.specs.Attributes.{IsTypeOfHidden, IsUnversioned, IsYounger}
+use Rattle.wac_wit_refusals.specs.Borrows.{IsBorrowReturned, IsBorrowSent}
+use Rattle.wac_wit_refusals.specs.Brought.{IsComingTwice, IsIncludedTwice}
+use Rattle.wac_wit_refusals.specs.CharStreams.{IsCharStream}
 use Rattle.wac_wit_refusals.specs.Constructors.{IsNotConstructed}
 use Rattle.wac_wit_refusals.specs.Externs.{IsRenamedInterface}
 use Rattle.wac_wit_refusals.specs.Handles.{IsNotResource}
@@ -16,6 +19,7 @@ use Rattle.wac_wit_refusals.specs.Includes.{IsUnknownRename}
 use Rattle.wac_wit_refusals.specs.Members.{IsMemberTwice, IsTakenByPackage, IsUseTwice}
 use Rattle.wac_wit_refusals.specs.NamesTwice.{IsNameTwice}
 use Rattle.wac_wit_refusals.specs.Needs.{IsNeedCycle}
+use Rattle.wac_wit_refusals.specs.NeededTwice.{IsNeededTwice}
 use Rattle.wac_wit_refusals.specs.Packages.{IsAnotherPackage, IsNameless, IsPackageTwice, IsUpperCase}
 use Rattle.wac_wit_refusals.specs.PathReasons.{IsForeignWorld, IsHiddenMember, IsNotInterface, IsNotWorld, IsOwnPackage, IsUnknownMember, IsUnknownPackage}
 use Rattle.wac_wit_refusals.specs.SaidTwice.{IsSaidTwice}
@@ -54,7 +58,9 @@ pub data IsWrong (of : WitSources) (file : ℕ) (span : Span) : Reason → Type 
   hidden_used : IsHiddenUsed of file span → IsWrong of file span why.HiddenUsed
   cycle : IsNeedCycle of file span → IsWrong of file span why.Cycle
   said_twice : IsSaidTwice of file span → IsWrong of file span why.SaidTwice
+  needed_twice : IsNeededTwice of file span → IsWrong of file span why.NeededTwice
   unknown_rename : IsUnknownRename of file span → IsWrong of file span why.UnknownRename
+  included_twice : IsIncludedTwice of file span → IsWrong of file span why.IncludedTwice
   many_flags : IsManyFlags of file span → IsWrong of file span why.ManyFlags
   empty : IsEmpty of file span → IsWrong of file span why.Empty
   zero_length : IsZeroLength of file span → IsWrong of file span why.ZeroLength
@@ -63,8 +69,12 @@ pub data IsWrong (of : WitSources) (file : ℕ) (span : Span) : Reason → Type 
   hidden_type : IsHiddenType of file span → IsWrong of file span why.HiddenType
   not_resource : IsNotResource of file span → IsWrong of file span why.NotResource
   name_twice : IsNameTwice of file span → IsWrong of file span why.NameTwice
+  export_twice : IsComingTwice of file span true → IsWrong of file span why.NameTwice
   type_cycle : IsTypeCycle of file span → IsWrong of file span why.TypeCycle
   not_constructed : IsNotConstructed of file span → IsWrong of file span why.NotConstructed
+  borrow_returned : IsBorrowReturned of file span → IsWrong of file span why.BorrowReturned
+  borrow_sent : IsBorrowSent of file span → IsWrong of file span why.BorrowSent
+  char_stream : IsCharStream of file span → IsWrong of file span why.CharStream
 
 -- the text says no document, unless it nests too deep
 abbrev pub IsNotWit : Text → Type 0

@@ -1,5 +1,5 @@
 -- What stands in files, and gives names of types there (WIT.md, "WIT Packages and `use`", "Item: `interface`" and "Worlds").
-use Rattle.std.specs.Prelude.{◌≡◌, List, Contains, Vec}
+use Rattle.std.specs.Prelude.{◌≡◌, List, Contains, None, Option, Some, Vec}
 use Rattle.std.specs.declared.alloc.Global.{Global}
 use Rattle.wac_wit_scopes.specs.WitSources.{IsEnabled, ScopeSyntax, WitSources}
 use Rattle.wac_wit_syntax.specs.declared.tree.Extern.TheVariants as extern
@@ -14,6 +14,11 @@ use Rattle.wac_wit_syntax.specs.declared.tree.UseItem.{UseItem}
 use Rattle.wac_wit_syntax.specs.declared.tree.WorldDecl.{WorldDecl}
 use Rattle.wac_wit_syntax.specs.declared.tree.WorldItem.{WorldItem}
 use Rattle.wac_wit_syntax.specs.declared.tree.WorldItem.TheVariants as world_item
+
+-- the name that something has, or gets (`as`), as it stands there
+abbrev pub alias_ident : Ident → Option Ident → Ident
+alias_ident name None = name
+alias_ident name (Some alias) = alias
 
 -- what names of types are looked up in: the items of an interface, or those of a world
 pub data BodySyntax : Type 0 where

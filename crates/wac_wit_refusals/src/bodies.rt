@@ -19,6 +19,16 @@ pub(crate) enum Body<'b> {
     World(&'b [WorldItem]),
 }
 
+impl Body<'_> {
+    /// How many items it has.
+    pub(crate) fn len(&self) -> usize {
+        match self {
+            Body::Interface(items) => items.len(),
+            Body::World(items) => items.len(),
+        }
+    }
+}
+
 /// The items of an interface or of a world, and what that stands in.
 #[derive(Clone, Copy)]
 pub(crate) struct PlacedBody<'b> {

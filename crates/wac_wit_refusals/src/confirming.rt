@@ -1,7 +1,8 @@
 //! Which refusals keep their reasons.
 
 ghost use Rattle.std.specs.Prelude.{◌≡◌, IfOk, IfSome, IsTrue, Some};
-ghost use Rattle.wac_wit_refusals.specs.Judging.{AreJudged, Judges};
+ghost use Rattle.wac_wit_refusals.specs.Judging.{AreJudged, IsReasonOf, Judges};
+ghost use Rattle.wac_wit_refusals.specs.Kept.{AreKeptRefusals, TellsStill};
 ghost use Rattle.wac_wit_refusals.specs.Reasons.{AreRefusedFor, IsWrong};
 ghost use Rattle.wac_wit_refusals.specs.Trees.{wit_sources};
 ghost use Rattle.wac_wit_scopes.specs.Parsed.{AreParsed};
@@ -16,9 +17,10 @@ use wac_wit_scopes::SourceTrees;
 use wac_wit_syntax::Span;
 
 /// The error of files that are refused for what they say: each refusal keeps its reason where that
-/// holds of the files.
+/// holds of the files. All else of it stays, unless an allocation fails.
 pub fn confirmed(alloc: Global, sources: &SourceTrees<'_>, error: WitError) -> WitError
-    ensures { AreParsed sources.now.files.now sources.now.documents.now → AreRefusedFor sources.now.files.now sources.now.features result }
+    ensures holds { AreParsed sources.now.files.now sources.now.documents.now → AreRefusedFor sources.now.files.now sources.now.features result }
+    ensures tells { TellsStill error result }
 {
     let WitError::Refused(refusals) = error else {
         return error;
@@ -35,7 +37,8 @@ fn judged(
     sources: &SourceTrees<'_>,
     refusals: Vec<WitRefusal>,
 ) -> Result<Vec<WitRefusal>, AllocError>
-    ensures { IfOk result (λ rs. AreJudged (wit_sources sources.now) rs.items) }
+    ensures holds { IfOk result (λ rs. AreJudged (wit_sources sources.now) rs.items) }
+    ensures keeps { IfOk result (λ rs. AreKeptRefusals refusals.items rs.items) }
 {
     let judge = Judge::new(alloc, sources)?;
     judged_by(alloc, sources, &judge, refusals)
@@ -47,7 +50,8 @@ fn judged_by(
     judge: &Option<Judge<'_>>,
     refusals: Vec<WitRefusal>,
 ) -> Result<Vec<WitRefusal>, AllocError>
-    ensures { IfOk result (λ rs. (of : WitSources) → of ≡ wit_sources sources.now → IfSome judge.now (Judges of) → AreJudged of rs.items) }
+    ensures holds { IfOk result (λ rs. (of : WitSources) → of ≡ wit_sources sources.now → IfSome judge.now (Judges of) → AreJudged of rs.items) }
+    ensures keeps { IfOk result (λ rs. AreKeptRefusals refusals.items rs.items) }
 {
     let mut kept = Vec::new(alloc);
     for refused in refusals {
@@ -65,7 +69,8 @@ fn reason_of(
     judge: &Option<Judge<'_>>,
     refused: &WitRefusal,
 ) -> Result<Option<Reason>, AllocError>
-    ensures { IfOk result (λ o. (of : WitSources) → of ≡ wit_sources sources.now → IfSome judge.now (Judges of) → (x : Reasons) → o ≡ Some x → IsWrong of refused.now.file refused.now.refusal.span x) }
+    ensures holds { IfOk result (λ o. (of : WitSources) → of ≡ wit_sources sources.now → IfSome judge.now (Judges of) → IsReasonOf of refused.now o) }
+    ensures keeps { IfOk result (λ o. (x : Reasons) → o ≡ Some x → refused.now.reason ≡ Some x) }
 {
     let Some(reason) = refused.reason else {
         return Ok(None);

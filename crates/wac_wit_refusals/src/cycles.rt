@@ -21,14 +21,14 @@ use std::alloc::{AllocError, Global};
 use wac_wit_scopes::ScopeItems;
 use wac_wit_syntax::{Span, TopItem};
 
-// How many interfaces and worlds are looked at for one that needs itself.
-const MAX_REACHED: usize = 10_000;
+/// How many interfaces and worlds are looked at for what needs them.
+pub(crate) const MAX_REACHED: usize = 10_000;
 
 /// What is reached from an interface or a world.
-struct Reached<'j> {
-    found: Vec<LedTo<'j>>,
-    // the places of what was found
-    seen: IndexSet<String>,
+pub(crate) struct Reached<'j> {
+    pub(crate) found: Vec<LedTo<'j>>,
+    /// The places of what was found, in the same order.
+    pub(crate) seen: IndexSet<String>,
 }
 
 impl Drop for Reached<'_> {
@@ -161,11 +161,13 @@ fn push<'j>(alloc: Global, reached: &mut Reached<'j>, led: LedTo<'j>) -> Result<
     Ok(())
 }
 
-fn key_of(alloc: Global, place: MemberPlace) -> Result<String, AllocError> {
+/// A text that stands for a place.
+pub(crate) fn key_of(alloc: Global, place: MemberPlace) -> Result<String, AllocError> {
     format!(in alloc; "{} {}", place.scope, place.item)
 }
 
-fn is_place(left: MemberPlace, right: MemberPlace) -> bool
+/// Whether two places are one.
+pub(crate) fn is_place(left: MemberPlace, right: MemberPlace) -> bool
     ensures { IsTrue result → left ≡ right }
 {
     left.scope == right.scope && left.item == right.item

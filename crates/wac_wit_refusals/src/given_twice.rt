@@ -2,11 +2,13 @@
 
 ghost use Rattle.std.specs.Prelude.{◌≡◌, IfSome, IsTrue, Some};
 ghost use Rattle.wac_wit_refusals.specs.Judging.{Judges};
-ghost use Rattle.wac_wit_refusals.specs.Members.{GivesName, HasMember, HasMemberBeside, HasMemberElsewhere, HasMemberIn, HasMemberInOther, IsGivenElsewhere, IsGivenTwice, IsMemberTwice, IsTakenByPackage, IsTakenIn, IsTwiceIn, IsUseTwice, NamesMember, UsesOwn, member_ident, used_ident};
+ghost use Rattle.wac_wit_refusals.specs.Members.{GivesName, HasMember, HasMemberBeside, HasMemberElsewhere, HasMemberIn, HasMemberInOther, IsGivenElsewhere, IsGivenTwice, IsMemberTwice, IsTakenByPackage, IsTakenIn, IsTwiceIn, IsUseTwice, NamesMember, UsesOwn, used_ident};
+ghost use Rattle.wac_wit_refusals.specs.Paths.{ident_of_item};
 ghost use Rattle.wac_wit_scopes.specs.Scopes.{scope_syntax};
 ghost use Rattle.wac_wit_scopes.specs.WitSources.{WitSources, ident_text, package_id};
 
 use super::judge::{Judge, is_at};
+use super::led::name_of;
 use wac_wit_scopes::{ScopeItems, is_same_package};
 use wac_wit_syntax::{Ident, PackageName, Span, TopItem, TopUse};
 
@@ -200,7 +202,7 @@ fn has_member_beside(items: &[TopItem], but: usize, name: &Ident) -> bool
 fn is_member(item: &TopItem, name: &Ident) -> bool
     ensures { IsTrue result → NamesMember item.now (ident_text name.now) }
 {
-    match member_name(item) {
+    match name_of(item) {
         Some(of) => of.name == name.name,
         None => false,
     }
@@ -208,22 +210,11 @@ fn is_member(item: &TopItem, name: &Ident) -> bool
 
 // The name of an interface or a world that stands at a place.
 fn member_at(item: &TopItem, span: Span) -> Option<&Ident>
-    ensures { IfSome result (λ n. (member_ident item.now ≡ Some n.now) × (n.now.span ≡ span)) }
+    ensures { IfSome result (λ n. (ident_of_item item.now ≡ Some n.now) × (n.now.span ≡ span)) }
 {
-    let name = member_name(item)?;
+    let name = name_of(item)?;
     if !is_at(name.span, span) {
         return None;
     }
     Some(name)
-}
-
-// The name of an interface or a world.
-fn member_name(item: &TopItem) -> Option<&Ident>
-    ensures { IfSome result (λ n. member_ident item.now ≡ Some n.now) }
-{
-    match item {
-        TopItem::Use(_) => None,
-        TopItem::Interface(it) => Some(&it.name),
-        TopItem::World(it) => Some(&it.name),
-    }
 }

@@ -1,7 +1,7 @@
 //! Handles of types that are no resources.
 
 ghost use Rattle.std.specs.Prelude.{◌≡◌, IfOk, IfSome, IsTrue};
-ghost use Rattle.wac_wit_refusals.specs.Following.{HasTypeFor, HasUseFor, IsInside, IsNameStep, IsNextName, NamesValues, UsesAs};
+ghost use Rattle.wac_wit_refusals.specs.Following.{HasTypeFor, HasUseFor, IsInside, IsNameStep, IsUsedName, NamesValues, UsesAs};
 ghost use Rattle.wac_wit_refusals.specs.Handles.{IsHandleOf, IsNotResource, IsNoTypeName, IsValueDef};
 ghost use Rattle.wac_wit_refusals.specs.Judging.{Judges};
 ghost use Rattle.wac_wit_refusals.specs.TypeSites.{IsTypeName};
@@ -18,8 +18,8 @@ use super::type_names::local_name;
 use std::alloc::AllocError;
 use wac_wit_syntax::{Ident, Span, TopItem, TypeDef, TypeExpr, TypeItem, UseItem};
 
-// How many names are followed at most: names that lead in a circle are refused elsewhere.
-const MAX_STEPS: usize = 100;
+/// How many names are followed at most: names that lead in a circle are refused elsewhere.
+pub(crate) const MAX_STEPS: usize = 100;
 
 /// The name of a type, and what gives names there.
 #[derive(Clone, Copy)]
@@ -80,9 +80,12 @@ impl<'j> Judge<'j> {
         }
     }
 
-    // What stands for a name that a `use` gives.
-    fn followed_name(&self, at: &FollowedName<'j>) -> Result<Option<FollowedName<'j>>, AllocError>
-        ensures { IfOk result (λ o. IfSome o (λ n. (of : WitSources) → Judges of self.now → IsKnownScope of at.now.placed.scope → IsNextName of at.now n)) }
+    /// What stands for a name that a `use` gives.
+    pub(crate) fn followed_name(
+        &self,
+        at: &FollowedName<'j>,
+    ) -> Result<Option<FollowedName<'j>>, AllocError>
+        ensures { IfOk result (λ o. IfSome o (λ n. (of : WitSources) → Judges of self.now → IsUsedName of at.now n)) }
     {
         for placed in &uses_of(self.alloc, &at.placed.body)? {
             if let Some(next) = self.followed_by(at, placed.used)? {
@@ -98,7 +101,7 @@ impl<'j> Judge<'j> {
         at: &FollowedName<'j>,
         used: &'j UseItem,
     ) -> Result<Option<FollowedName<'j>>, AllocError>
-        ensures { IfOk result (λ o. IfSome o (λ n. (of : WitSources) → Judges of self.now → IsKnownScope of at.now.placed.scope → HasUseFor at.now used.now → IsNextName of at.now n)) }
+        ensures { IfOk result (λ o. IfSome o (λ n. (of : WitSources) → Judges of self.now → HasUseFor at.now used.now → IsUsedName of at.now n)) }
     {
         if !self.is_there(&used.gates) {
             return Ok(None);

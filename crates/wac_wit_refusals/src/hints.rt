@@ -1,9 +1,12 @@
 //! Where names may lead. These are hints: who asks for one looks whether it holds.
 
+ghost use Rattle.std.specs.Prelude.{◌≡◌, ◌++◌, IfOk, OnOk, codes, string_bytes};
+ghost use Rattle.wac_wit_scopes.specs.WitSources.{ident_text, interface_identifier, package_id, version_part, version_text};
+
 use indexmap::IndexMap;
 use std::alloc::{AllocError, Global};
 use wac_wit_scopes::{ScopeItems, used_name};
-use wac_wit_syntax::{Ident, PackageName, TopItem};
+use wac_wit_syntax::{Gate, Ident, PackageName, TopItem};
 
 /// Where an interface or a world stands.
 #[derive(Clone, Copy)]
@@ -126,18 +129,34 @@ impl Hints {
     }
 }
 
-// The identifier of an interface or a world.
-fn id_of(alloc: Global, package: &PackageName, name: &Ident) -> Result<String, AllocError> {
+/// The identifier of an interface or a world.
+pub(crate) fn id_of(
+    alloc: Global,
+    package: &PackageName,
+    name: &Ident,
+) -> Result<String, AllocError>
+    ensures { IfOk result (λ t. string_bytes t ≡ interface_identifier (package_id «package».now) (ident_text name.now)) }
+{
     let mut id = plain_id(alloc, package, name)?;
-    if let Some(version) = &package.version {
-        id.push_str("@")?;
-        id.push_str(&version.text)?;
-    }
+    push_version(&mut id, &package.version)?;
     Ok(id)
 }
 
+fn push_version(id: &mut String, version: &Option<Gate>) -> Result<(), AllocError>
+    ensures { OnOk result (string_bytes id.new ≡ string_bytes id.old ++ version_part (version_text version.now)) }
+{
+    let Some(version) = version else {
+        return Ok(());
+    };
+    id.push_str("@")?;
+    id.push_str(&version.text)?;
+    Ok(())
+}
+
 // The same without the version of the package.
-fn plain_id(alloc: Global, package: &PackageName, name: &Ident) -> Result<String, AllocError> {
+fn plain_id(alloc: Global, package: &PackageName, name: &Ident) -> Result<String, AllocError>
+    ensures { IfOk result (λ t. string_bytes t ≡ ident_text «package».now.namespace ++ codes ":" ++ ident_text «package».now.name ++ codes "/" ++ ident_text name.now) }
+{
     let mut id = String::from_str(alloc, &package.namespace.name)?;
     id.push_str(":")?;
     id.push_str(&package.name.name)?;

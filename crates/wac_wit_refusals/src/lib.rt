@@ -2,9 +2,16 @@
 #![tactic(auto)]
 
 mod bodies;
+mod borrows;
+mod brought;
+mod budget;
+mod char_streams;
+mod coming;
 mod confirming;
 mod constructors;
 mod cycles;
+mod definitions;
+mod exports;
 mod externs;
 mod given_twice;
 mod handles;
@@ -17,17 +24,21 @@ mod led;
 mod members;
 mod names_twice;
 mod naming;
+mod needed;
+mod needed_twice;
 mod packages;
 mod paths;
 mod reasons;
 mod said_twice;
 mod since;
+mod sought_names;
 mod taken_names;
 mod type_cycles;
 mod type_items;
 mod type_names;
 mod type_parts;
 mod type_reasons;
+mod type_sites;
 mod used;
 
 pub use confirming::confirmed;

@@ -27,7 +27,10 @@ impl Judge<'_> {
         if self.is_of_types(file, span, reason)? {
             return Ok(true);
         }
-        self.is_of_names(file, span, reason)
+        if self.is_of_names(file, span, reason)? {
+            return Ok(true);
+        }
+        self.is_of_includes(file, span, reason)
     }
 
     // Names that are given twice, and attributes.
@@ -62,7 +65,7 @@ impl Judge<'_> {
         }
     }
 
-    // What is used, included, imported or exported.
+    // What is used, imported or exported.
     fn is_of_uses(&self, file: usize, span: Span, reason: Reason) -> Result<bool, AllocError>
         ensures { IfOk result (λ is. IsTrue is → (of : WitSources) → Judges of self.now → IsWrong of file span reason) }
     {
@@ -71,7 +74,19 @@ impl Judge<'_> {
             Reason::HiddenUsed => self.is_hidden_used(file, span),
             Reason::Cycle => self.is_cycle(file, span),
             Reason::SaidTwice => self.is_said_twice(file, span),
+            Reason::NeededTwice => self.is_needed_twice(file, span),
+            _ => Ok(false),
+        }
+    }
+
+    // What comes in with included worlds.
+    fn is_of_includes(&self, file: usize, span: Span, reason: Reason) -> Result<bool, AllocError>
+        ensures { IfOk result (λ is. IsTrue is → (of : WitSources) → Judges of self.now → IsWrong of file span reason) }
+    {
+        match reason {
             Reason::UnknownRename => self.is_unknown_rename(file, span),
+            Reason::IncludedTwice => self.is_coming_twice(file, span, false),
+            Reason::NameTwice => self.is_coming_twice(file, span, true),
             _ => Ok(false),
         }
     }
@@ -87,6 +102,9 @@ impl Judge<'_> {
             Reason::NamedAsResource => self.is_named_as_resource(file, span),
             Reason::TypeCycle => self.is_type_cycle(file, span),
             Reason::NotConstructed => self.is_not_constructed(file, span),
+            Reason::BorrowReturned => self.is_borrow_returned(file, span),
+            Reason::BorrowSent => self.is_borrow_sent(file, span),
+            Reason::CharStream => self.is_char_stream(file, span),
             _ => Ok(false),
         }
     }

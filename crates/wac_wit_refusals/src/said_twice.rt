@@ -109,8 +109,8 @@ impl<'j> Judge<'j> {
         Ok(false)
     }
 
-    // Whether an item says what was found.
-    fn says(
+    /// Whether an item says what was found.
+    pub(crate) fn says(
         &self,
         scope: &ScopeItems<'j>,
         item: &WorldItem,

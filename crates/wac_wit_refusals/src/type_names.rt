@@ -1,21 +1,19 @@
 //! Names of types that nothing gives, or nothing that is there.
 
-ghost use Rattle.std.specs.Prelude.{◌≡◌, ◌↔◌, Contains, IfOk, IsTrue};
+ghost use Rattle.std.specs.Prelude.{◌≡◌, ◌↔◌, IfOk, IsTrue};
 ghost use Rattle.wac_wit_refusals.specs.Judging.{Judges, body_syntax};
-ghost use Rattle.wac_wit_refusals.specs.NamesTwice.{alias_ident};
+ghost use Rattle.wac_wit_refusals.specs.Sites.{alias_ident};
 ghost use Rattle.wac_wit_refusals.specs.TypeLists.{GivesLocalName, IsGivenAmong, IsNotThere, NoTypeGives, NoTypeThere, NoUseGives, NoUseThere};
-ghost use Rattle.wac_wit_refusals.specs.TypeNames.{HasHiddenType, IncludesNone, IsHiddenType, IsNotGiven, IsUnknownType};
+ghost use Rattle.wac_wit_refusals.specs.TypeNames.{HasHiddenType, IsHiddenType, IsNotGiven, IsUnknownType};
 ghost use Rattle.wac_wit_scopes.specs.WitSources.{IsEnabled, WitSources, ident_text};
-ghost use Rattle.wac_wit_syntax.specs.declared.tree.IncludeItem.{IncludeItem as IncludeOf};
-ghost use Rattle.wac_wit_syntax.specs.declared.tree.WorldItem.TheVariants as world_item;
 
 use super::bodies::Body;
 use super::judge::{Judge, is_at};
 use super::type_items::{PlacedType, PlacedUse, types_of, uses_of};
 use super::type_parts::name_of;
 use indexmap::IndexMap;
-use std::alloc::AllocError;
-use wac_wit_syntax::{Ident, Rename, Span, TypeItem, UseItem, WorldItem};
+use std::alloc::{AllocError, Global};
+use wac_wit_syntax::{Ident, Rename, Span, TypeItem, UseItem};
 
 impl<'j> Judge<'j> {
     /// Whether it is the name of a type that nothing gives.
@@ -23,50 +21,8 @@ impl<'j> Judge<'j> {
         ensures { IfOk result (λ is. IsTrue is → (of : WitSources) → Judges of self.now → IsUnknownType of file span) }
     {
         match self.name_at(file, span)? {
-            Some(found) => self.is_not_given(&found.placed.body, found.name),
+            Some(found) => is_not_given(self.alloc, &found.placed.body, found.name),
             None => Ok(false),
-        }
-    }
-
-    fn is_not_given(&self, body: &Body<'j>, name: &Ident) -> Result<bool, AllocError>
-        ensures { IfOk result (λ is. IsTrue is → (of : WitSources) → Judges of self.now → IsNotGiven of (body_syntax body.now) (ident_text name.now)) }
-    {
-        if !self.includes_none(body) {
-            return Ok(false);
-        }
-        if !no_type_gives(&types_of(self.alloc, body)?, name) {
-            return Ok(false);
-        }
-        Ok(no_use_gives(&uses_of(self.alloc, body)?, name))
-    }
-
-    // Whether no world is included.
-    fn includes_none(&self, body: &Body<'j>) -> bool
-        ensures { IsTrue result → (of : WitSources) → Judges of self.now → IncludesNone of (body_syntax body.now) }
-    {
-        match body {
-            Body::Interface(_) => true,
-            Body::World(items) => self.has_no_include(items),
-        }
-    }
-
-    fn has_no_include(&self, items: &[WorldItem]) -> bool
-        ensures { IsTrue result → (of : WitSources) → Judges of self.now → (x : IncludeOf) → Contains items.now (world_item.Include x) → IsEnabled of x.gates → ⊥ }
-    {
-        for item in items {
-            if self.is_include(item) {
-                return false;
-            }
-        }
-        true
-    }
-
-    fn is_include(&self, item: &WorldItem) -> bool
-        ensures { (of : WitSources) → Judges of self.now → (x : IncludeOf) → item.now ≡ world_item.Include x → IsEnabled of x.gates → IsTrue result }
-    {
-        match item {
-            WorldItem::Include(it) => self.is_there(&it.gates),
-            _ => false,
         }
     }
 
@@ -86,9 +42,6 @@ impl<'j> Judge<'j> {
     fn has_hidden_type(&self, body: &Body<'j>, span: Span) -> Result<bool, AllocError>
         ensures { IfOk result (λ is. IsTrue is → (of : WitSources) → Judges of self.now → HasHiddenType of (body_syntax body.now) span) }
     {
-        if !self.includes_none(body) {
-            return Ok(false);
-        }
         let types = types_of(self.alloc, body)?;
         let uses = uses_of(self.alloc, body)?;
         let are_there = self.are_there(&types, &uses)?;
@@ -179,6 +132,16 @@ impl<'j> Judge<'j> {
         }
         false
     }
+}
+
+// Whether nothing gives a name to a type.
+fn is_not_given(alloc: Global, body: &Body<'_>, name: &Ident) -> Result<bool, AllocError>
+    ensures { IfOk result (λ is. IsTrue is → IsNotGiven (body_syntax body.now) (ident_text name.now)) }
+{
+    if !no_type_gives(&types_of(alloc, body)?, name) {
+        return Ok(false);
+    }
+    Ok(no_use_gives(&uses_of(alloc, body)?, name))
 }
 
 fn note_there<'t>(

@@ -6,6 +6,7 @@ ghost use Rattle.wac_wit_refusals.specs.Sites.{BodySyntax};
 ghost use Rattle.wac_wit_refusals.specs.TypeLists.{AddsTypeExprs, AreCasesIn, AreElementsIn, AreFieldsIn, AreTypeExprsOf, AreWritten, IsNameAtPlace, IsOptionalIn};
 ghost use Rattle.wac_wit_refusals.specs.TypeSites.{HasTyped, IsTypeName, IsWritten, TypedSyntax, a_definition, a_signature};
 ghost use Rattle.wac_wit_scopes.specs.WitSources.{WitSources};
+ghost use Rattle.wac_wit_syntax.specs.declared.tree.TypeDef.TheVariants.{Alias as AliasOf};
 
 use super::bodies::{Body, PlacedBody};
 use super::judge::{Judge, is_at};
@@ -145,6 +146,15 @@ pub(crate) fn types_in_signature<'t>(
     if let Some(ty) = &signature.returns {
         push_type(&mut types, ty)?;
     }
+    Ok(types)
+}
+
+/// A type, and all that it is made of.
+pub(crate) fn parts_of<'t>(alloc: Global, ty: &'t TypeExpr) -> Result<Vec<&'t TypeExpr>, AllocError>
+    ensures { IfOk result (λ es. AreWritten (a_definition (AliasOf ty.now)) es.items) }
+{
+    let mut types = Vec::new(alloc);
+    push_type(&mut types, ty)?;
     Ok(types)
 }
 

@@ -1,5 +1,5 @@
 use Rattle.std.proofs.Common.{ap, sym}
-use Rattle.wac_wit_refusals.specs.NamesTwice.{alias_ident}
+use Rattle.wac_wit_refusals.specs.Sites.{alias_ident}
 use Rattle.wac_wit_refusals.proofs.type_names.local_name.Goals as goal
 
 pub returns-in-Some : goal.returns-in-Some

@@ -18,5 +18,5 @@ returns-in-loop-written c is of knows =
       name = c.in-Some.name.now;
       has = record { expr = written.ty.now; has = c.in_ok-written_in.ensures of knows written among; is = c.in-Some.ensures };
       place = c.is_at.ensures c.if-is_at.true;
-      hidden = given_hidden b (ident_text c.in-Some.name.now) c.deref-in-loop-written.result.now c.deref-in-loop-written-2.result.now types uses of (c.is_not_there.ensures c.if-is_not_there.true of knows) (c.includes_none.ensures c.if-not-includes_none.false of knows);
+      hidden = given_hidden b (ident_text c.in-Some.name.now) c.deref-in-loop-written.result.now c.deref-in-loop-written-2.result.now types uses of (c.is_not_there.ensures c.if-is_not_there.true of knows);
     }

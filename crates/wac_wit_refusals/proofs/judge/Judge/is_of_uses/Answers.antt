@@ -1,6 +1,6 @@
 use Rattle.std.proofs.Common.{subst, sym}
 use Rattle.std.proofs.lemmas.Result.{IfOk-weaker}
-use Rattle.wac_wit_refusals.specs.Reasons.{IsWrong, cycle, hidden_used, said_twice, unknown_rename, unknown_used}
+use Rattle.wac_wit_refusals.specs.Reasons.{IsWrong, cycle, hidden_used, needed_twice, said_twice, unknown_used}
 use Rattle.wac_wit_refusals.proofs.judge.Judge.is_of_uses.Goals as goal
 
 pub returns-in-UnknownUsed : goal.returns-in-UnknownUsed
@@ -15,5 +15,5 @@ returns-in-Cycle c = IfOk-weaker c.is_cycle.result _ _ (λ b told is of judges. 
 pub returns-in-SaidTwice : goal.returns-in-SaidTwice
 returns-in-SaidTwice c = IfOk-weaker c.is_said_twice.result _ _ (λ b told is of judges. subst (IsWrong of c.args.file c.args.span) (sym c.in-SaidTwice.is) (said_twice (told is of judges))) c.is_said_twice.ensures
 
-pub returns-in-UnknownRename : goal.returns-in-UnknownRename
-returns-in-UnknownRename c = IfOk-weaker c.is_unknown_rename.result _ _ (λ b told is of judges. subst (IsWrong of c.args.file c.args.span) (sym c.in-UnknownRename.is) (unknown_rename (told is of judges))) c.is_unknown_rename.ensures
+pub returns-in-NeededTwice : goal.returns-in-NeededTwice
+returns-in-NeededTwice c = IfOk-weaker c.is_needed_twice.result _ _ (λ b told is of judges. subst (IsWrong of c.args.file c.args.span) (sym c.in-NeededTwice.is) (needed_twice (told is of judges))) c.is_needed_twice.ensures

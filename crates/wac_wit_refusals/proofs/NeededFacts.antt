@@ -1,0 +1,133 @@
+-- What exports need, and which exports are listed.
+use Rattle.std.proofs.Common.{◌≡◌, ◌∙◌, ℕ, Bool, true, false, cond, List, Contains, Option, Some, None, Vec, ap, refl, subst, sym}
+use Rattle.std.specs.Prelude.{IsSome}
+use Rattle.std.specs.Str.{bytes_eq}
+use Rattle.std.specs.declared.alloc.Global.{Global}
+use Rattle.std.proofs.lemmas.Slice.Eq.{bytes_eq-Decides}
+use Rattle.indexmap.specs.IndexMap.{get_by_text}
+use Rattle.wac_wit_refusals.proofs.Reached.{same_item, same_scope}
+use Rattle.wac_model.specs.Text.{Text}
+use Rattle.wac_wit_refusals.specs.NeededSteps.{AreExports, IsOnBothSides, NeedsFoundTwice, imports_of, IsFoundNeed, IsFoundUnexported, IsExportListed, IsNameListed, IsNeededFor, IsUnlisted, KeepsListed, Needing, NeedsUses, NeedsLed, NeedsNext, NeedsWhat, as_import, some_export, this_export}
+use Rattle.wac_wit_refusals.specs.NeededTwice.{IsExportThere, IsNeededAsImport, IsNotExported, by_way_of, by_written_use, is_itself}
+use Rattle.wac_wit_refusals.specs.Needs.{NeedsItem, at_once, by_way}
+use Rattle.wac_wit_refusals.specs.Paths.{name_of_item}
+use Rattle.wac_wit_refusals.specs.declared.cycles.Reached.{Reached}
+use Rattle.wac_wit_refusals.specs.declared.exports.WorldExports.{WorldExports}
+use Rattle.wac_wit_refusals.specs.declared.judge.Judge.{Judge}
+use Rattle.wac_wit_refusals.specs.declared.led.LedTo.{LedTo}
+use Rattle.wac_wit_scopes.specs.Scopes.{scope_syntax}
+use Rattle.wac_wit_scopes.specs.WitSources.{PackageId, ScopeSyntax, WitSources, interface_identifier}
+use Rattle.wac_wit_scopes.specs.declared.scopes.ScopeItems.{ScopeItems}
+use Rattle.wac_wit_syntax.specs.declared.tree.Extern.TheVariants as extern
+use Rattle.wac_wit_syntax.specs.declared.tree.ExternItem.{ExternItem}
+use Rattle.wac_wit_syntax.specs.declared.tree.Ident.{Ident}
+use Rattle.wac_wit_syntax.specs.declared.tree.InterfaceItem.{InterfaceItem}
+use Rattle.wac_wit_syntax.specs.declared.tree.Path.{Path}
+use Rattle.wac_wit_syntax.specs.declared.tree.TopItem.{TopItem}
+use Rattle.wac_wit_syntax.specs.declared.tree.WorldItem.{WorldItem}
+use Rattle.wac_wit_syntax.specs.declared.tree.WorldItem.TheVariants as world_item
+
+-- what is needed by what is needed is
+needs_more : (of : WitSources) (n : Needing) (u : ScopeSyntax) (r : TopItem) (v : ScopeSyntax) (s : TopItem) → IsNeededFor of n u r → NeedsItem of u r v s → IsNeededFor of n v s
+needs_more of (this_export w x) u r v s h m = by_way_of u r v s h m
+needs_more of (some_export w is) u r v s h m = record { export = h.export; there = h.there; needed = by_way_of u r v s h.needed m }
+needs_more of (as_import w is) u r v s h m = record { export = h.export; there = h.there; scope = h.scope; between = h.between; needed = h.needed; imported = h.imported; leads = by_way u r v s h.leads m }
+
+module _ (of : WitSources) (j : Judge) where
+  pub needs_next : (n : Needing) (l : LedTo) → IsFoundNeed of j n l → NeedsNext of j n l
+  needs_next n l h v known placed needs = record { known = known; placed = placed; needed = needs_more of n (scope_syntax l.scope) l.item.now (scope_syntax v.scope) v.item.now h.needed needs }
+
+  pub needs_this : (w : ScopeSyntax) (x : ExternItem) → NeedsWhat of j (this_export w x) w x
+  needs_this w x l known placed needed = record { known = known; placed = placed; needed = needed }
+
+  pub needs_some : (w : ScopeSyntax) (is : List WorldItem) (x : ExternItem) → IsExportThere of is x → NeedsWhat of j (some_export w is) w x
+  needs_some w is x there l known placed needed = record { known = known; placed = placed; needed = record { export = x; there = there; needed = needed } }
+
+  -- where the path of an export leads is needed, and so is what it uses that is written there
+  pub needs_led : (n : Needing) (w : ScopeSyntax) (x : ExternItem) (p : Path) → x.what ≡ extern.Path p → NeedsWhat of j n w x → NeedsLed of j n w p
+  needs_led n w x p is h l known placed leads = h l known placed (is_itself p (scope_syntax l.scope) l.item.now is leads)
+
+  pub needs_used : (n : Needing) (w : ScopeSyntax) (x : ExternItem) (name : Ident) (is : Vec InterfaceItem Global) → x.what ≡ extern.Inline name is → NeedsWhat of j n w x → NeedsUses of j n w is.items
+  needs_used n w x name is what h t among i same there l known placed leads =
+      h l known placed (by_written_use name is i (scope_syntax l.scope) l.item.now what (subst (λ (t : InterfaceItem). Contains is.items t) same among) there leads)
+
+  -- what is needed by what isn't exported is needed as an import
+  pub imports_next : (w : ScopeSyntax) (is : List WorldItem) (l : LedTo) → IsFoundNeed of j (some_export w is) l → IsNotExported of w is (scope_syntax l.scope) l.item.now → NeedsNext of j (as_import w is) l
+  imports_next w is l h none v known placed needs = record {
+    known = known;
+    placed = placed;
+    needed = record {
+      export = h.needed.export;
+      there = h.needed.there;
+      scope = scope_syntax l.scope;
+      between = l.item.now;
+      needed = h.needed.needed;
+      imported = none;
+      leads = at_once (scope_syntax v.scope) v.item.now needs;
+    };
+  }
+
+some_not_none : {A : Type 0} (o : Option A) → IsSome o → o ≡ None → ⊥
+some_not_none None h e = let no : false ≡ true = h in absurd (cc)
+some_not_none (Some x) h e = absurd (cc)
+
+is_some_at : {A : Type 0} (o : Option A) (x : A) → o ≡ Some x → IsSome o
+is_some_at None x e = absurd (cc)
+is_some_at (Some y) x e = refl
+
+-- what isn't listed isn't exported
+pub not_listed : (of : WitSources) (e : WorldExports) (l : LedTo) → AreExports of e → IsUnlisted e l → IsFoundUnexported of e l
+not_listed of e l exports absent = record {
+  others = λ (x : ExternItem) (p : Path) (there : IsExportThere of e.items.now x) (what : x.what ≡ extern.Path p).
+      let h = exports.listed (world_item.Export x) there.among x refl p there.there what in
+      record {
+        to = h.to;
+        item = h.item;
+        leads = h.leads;
+        other = λ (same : h.to.package ≡ (scope_syntax l.scope).package) (one : name_of_item h.item ≡ name_of_item l.item.now).
+            some_not_none (get_by_text e.listed (interface_identifier h.to.package h.has.name)) h.has.has
+            (ap (λ (q : PackageId). get_by_text e.listed (interface_identifier q h.has.name)) same ∙ absent h.has.name (sym one ∙ h.has.named));
+      };
+  alone = exports.alone;
+}
+
+-- what an export needs, is exported, and stands where what is needed as an import does
+pub both_sides : (of : WitSources) (j : Judge) (e : WorldExports) (x : ExternItem) (l : LedTo) → IsFoundNeed of j (this_export (scope_syntax e.scope) x) l
+    → (r : Reached) (both : IsOnBothSides of j e r l) → IsFoundNeed of j (imports_of e) both.other → NeedsFoundTwice of e x
+both_sides of j e x l needed r both imported =
+    let scope = same_scope j both.other l both.place imported.placed needed.placed in
+    let item = same_item j both.other l both.place imported.placed needed.placed in
+    record {
+      scope = scope_syntax l.scope;
+      item = l.item.now;
+      needed = needed.needed;
+      exported = both.exported needed.placed;
+      imported = subst (λ (p : ScopeItems × TopItem). IsNeededAsImport of (scope_syntax e.scope) e.items.now (scope_syntax p.0) p.1) (λ k. (scope k, item k)) imported.needed;
+    }
+
+-- what is put under a key, and what stays
+module _ (before after : Text → Option ℕ) (k : Text) (i : ℕ) (updates : (q : Text) → after q ≡ cond (bytes_eq k q) (Some i) (before q)) where
+  at_key : (q : Text) (b : Bool) → bytes_eq k q ≡ b → after q ≡ cond b (Some i) (before q)
+  at_key q b is = updates q ∙ ap (λ c. cond c (Some i) (before q)) is
+
+  pub put_there : after k ≡ Some i
+  put_there = at_key k true ((bytes_eq-Decides k k).1 refl)
+
+  pub KeepsListed-put : KeepsListed before after
+  KeepsListed-put q h = by (bytes_eq k q) refl
+    where
+      by : (b : Bool) → bytes_eq k q ≡ b → IsSome (after q)
+      by true e = is_some_at (after q) i (at_key q true e)
+      by false e = subst (λ (o : Option ℕ). IsSome o) (sym (at_key q false e)) h
+
+pub listed_at : (listed : Text → Option ℕ) (p : PackageId) (t : TopItem) (name : Text) (i : ℕ) → name_of_item t ≡ Some name → listed (interface_identifier p name) ≡ Some i → IsNameListed listed p t
+listed_at listed p t name i named at = record { name = name; named = named; has = is_some_at (listed (interface_identifier p name)) i at }
+
+pub KeepsListed-same : (a : Text → Option ℕ) → KeepsListed a a
+KeepsListed-same a k h = h
+
+-- an item that is listed stays so
+pub item_kept : (of : WitSources) (w : ScopeSyntax) (a b : Text → Option ℕ) → KeepsListed a b → (t : WorldItem) → IsExportListed of w a t → IsExportListed of w b t
+item_kept of w a b keeps t h x is p there what =
+    let l = h x is p there what in
+    record { to = l.to; item = l.item; leads = l.leads; has = record { name = l.has.name; named = l.has.named; has = keeps (interface_identifier l.to.package l.has.name) l.has.has } }

@@ -1,0 +1,14 @@
+use Rattle.std.proofs.Common.{◌≡◌}
+use Rattle.std.proofs.lemmas.Result.{on_ok_weaker}
+use Rattle.wac_wit_refusals.specs.BorrowSteps.{HasCharStream, SiteIsChar}
+use Rattle.wac_wit_refusals.specs.declared.type_sites.TypeSite.{TypeSite}
+use Rattle.wac_wit_syntax.specs.declared.tree.TypeExpr.{TypeExpr}
+use Rattle.wac_wit_refusals.proofs.BorrowFacts.{each_put, same_char}
+use Rattle.wac_wit_refusals.proofs.char_streams.push_streamed_by.Goals as goal
+
+pub returns-in-Some : goal.returns-in-Some
+returns-in-Some c = on_ok_weaker c.push_site.result (λ put of span streams all.
+    let p = c.args.placed.now in
+    let streamed = c.in-Some.streamed.now in
+    each_put (λ (t : TypeSite). SiteIsChar of t → HasCharStream of p span) _ _ p (λ (e : TypeExpr). streamed ≡ e) put all (λ t at is h. streams (record { streamed = streamed; streams = c.in-Some.ensures; char = same_char of t p streamed at is h })))
+    c.push_site.ensures

@@ -1,0 +1,229 @@
+//! Names that a world lacks, with all that it includes.
+
+ghost use Rattle.std.specs.Prelude.{◌≡◌, ◌↔◌, All, IfOk, IfSome, IsTrue, OnOk, false};
+ghost use Rattle.wac_wit_refusals.specs.IncludeSteps.{AllIncludesLack, HasNoNewName, IncludeLacksSought, IsLacking, ItemLacksSought, LacksWith, LeadsToPlacedWorld, NewNameLacks, RenamedLack};
+ghost use Rattle.wac_wit_refusals.specs.Includes.{GivesPlainName, IsNamedExtern, IsWorldItemEnabled, LacksPlainName};
+ghost use Rattle.wac_wit_refusals.specs.Judging.{Judges};
+ghost use Rattle.wac_wit_scopes.specs.Scopes.{scope_syntax};
+ghost use Rattle.wac_wit_scopes.specs.WitSources.{WitSources, ident_text};
+
+use super::budget::takes;
+use super::judge::Judge;
+use super::type_names::local_name;
+use super::used::gives_any;
+use std::alloc::AllocError;
+use wac_wit_scopes::ScopeItems;
+use wac_wit_syntax::{Extern, Ident, IncludeItem, Path, Rename, TopItem, WorldItem};
+
+// In how many worlds a name is looked for, each as often as it is included.
+const MAX_WORLDS: usize = 10_000;
+
+/// The items of a world, and what that stands in.
+#[derive(Clone, Copy)]
+pub(crate) struct PlacedWorld<'j> {
+    pub(crate) scope: ScopeItems<'j>,
+    pub(crate) items: &'j [WorldItem],
+}
+
+/// A name that is looked for in a world.
+#[derive(Clone, Copy)]
+pub(crate) struct SoughtName<'j> {
+    pub(crate) world: PlacedWorld<'j>,
+    pub(crate) name: &'j Ident,
+}
+
+impl<'j> Judge<'j> {
+    /// Whether a world has no import and no export of a name of its own, with all that it includes.
+    pub(crate) fn lacks_name(
+        &self,
+        sought: &SoughtName<'j>,
+        left: &mut usize,
+    ) -> Result<bool, AllocError>
+        ensures { IfOk result (λ is. IsTrue is → (of : WitSources) → Judges of self.now → IsLacking of sought.now) }
+    {
+        let mut all = Vec::new(self.alloc);
+        all.push(*sought)?;
+        for _ in 0..MAX_WORLDS {
+            let Some(next) = all.pop() else {
+                return Ok(true);
+            };
+            if !takes(left, next.world.items.len()) {
+                return Ok(false);
+            }
+            if !self.lacks_plain_name(next.world.items, next.name) {
+                return Ok(false);
+            }
+            if !self.seek_included(&mut all, &next)? {
+                return Ok(false);
+            }
+        }
+        Ok(false)
+    }
+
+    // Puts last what is to be looked for in the worlds that a world includes.
+    fn seek_included(
+        &self,
+        all: &mut Vec<SoughtName<'j>>,
+        from: &SoughtName<'j>,
+    ) -> Result<bool, AllocError>
+        ensures { IfOk result (λ is. IsTrue is → (of : WitSources) → Judges of self.now → LacksWith of all.old.items all.new.items (AllIncludesLack of from.now)) }
+    {
+        for item in from.world.items {
+            if !self.seek_by_item(all, from, item)? {
+                return Ok(false);
+            }
+        }
+        Ok(true)
+    }
+
+    fn seek_by_item(
+        &self,
+        all: &mut Vec<SoughtName<'j>>,
+        from: &SoughtName<'j>,
+        item: &'j WorldItem,
+    ) -> Result<bool, AllocError>
+        ensures { IfOk result (λ is. IsTrue is → (of : WitSources) → Judges of self.now → LacksWith of all.old.items all.new.items (ItemLacksSought of from.now item.now)) }
+    {
+        match item {
+            WorldItem::Include(it) if self.is_there(&it.gates) => {
+                self.seek_by_include(all, from, it)
+            }
+            _ => Ok(true),
+        }
+    }
+
+    fn seek_by_include(
+        &self,
+        all: &mut Vec<SoughtName<'j>>,
+        from: &SoughtName<'j>,
+        item: &'j IncludeItem,
+    ) -> Result<bool, AllocError>
+        ensures { IfOk result (λ is. IsTrue is → (of : WitSources) → Judges of self.now → LacksWith of all.old.items all.new.items (IncludeLacksSought of from.now item.now)) }
+    {
+        match self.world_led_to(&from.world.scope, &item.path)? {
+            Some(world) => {
+                push_renamed(all, &world, &item.renames, from.name)?;
+                Ok(true)
+            }
+            None => Ok(false),
+        }
+    }
+
+    /// The world that a path leads to.
+    pub(crate) fn world_led_to(
+        &self,
+        from: &ScopeItems<'j>,
+        path: &Path,
+    ) -> Result<Option<PlacedWorld<'j>>, AllocError>
+        ensures { IfOk result (λ o. IfSome o (λ p. (of : WitSources) → Judges of self.now → LeadsToPlacedWorld of (scope_syntax from.now) path.now p)) }
+    {
+        let Some(led) = self.led_to(from, path)? else {
+            return Ok(None);
+        };
+        match led.item {
+            TopItem::World(decl) => Ok(Some(PlacedWorld {
+                scope: led.scope,
+                items: &decl.items,
+            })),
+            _ => Ok(None),
+        }
+    }
+
+    // Whether no item of a world gives a name of its own.
+    fn lacks_plain_name(&self, items: &[WorldItem], name: &Ident) -> bool
+        ensures { IsTrue result → (of : WitSources) → Judges of self.now → LacksPlainName of items.now (ident_text name.now) }
+    {
+        for item in items {
+            if gives_plain_name(item, name) && self.is_world_item_there(item) {
+                return false;
+            }
+        }
+        true
+    }
+
+    fn is_world_item_there(&self, item: &WorldItem) -> bool
+        ensures { (of : WitSources) → Judges of self.now → IsTrue result ↔ IsWorldItemEnabled of item.now }
+    {
+        match item {
+            WorldItem::Use(it) => self.is_there(&it.gates),
+            WorldItem::Type(it) => self.is_there(&it.gates),
+            WorldItem::Include(it) => self.is_there(&it.gates),
+            WorldItem::Import(it) => self.is_there(&it.gates),
+            WorldItem::Export(it) => self.is_there(&it.gates),
+        }
+    }
+}
+
+// Puts last what becomes a name by new names, or stays that, to be looked for in a world.
+fn push_renamed<'j>(
+    all: &mut Vec<SoughtName<'j>>,
+    world: &PlacedWorld<'j>,
+    renames: &'j [Rename],
+    name: &'j Ident,
+) -> Result<(), AllocError>
+    ensures { OnOk result ((of : WitSources) → LacksWith of all.old.items all.new.items (RenamedLack of world.now renames.now (ident_text name.now))) }
+{
+    push_new_names(all, world, renames, name)?;
+    if !is_renamed(renames, name) {
+        all.push(SoughtName {
+            world: *world,
+            name,
+        })?;
+    }
+    Ok(())
+}
+
+fn push_new_names<'j>(
+    all: &mut Vec<SoughtName<'j>>,
+    world: &PlacedWorld<'j>,
+    renames: &'j [Rename],
+    name: &Ident,
+) -> Result<(), AllocError>
+    ensures { OnOk result ((of : WitSources) → LacksWith of all.old.items all.new.items (All (NewNameLacks of world.now (ident_text name.now)) renames.now)) }
+{
+    for rename in renames {
+        if local_name(rename).name == name.name {
+            all.push(SoughtName {
+                world: *world,
+                name: &rename.name,
+            })?;
+        }
+    }
+    Ok(())
+}
+
+// Whether a name becomes another.
+fn is_renamed(renames: &[Rename], name: &Ident) -> bool
+    ensures kept { result ≡ false → HasNoNewName renames.now name.now }
+    ensures renamed { IsTrue result → HasNoNewName renames.now name.now → ⊥ }
+{
+    for rename in renames {
+        if rename.name.name == name.name {
+            return true;
+        }
+    }
+    false
+}
+
+fn gives_plain_name(item: &WorldItem, name: &Ident) -> bool
+    ensures { IsTrue result ↔ GivesPlainName item.now (ident_text name.now) }
+{
+    match item {
+        WorldItem::Use(it) => gives_any(&it.names, name),
+        WorldItem::Type(it) => it.name.name == name.name,
+        WorldItem::Include(_) => false,
+        WorldItem::Import(it) => has_plain_name(&it.what, name),
+        WorldItem::Export(it) => has_plain_name(&it.what, name),
+    }
+}
+
+fn has_plain_name(what: &Extern, name: &Ident) -> bool
+    ensures { IsTrue result ↔ IsNamedExtern what.now (ident_text name.now) }
+{
+    match what {
+        Extern::Path(_) => false,
+        Extern::Func(of, _) => of.name == name.name,
+        Extern::Inline(of, _) => of.name == name.name,
+        Extern::Named(of, _) => of.name == name.name,
+    }
+}
