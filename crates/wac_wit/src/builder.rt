@@ -40,6 +40,10 @@ pub(crate) struct Builder<'b> {
     pub(crate) needs: Vec<usize>,
     /// The defined types that were made, in order.
     pub(crate) defined: Vec<DefinedTypeId>,
+    /// Whether no import and no export was refused, nor an `include`.
+    pub(crate) is_whole: bool,
+    /// The place of the last `include` that was refused since it brings a name that is there.
+    told_twice: Option<Span>,
     shapes: Shapes,
 }
 
@@ -63,6 +67,8 @@ impl<'b> Builder<'b> {
             items: IndexMap::new(alloc),
             needs: Vec::new(alloc),
             defined: Vec::new(alloc),
+            is_whole: true,
+            told_twice: None,
             shapes: Shapes::new(alloc),
         }
     }
@@ -82,6 +88,22 @@ impl<'b> Builder<'b> {
         self.site
             .catalog
             .refuse_name(self.site.node.file, span, before, name, behind)
+    }
+
+    /// Goes on behind an import, an export or an `include`, and notes whether it was refused.
+    pub(crate) fn go_on(&mut self, done: Result<(), Fault>) -> Result<(), Fault> {
+        if !self.refusals.go_on(done)? {
+            self.is_whole = false;
+        }
+        Ok(())
+    }
+
+    /// Whether an `include` is told of for the first time: of all names that are there twice by it
+    /// the first is told, since its message looks up a place.
+    pub(crate) fn is_first_told(&mut self, span: Span) -> bool {
+        let is_first = self.told_twice != Some(span);
+        self.told_twice = Some(span);
+        is_first
     }
 
     /// Takes a name, which has to be free.

@@ -79,8 +79,8 @@ impl Builder<'_> {
         resource: &Ident,
         methods: &[Method],
     ) -> Result<(), Fault> {
-        if self.names.types.get(resource.name.as_str()).is_none() {
-            // it was refused
+        if !self.is_resource(resource) {
+            // it was refused, and another type has the name, or none
             return Ok(());
         }
         for method in methods {
@@ -90,6 +90,13 @@ impl Builder<'_> {
             }
         }
         Ok(())
+    }
+
+    fn is_resource(&self, name: &Ident) -> bool {
+        match self.names.types.get(name.name.as_str()) {
+            Some(named) => matches!(named.meaning, Meaning::Resource(_)),
+            None => false,
+        }
     }
 
     fn add_method(&mut self, resource: &Ident, method: &Method) -> Result<(), Fault> {

@@ -40,7 +40,7 @@ impl<'b> Builder<'b> {
                 ImportSort::Interface(node) => self.import_interface(draft, node, span),
                 _ => self.include_import(draft, renaming, world, member, span),
             };
-            self.refusals.go_on(done)?;
+            self.go_on(done)?;
         }
         Ok(())
     }
@@ -54,7 +54,7 @@ impl<'b> Builder<'b> {
     ) -> Result<(), Fault> {
         for exported in &world.sides.exports {
             let done = self.include_export(draft, renaming, exported, span);
-            self.refusals.go_on(done)?;
+            self.go_on(done)?;
         }
         Ok(())
     }
@@ -77,6 +77,10 @@ impl<'b> Builder<'b> {
         for rename in &item.renames {
             let name = rename.name.name.as_str();
             if !names.contains(&name) {
+                if !world.is_whole {
+                    // what was refused may be that
+                    return Err(Fault::Known);
+                }
                 return Err(
                     self.refuse_name(
                         item.path.name.span,
@@ -130,6 +134,9 @@ impl<'b> Builder<'b> {
         let Some(first) = self.taken.span_of(name)? else {
             return self.take_name(name, span);
         };
+        if !self.is_first_told(span) {
+            return Err(Fault::Known);
+        }
         let message = self.comes_twice(name, first);
         Err(Fault::at(self.site.node.file, span, message).because(Reason::IncludedTwice))
     }
@@ -171,6 +178,9 @@ impl<'b> Builder<'b> {
             other => other,
         };
         let name = renaming.name(&exported.name, &ImportSort::Func)?;
+        if draft.export_names.span_of(&name)?.is_some() && !self.is_first_told(span) {
+            return Err(Fault::Known);
+        }
         self.push_export(draft, &name, what, span)
     }
 }

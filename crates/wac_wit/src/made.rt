@@ -212,6 +212,8 @@ impl Drop for WorldExterns {
 pub(crate) struct MadeWorld {
     pub(crate) id: WorldId,
     pub(crate) sides: WorldExterns,
+    /// Whether nothing of it was refused.
+    pub(crate) is_whole: bool,
     /// The types among the imports.
     pub(crate) names: TypeNames,
     /// The defined types that were made for it, in order.
@@ -223,6 +225,7 @@ impl Drop for MadeWorld {
         let MadeWorld {
             id: _,
             sides: _,
+            is_whole: _,
             names: _,
             defined: _,
         } = self;

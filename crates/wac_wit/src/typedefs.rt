@@ -36,7 +36,11 @@ impl Builder<'_> {
             return Ok(false);
         }
         let done = self.take_name(&def.name.name, def.name.span);
-        self.refusals.go_on(done)
+        if self.refusals.go_on(done)? {
+            return Ok(true);
+        }
+        self.note_broken(&def.name)?;
+        Ok(false)
     }
 
     // Takes in a type, or notes that it is refused.

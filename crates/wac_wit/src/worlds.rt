@@ -108,7 +108,7 @@ impl<'b> Builder<'b> {
                 WorldItem::Export(it) => self.add_export(draft, it, index),
                 WorldItem::Use(_) | WorldItem::Include(_) => Ok(()),
             };
-            self.refusals.go_on(done)?;
+            self.go_on(done)?;
         }
         Ok(())
     }
@@ -118,7 +118,7 @@ impl<'b> Builder<'b> {
         for item in items {
             if let WorldItem::Include(it) = item {
                 let done = self.add_include(draft, it);
-                self.refusals.go_on(done)?;
+                self.go_on(done)?;
             }
         }
         Ok(())
@@ -296,6 +296,7 @@ pub(crate) fn make_world(
     Ok(MadeWorld {
         id,
         sides,
+        is_whole: builder.is_whole && builder.names.broken.is_empty(),
         names: builder.names,
         defined: builder.defined,
     })
