@@ -37,4 +37,6 @@ mod visits;
 #[cfg(test)]
 mod wit_packages;
 #[cfg(test)]
+mod wit_reasons;
+#[cfg(test)]
 mod wit_texts;
