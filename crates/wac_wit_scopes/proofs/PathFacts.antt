@@ -1,14 +1,16 @@
 -- Where paths lead.
 use Rattle.std.proofs.Common.{◌≡◌, ◌∙◌, ℕ, true, false, List, Contains, Option, Some, None, is_some, sym, subst, ap, length, get_or, ltb, refl}
 use Rattle.std.specs.Prelude.{slice_get, IfSome}
-use Rattle.std.proofs.lemmas.Option.{slice_get_within, get_or_from_slice_get, slice_get_read}
+use Rattle.std.proofs.lemmas.Option.{same_Some, slice_get_within, get_or_from_slice_get, slice_get_read}
 use borrow.Author.Tests.{ltb-true}
 use Rattle.wac_model.specs.Text.{Text}
 use Rattle.wac_wit_syntax.specs.declared.tree.PackageName.{PackageName}
 use Rattle.wac_wit_syntax.specs.declared.tree.Path.{Path}
-use Rattle.wac_wit_syntax.specs.declared.tree.TopUse.{TopUse}
 use Rattle.wac_wit_syntax.specs.declared.tree.TopItem.TheVariants as top
-use Rattle.wac_wit_scopes.specs.WitSources.{HaveOneName, IsOnlyVersion, IsNamedPackage, IsPackageOf, PathLeadsTo, PackageId, ScopeSyntax, WitSources, by_use, exactly, given_name, ident_text, package_id, alone}
+use Rattle.wac_wit_syntax.specs.declared.tree.TopUse.{TopUse}
+use Rattle.wac_wit_scopes.specs.Scopes.{IsKnownScope, IsNamedAs, IsPackageAt, LeadsBy, as_alone, as_it_is, by_use_at, by_itself, scope_syntax}
+use Rattle.wac_wit_scopes.specs.WitSources.{HaveOneName, IsNamedPackage, IsOnlyVersion, IsPackageOf, PackageId, PathLeadsTo, WitSources, alone, by_use, directly, exactly, given_name, ident_text, package_id}
+use Rattle.wac_wit_scopes.specs.declared.scopes.ScopeItems.{ScopeItems}
 
 pub no_value : {A : Type 0} (o : Option A) → is_some o ≡ false → o ≡ None
 no_value None h = refl
@@ -37,7 +39,30 @@ IsNamed-same of n p same = subst (IsNamedPackage of n) same exactly
 pub IsNamed-alone : (of : WitSources) (n : PackageName) (p : PackageId) → is_some n.version ≡ false → HaveOneName p (package_id n) → IsOnlyVersion of p → IsNamedPackage of n p
 IsNamed-alone of n p none same is = alone (no_value n.version none) same is
 
--- a path that leads by way of a `use`
-pub LeadsTo-by_use : (of : WitSources) (w v : ScopeSyntax) (path : Path) (u : TopUse) (i : ℕ) (n : Text) → is_some path.package ≡ false → slice_get w.items i ≡ Some (top.Use u) → given_name u.path.name u.alias ≡ ident_text path.name → ident_text u.path.name ≡ n
-    → IsPackageOf of w u.path.package v.package → PathLeadsTo of w path v n
-LeadsTo-by_use of w v path u i n none at given named same = subst (PathLeadsTo of w path v) named (by_use u (no_value path.package none) (contains_at w.items i (top.Use u) at) given same)
+module _ (of : WitSources) (from to : ScopeItems) (known : IsKnownScope of to) where
+  -- the package that a name has, of those that are read
+  named_package : (n : PackageName) → IsNamedAs n to → IsNamedPackage of n (package_id to.package.now)
+  named_package n (as_it_is same) = IsNamed-same of n (package_id to.package.now) same
+  named_package n (as_alone none is same) = alone none same (known.alone is)
+
+  path_package : (p : Option PackageName) → IsPackageAt from p to → IsPackageOf of (scope_syntax from) p (package_id to.package.now)
+  path_package None same = sym same
+  path_package (Some n) named = named_package n named
+
+  -- where a path leads, of what is read
+  pub path_leads : (path : Path) (n : Text) (via : Option ℕ) → LeadsBy from path to n via → PathLeadsTo of (scope_syntax from) path (scope_syntax to) n
+  path_leads path n _ (by_itself named is) = subst (PathLeadsTo of (scope_syntax from) path (scope_syntax to)) named (directly (path_package path.package is))
+  path_leads path n _ (by_use_at u none at given named is) =
+      subst (PathLeadsTo of (scope_syntax from) path (scope_syntax to)) named (by_use u none (contains_at from.items.now _ (top.Use u) at) given (path_package u.path.package is))
+
+-- how a path leads by itself, and by the `use` at an index
+module _ (from to : ScopeItems) (path : Path) (n : Text) where
+  pub itself : LeadsBy from path to n None → (ident_text path.name ≡ n) × IsPackageAt from path.package to
+  itself (by_itself named is) = (named, is)
+
+  pub use_at : (i : ℕ) (u : TopUse) → slice_get from.items.now i ≡ Some (top.Use u) → LeadsBy from path to n (Some i)
+      → (path.package ≡ None) × (given_name u.path.name u.alias ≡ ident_text path.name) × (ident_text u.path.name ≡ n) × IsPackageAt from u.path.package to
+  use_at i u at (by_use_at v none v_at given named is) =
+      let uses = same_Some _ _ (sym v_at ∙ at) in
+      let same : v ≡ u = cc in
+      subst (λ (x : TopUse). (path.package ≡ None) × (given_name x.path.name x.alias ≡ ident_text path.name) × (ident_text x.path.name ≡ n) × IsPackageAt from x.path.package to) same (none, given, named, is)

@@ -1,6 +1,6 @@
 -- Names of packages that are known, and scopes that are.
 use Rattle.std.proofs.Common.{◌≡◌, ◌∙◌, ℕ, zero, suc, ◌+◌, ◌<◌, ◌≤◌, Bool, true, false, codes, cond, List, [], ◌∷◌, ◌++◌, Contains, Option, Some, None, length, get_or, map, take, refl, sym, ap, subst}
-use Rattle.std.specs.Prelude.{All, IfSome, OnOk, Result, Ok, Err, slice_get}
+use Rattle.std.specs.Prelude.{All, IfOk, IfSome, OnOk, Result, Ok, Err, slice_get}
 use Rattle.std.specs.Borrow.{Bor}
 use Rattle.std.specs.List.{zip}
 use Rattle.std.specs.Option.{option_map, option_copied}
@@ -16,8 +16,8 @@ use Rattle.wac_wit_syntax.specs.declared.tree.Document.{Document}
 use Rattle.wac_wit_syntax.specs.declared.tree.PackageName.{PackageName}
 use Rattle.wac_wit_syntax.specs.declared.tree.TopItem.{TopItem}
 use Rattle.wac_wit_scopes.proofs.PathFacts.{contains_at}
-use Rattle.wac_wit_scopes.specs.Naming.{HasFileAt, IsKnownName, KnowsAllNames, KnowsNamesOf, NamesGroup, HasFile, common_name, scope_in}
-use Rattle.wac_wit_scopes.specs.WitSources.{FileSyntax, HaveOneName, IsInGroup, IsScopeAt, IsScopeOf, ScopeSyntax, WitSources, a_file, a_nested, in_file, in_nested, named_there, package_id, sources_of, version_text}
+use Rattle.wac_wit_scopes.specs.Naming.{HasFileAt, IsKnownName, KnowsAllNames, KnowsNamesOf, HasFile, common_name}
+use Rattle.wac_wit_scopes.specs.WitSources.{FileSyntax, HaveOneName, IsInGroup, IsScopeAt, IsScopeOf, NamesGroup, ScopeSyntax, WitSources, a_file, a_nested, in_file, in_nested, named_there, package_id, scope_in, sources_of, version_text}
 use Rattle.wac_wit_scopes.specs.declared.packages.Versions.{Versions}
 use Rattle.wac_wit_scopes.specs.declared.scopes.FilePlace.{FilePlace}
 
@@ -32,6 +32,10 @@ module _ {A : Type 0} (xs : List A) (i : ℕ) where
 pub on_ok_both : {T E P Q R : Type 0} (r : Result T E) → OnOk r P → OnOk r Q → (P → Q → R) → OnOk r R
 on_ok_both (Ok x) p q f = f p q
 on_ok_both (Err e) p q f = p
+
+pub if_ok_both : {T E : Type 0} (r : Result T E) (P Q R : T → Type 0) → IfOk r P → IfOk r Q → ((x : T) → P x → Q x → R x) → IfOk r R
+if_ok_both (Ok x) P Q R p q f = f x p q
+if_ok_both (Err e) P Q R p q f = p
 
 -- two lists side by side
 slice_get-zip : {A B : Type 0} (xs : List A) (ys : List B) (i : ℕ) (x : A) (y : B) → slice_get xs i ≡ Some x → slice_get ys i ≡ Some y → slice_get (zip xs ys) i ≡ Some (x, y)

@@ -7,7 +7,7 @@ use Rattle.wac_wit_syntax.specs.declared.tree.NestedPackage.{NestedPackage}
 use Rattle.wac_wit_syntax.specs.declared.tree.PackageName.{PackageName}
 use Rattle.wac_wit_syntax.specs.declared.tree.TopItem.{TopItem}
 use Rattle.wac_wit_scopes.specs.Scopes.{IsKnownScope}
-use Rattle.wac_wit_scopes.specs.WitSources.{FileSyntax, IsInGroup, IsScopeAt, IsScopeOf, PackageId, ScopeSyntax, WitSources, package_id, version_text}
+use Rattle.wac_wit_scopes.specs.WitSources.{FileSyntax, HaveOneName, IsInGroup, IsScopeAt, IsScopeOf, NamesGroup, PackageId, ScopeSyntax, WitSources, package_id, scope_in, version_text}
 use Rattle.wac_wit_scopes.specs.declared.packages.Versions.{Versions}
 use Rattle.wac_wit_scopes.specs.declared.scopes.FilePlace.{FilePlace}
 use Rattle.wac_wit_scopes.specs.declared.scopes.ScopeItems.{ScopeItems}
@@ -24,24 +24,17 @@ HasFileAt of place d = slice_get of.files place.file ≡ Some (record { group = 
 abbrev pub HasNested : WitSources → FilePlace → List NestedPackage → Type 0
 HasNested of place ps = (f : FileSyntax) × (slice_get of.files place.file ≡ Some f) × (f.group ≡ place.group) × (f.document.packages.items ≡ ps)
 
--- items in a package
-abbrev pub scope_in : PackageName → List TopItem → ScopeSyntax
-scope_in n items = record { «package» = package_id n; items = items }
-
 -- items of the file at a place are in a package, which is in the file's group
 abbrev pub IsScopeIn : WitSources → FilePlace → PackageName → List TopItem → Type 0
 IsScopeIn of place n items = IsScopeAt of place.file (scope_in n items) × IsInGroup of (package_id n) place.group
 
--- some file of a group names the package
-pub record NamesGroup (of : WitSources) (group : ℕ) (n : PackageName) : Type 0 where
-  pub file : FileSyntax
-  pub among : Contains of.files file
-  pub in_group : file.group ≡ group
-  pub names : file.document.package ≡ Some n
-
 -- what is known of groups is what files name
 abbrev pub AreGroups : WitSources → (ℕ → Option (Bor PackageName)) → Type 0
 AreGroups of known = (group : ℕ) (n : Bor PackageName) → known group ≡ Some n → NamesGroup of group n.now
+
+-- a file's tree is at a place, and its group names the package
+abbrev pub IsFileOf : WitSources → FilePlace → PackageName → Document → Type 0
+IsFileOf of place n d = HasFileAt of place d × NamesGroup of place.group n
 
 -- what the versions of a package have in common
 abbrev pub common_name : PackageId → Text
@@ -52,6 +45,10 @@ pub record IsKnownName (known : Text → Option Versions) (n : PackageName) : Ty
   pub versions : Versions
   pub at : known (common_name (package_id n)) ≡ Some versions
   pub same : versions.is_one ≡ true → version_text versions.first.now.version ≡ version_text n.version
+
+-- of the packages whose names are known, none is another version of this one
+abbrev pub IsOnlyKnown : (Text → Option Versions) → PackageName → Type 0
+IsOnlyKnown known p = (n : PackageName) → IsKnownName known n → HaveOneName (package_id n) (package_id p) → package_id n ≡ package_id p
 
 -- the names in a file are known
 pub record KnowsNamesOf (known : Text → Option Versions) (d : Document) : Type 0 where

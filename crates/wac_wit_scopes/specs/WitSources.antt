@@ -59,6 +59,10 @@ version_text v = option_map (λ g. string_bytes g.text) v
 abbrev pub package_id : PackageName → PackageId
 package_id n = record { namespace = ident_text n.namespace; name = ident_text n.name; version = version_text n.version }
 
+-- items in the package of a name
+abbrev pub scope_in : PackageName → List TopItem → ScopeSyntax
+scope_in n items = record { «package» = package_id n; items = items }
+
 -- the identifier of an interface (explainer, "Import and Export Definitions", `interfacename`)
 abbrev pub version_part : Option Text → Text
 version_part None = []
@@ -74,18 +78,35 @@ pub record HaveOneName (p q : PackageId) : Type 0 where
 
 -- a file is of the package that some file of its group names; a package inside of a file names itself
 pub data IsScopeOf (of : WitSources) : ScopeSyntax → Type 0 where
-  a_file : (f g : FileSyntax) (n : PackageName) → Contains of.files f → Contains of.files g → g.group ≡ f.group → g.document.package ≡ Some n → IsScopeOf of (record { «package» = package_id n; items = f.document.items.items })
-  a_nested : (f : FileSyntax) (n : NestedPackage) → Contains of.files f → Contains f.document.packages.items n → IsScopeOf of (record { «package» = package_id n.name; items = n.items.items })
+  a_file : (f g : FileSyntax) (n : PackageName) → Contains of.files f → Contains of.files g → g.group ≡ f.group → g.document.package ≡ Some n → IsScopeOf of (scope_in n f.document.items.items)
+  a_nested : (f : FileSyntax) (n : NestedPackage) → Contains of.files f → Contains f.document.packages.items n → IsScopeOf of (scope_in n.name n.items.items)
 
 -- it is the scope of the file at an index, or of a package inside it
 pub data IsScopeAt (of : WitSources) (file : ℕ) : ScopeSyntax → Type 0 where
-  in_file : (f g : FileSyntax) (n : PackageName) → slice_get of.files file ≡ Some f → Contains of.files g → g.group ≡ f.group → g.document.package ≡ Some n → IsScopeAt of file (record { «package» = package_id n; items = f.document.items.items })
-  in_nested : (f : FileSyntax) (n : NestedPackage) → slice_get of.files file ≡ Some f → Contains f.document.packages.items n → IsScopeAt of file (record { «package» = package_id n.name; items = n.items.items })
+  in_file : (f g : FileSyntax) (n : PackageName) → slice_get of.files file ≡ Some f → Contains of.files g → g.group ≡ f.group → g.document.package ≡ Some n
+      → IsScopeAt of file (scope_in n f.document.items.items)
+  in_nested : (f : FileSyntax) (n : NestedPackage) → slice_get of.files file ≡ Some f → Contains f.document.packages.items n → IsScopeAt of file (scope_in n.name n.items.items)
 
 -- the group of files in which a package is: of a file that names it, or inside of which it is written
 pub data IsInGroup (of : WitSources) (p : PackageId) (group : ℕ) : Type 0 where
   named_there : (f : FileSyntax) (n : PackageName) → Contains of.files f → f.group ≡ group → f.document.package ≡ Some n → package_id n ≡ p → IsInGroup of p group
   nested_there : (f : FileSyntax) (n : NestedPackage) → Contains of.files f → f.group ≡ group → Contains f.document.packages.items n → package_id n.name ≡ p → IsInGroup of p group
+
+-- some file of a group names the package
+pub record NamesGroup (of : WitSources) (group : ℕ) (n : PackageName) : Type 0 where
+  pub file : FileSyntax
+  pub among : Contains of.files file
+  pub in_group : file.group ≡ group
+  pub names : file.document.package ≡ Some n
+
+-- no two files of a group name different packages
+abbrev pub NameOnePackage : WitSources → Type 0
+NameOnePackage of = (group : ℕ) (n m : PackageName) → NamesGroup of group n → NamesGroup of group m → package_id n ≡ package_id m
+
+-- it is clear which package each file is: its group names one, and no other
+pub record HaveClearPackages (of : WitSources) : Type 0 where
+  pub named : (f : FileSyntax) → Contains of.files f → (n : PackageName) × NamesGroup of f.group n
+  pub one : NameOnePackage of
 
 -- an item is there, unless it asks for a feature that is off (WIT.md, "Feature Gates")
 abbrev pub IsEnabled : WitSources → Gates → Type 0
@@ -116,4 +137,5 @@ IsPackageOf of w (Some n) p = IsNamedPackage of n p
 -- its name
 pub data PathLeadsTo (of : WitSources) (w : ScopeSyntax) (path : Path) (v : ScopeSyntax) : Text → Type 0 where
   directly : IsPackageOf of w path.package v.package → PathLeadsTo of w path v (ident_text path.name)
-  by_use : (u : TopUse) → path.package ≡ None → Contains w.items (top.Use u) → given_name u.path.name u.alias ≡ ident_text path.name → IsPackageOf of w u.path.package v.package → PathLeadsTo of w path v (ident_text u.path.name)
+  by_use : (u : TopUse) → path.package ≡ None → Contains w.items (top.Use u) → given_name u.path.name u.alias ≡ ident_text path.name
+      → IsPackageOf of w u.path.package v.package → PathLeadsTo of w path v (ident_text u.path.name)

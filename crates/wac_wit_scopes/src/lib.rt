@@ -6,7 +6,7 @@ mod paths;
 mod scopes;
 mod trees;
 
-pub use packages::{groups_of, have_one_name, is_same_package};
+pub use packages::{have_one_name, is_same_package};
 pub use paths::{leads, used_name};
 pub use scopes::{ScopeItems, scopes_of};
 pub use trees::SourceTrees;

@@ -1,14 +1,14 @@
 //! Names of packages: which one a group of files has, and how many versions there are.
 
-ghost use Rattle.std.specs.Prelude.{◌≡◌, ℕ, Contains, IfOk, IfSome, IsTrue, OnOk, Some, nat_eq, string_bytes, true};
+ghost use Rattle.std.specs.Prelude.{◌≡◌, ◌↔◌, ℕ, Contains, IfOk, IfSome, IsSome, IsTrue, OnOk, Some, length, nat_eq, string_bytes, true};
 ghost use Rattle.indexmap.specs.IndexMap.{get, get_by_text};
 ghost use Rattle.wac_wit_names.specs.declared.features.Features.{Features};
 ghost use Rattle.wac_wit_syntax.specs.declared.tree.Document.{Document as Documents};
 ghost use Rattle.wac_wit_syntax.specs.declared.tree.NestedPackage.{NestedPackage as Nested};
 ghost use Rattle.wac_wit_syntax.specs.declared.tree.PackageName.{PackageName as Named};
-ghost use Rattle.wac_wit_scopes.specs.AllScopes.{HasGroup, HasGroups};
-ghost use Rattle.wac_wit_scopes.specs.Naming.{AreGroups, HasFile, IsKnownName, KnowsNamesOf, NamesGroup, common_name};
-ghost use Rattle.wac_wit_scopes.specs.WitSources.{HaveOneName, WitSources, package_id, sources_of, version_text};
+ghost use Rattle.wac_wit_scopes.specs.AllScopes.{HasGroup, HasGroupOf, HasGroups};
+ghost use Rattle.wac_wit_scopes.specs.Naming.{AreGroups, HasFile, IsKnownName, IsOnlyKnown, KnowsNamesOf, common_name};
+ghost use Rattle.wac_wit_scopes.specs.WitSources.{HaveOneName, NameOnePackage, NamesGroup, WitSources, package_id, sources_of, version_text};
 
 use indexmap::IndexMap;
 use std::alloc::{AllocError, Global};
@@ -25,13 +25,14 @@ pub(crate) struct Versions<'s> {
 }
 
 /// The packages of groups of files. Nothing where two files of a group name different ones.
-pub fn groups_of<'s>(
+pub(crate) fn groups_of<'s>(
     alloc: Global,
     files: &[SourceFile],
     documents: &'s [Document],
 ) -> Result<Option<IndexMap<usize, &'s PackageName>>, AllocError>
     ensures named { IfOk result (λ o. IfSome o (λ m. (features : Features) → AreGroups (sources_of files.now documents.now features) (get nat_eq m))) }
     ensures all { IfOk result (λ o. IfSome o (λ m. HasGroups (get nat_eq m) files.now documents.now)) }
+    ensures clear { IfOk result (λ o. (features : Features) → length files.now ≡ length documents.now → IsSome o ↔ NameOnePackage (sources_of files.now documents.now features)) }
 {
     let mut groups = IndexMap::new(alloc);
     for (index, document) in documents.iter().enumerate() {
@@ -53,7 +54,8 @@ fn add_file<'s>(
 ) -> Result<bool, AllocError>
     ensures named { OnOk result ((of : WitSources) → HasFile of group document.now → AreGroups of (get nat_eq groups.old) → AreGroups of (get nat_eq groups.new)) }
     ensures keeps { OnOk result ((g : ℕ) (n : Named) → HasGroup (get nat_eq groups.old) g n → HasGroup (get nat_eq groups.new) g n) }
-    ensures has { IfOk result (λ is. IsTrue is → (n : Named) → document.now.package ≡ Some n → HasGroup (get nat_eq groups.new) group n) }
+    ensures has { IfOk result (λ is. IsTrue is → HasGroupOf (get nat_eq groups.new) group document.now) }
+    ensures clear { IfOk result (λ is. (of : WitSources) → HasFile of group document.now → AreGroups of (get nat_eq groups.old) → NameOnePackage of → IsTrue is) }
 {
     match &document.package {
         Some(package) => add_group(groups, group, package),
@@ -70,6 +72,7 @@ fn add_group<'s>(
     ensures named { OnOk result ((of : WitSources) → NamesGroup of group «package».now → AreGroups of (get nat_eq groups.old) → AreGroups of (get nat_eq groups.new)) }
     ensures keeps { OnOk result ((g : ℕ) (n : Named) → HasGroup (get nat_eq groups.old) g n → HasGroup (get nat_eq groups.new) g n) }
     ensures has { IfOk result (λ is. IsTrue is → HasGroup (get nat_eq groups.new) group «package».now) }
+    ensures clear { IfOk result (λ is. (of : WitSources) → NamesGroup of group «package».now → AreGroups of (get nat_eq groups.old) → NameOnePackage of → IsTrue is) }
 {
     if let Some(known) = groups.get(&group) {
         return Ok(is_same_package(known, package));
@@ -169,7 +172,7 @@ pub(crate) fn is_alone(
     versions: &IndexMap<String, Versions<'_>>,
     package: &PackageName,
 ) -> Result<bool, AllocError>
-    ensures { IfOk result (λ is. IsTrue is → (n : Named) → IsKnownName (get_by_text versions.now) n → HaveOneName (package_id n) (package_id «package».now) → package_id n ≡ package_id «package».now) }
+    ensures { IfOk result (λ is. IsTrue is → IsOnlyKnown (get_by_text versions.now) «package».now) }
 {
     let name = name_of(alloc, package)?;
     match versions.get(name.as_str()) {
@@ -190,13 +193,13 @@ fn name_of(alloc: Global, package: &PackageName) -> Result<String, AllocError>
 
 /// Whether the two are one package.
 pub fn is_same_package(left: &PackageName, right: &PackageName) -> bool
-    ensures { IsTrue result → package_id left.now ≡ package_id right.now }
+    ensures { IsTrue result ↔ (package_id left.now ≡ package_id right.now) }
 {
     have_one_name(left, right) && is_same_version(left, right)
 }
 
 fn is_same_version(left: &PackageName, right: &PackageName) -> bool
-    ensures { IsTrue result → version_text left.now.version ≡ version_text right.now.version }
+    ensures { IsTrue result ↔ (version_text left.now.version ≡ version_text right.now.version) }
 {
     match (&left.version, &right.version) {
         (Some(left), Some(right)) => left.text == right.text,
@@ -207,7 +210,7 @@ fn is_same_version(left: &PackageName, right: &PackageName) -> bool
 
 /// Whether the two are one package, but for its version.
 pub fn have_one_name(left: &PackageName, right: &PackageName) -> bool
-    ensures { IsTrue result → HaveOneName (package_id left.now) (package_id right.now) }
+    ensures { IsTrue result ↔ HaveOneName (package_id left.now) (package_id right.now) }
 {
     left.namespace.name == right.namespace.name && left.name.name == right.name.name
 }

@@ -1,8 +1,8 @@
 //! Where paths lead.
 
-ghost use Rattle.std.specs.Prelude.{◌≡◌, IsTrue};
-ghost use Rattle.wac_wit_scopes.specs.Scopes.{IsKnownScope, scope_syntax};
-ghost use Rattle.wac_wit_scopes.specs.WitSources.{IsNamedPackage, IsPackageOf, PathLeadsTo, WitSources, given_name, ident_text};
+ghost use Rattle.std.specs.Prelude.{◌≡◌, ◌↔◌, IsTrue};
+ghost use Rattle.wac_wit_scopes.specs.Scopes.{IsKnownScope, IsNamedAs, IsPackageAt, LeadsBy, scope_syntax};
+ghost use Rattle.wac_wit_scopes.specs.WitSources.{PathLeadsTo, WitSources, given_name, ident_text};
 
 use super::packages::{have_one_name, is_same_package};
 use super::scopes::ScopeItems;
@@ -17,7 +17,8 @@ pub fn leads(
     to: &ScopeItems<'_>,
     name: &Ident,
 ) -> bool
-    ensures { IsTrue result → (of : WitSources) → IsKnownScope of to.now → PathLeadsTo of (scope_syntax from.now) path.now (scope_syntax to.now) (ident_text name.now) }
+    ensures leads { IsTrue result → (of : WitSources) → IsKnownScope of to.now → PathLeadsTo of (scope_syntax from.now) path.now (scope_syntax to.now) (ident_text name.now) }
+    ensures exactly { IsTrue result ↔ LeadsBy from.now path.now to.now (ident_text name.now) via }
 {
     let Some(item) = via else {
         return leads_directly(from, path, to, name);
@@ -41,15 +42,14 @@ pub fn used_name(used: &TopUse) -> &Ident
 }
 
 fn leads_directly(from: &ScopeItems<'_>, path: &Path, to: &ScopeItems<'_>, name: &Ident) -> bool
-    ensures name { IsTrue result → ident_text path.now.name ≡ ident_text name.now }
-    ensures package { IsTrue result → (of : WitSources) → IsKnownScope of to.now → IsPackageOf of (scope_syntax from.now) path.now.package (scope_syntax to.now).package }
+    ensures { IsTrue result ↔ ((ident_text path.now.name ≡ ident_text name.now) × IsPackageAt from.now path.now.package to.now) }
 {
     path.name.name == name.name && is_package_of(from, &path.package, to)
 }
 
 // Whether it is the package that a path names.
 fn is_package_of(from: &ScopeItems<'_>, package: &Option<PackageName>, to: &ScopeItems<'_>) -> bool
-    ensures { IsTrue result → (of : WitSources) → IsKnownScope of to.now → IsPackageOf of (scope_syntax from.now) «package».now (scope_syntax to.now).package }
+    ensures { IsTrue result ↔ IsPackageAt from.now «package».now to.now }
 {
     match package {
         Some(named) => is_named(named, to),
@@ -59,7 +59,7 @@ fn is_package_of(from: &ScopeItems<'_>, package: &Option<PackageName>, to: &Scop
 
 // Whether it is the package of a name, or the only one where that has no version.
 fn is_named(named: &PackageName, to: &ScopeItems<'_>) -> bool
-    ensures { IsTrue result → (of : WitSources) → IsKnownScope of to.now → IsNamedPackage of named.now (scope_syntax to.now).package }
+    ensures { IsTrue result ↔ IsNamedAs named.now to.now }
 {
     is_same_package(named, to.package)
         || named.version.is_none() && to.is_alone && have_one_name(to.package, named)

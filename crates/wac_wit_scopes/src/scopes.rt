@@ -1,12 +1,12 @@
 //! Where the items of packages stand.
 
-ghost use Rattle.std.specs.Prelude.{◌≡◌, ℕ, IfOk, IfSome, OnOk, Some, nat_eq, slice_get};
+ghost use Rattle.std.specs.Prelude.{◌≡◌, ◌↔◌, ◌≤◌, ℕ, IfOk, IfSome, IsSome, OnOk, Some, length, nat_eq, slice_get};
 ghost use Rattle.indexmap.specs.IndexMap.{get, get_by_text};
 ghost use Rattle.wac_wit_names.specs.declared.features.Features.{Features};
-ghost use Rattle.wac_wit_scopes.specs.AllScopes.{HasAllScopes, HasNestedScopes, HasScopes};
+ghost use Rattle.wac_wit_scopes.specs.AllScopes.{AreGroupsKnown, HasAllScopes, HasNestedScopes, HasScopes};
 ghost use Rattle.wac_wit_scopes.specs.Scopes.{HasScope, IsKnownScope};
-ghost use Rattle.wac_wit_scopes.specs.Naming.{AddsScopes, AreScopes, HasFileAt, HasNested, IsScopeIn, NamesGroup, scope_in};
-ghost use Rattle.wac_wit_scopes.specs.WitSources.{IsScopeOf, ScopeSyntax, WitSources, sources_of};
+ghost use Rattle.wac_wit_scopes.specs.Naming.{AddsScopes, AreScopes, HasNested, IsFileOf, IsScopeIn};
+ghost use Rattle.wac_wit_scopes.specs.WitSources.{HaveClearPackages, IsScopeOf, ScopeSyntax, WitSources, scope_in, sources_of};
 ghost use Rattle.wac_wit_scopes.specs.declared.scopes.ScopeItems.{ScopeItems as Scopes};
 
 use super::packages::{Versions, groups_of, is_alone, versions_in};
@@ -46,6 +46,7 @@ pub fn scopes_of<'s>(
 ) -> Result<Option<Vec<ScopeItems<'s>>>, AllocError>
     ensures known { IfOk result (λ o. IfSome o (λ ws. (features : Features) (i : ℕ) (w : Scopes) → slice_get ws.items i ≡ Some w → IsKnownScope (sources_of files.now documents.now features) w)) }
     ensures all { IfOk result (λ o. IfSome o (λ ws. (features : Features) (w : ScopeSyntax) → IsScopeOf (sources_of files.now documents.now features) w → HasScope ws.items w)) }
+    ensures clear { IfOk result (λ o. (features : Features) → IsSome o ↔ ((length files.now ≡ length documents.now) × HaveClearPackages (sources_of files.now documents.now features))) }
 {
     if files.len() != documents.len() {
         return Ok(None);
@@ -66,6 +67,7 @@ fn scopes_in<'s>(
 ) -> Result<Option<Vec<ScopeItems<'s>>>, AllocError>
     ensures known { IfOk result (λ o. IfSome o (λ ws. (features : Features) → AreScopes (sources_of files.now documents.now features) (get nat_eq groups.now) (get_by_text versions.now) ws.items)) }
     ensures all { IfOk result (λ o. IfSome o (λ ws. HasAllScopes ws.items (get nat_eq groups.now) files.now documents.now)) }
+    ensures clear { IfOk result (λ o. length documents.now ≤ length files.now → AreGroupsKnown (get nat_eq groups.now) files.now documents.now → IsSome o) }
 {
     let mut scopes = Vec::new(alloc);
     for (index, document) in documents.iter().enumerate() {
@@ -93,7 +95,7 @@ fn push_document<'s>(
     package: &'s PackageName,
     document: &'s Document,
 ) -> Result<(), AllocError>
-    ensures known { OnOk result ((of : WitSources) → HasFileAt of place document.now → NamesGroup of place.group «package».now → AddsScopes of (get_by_text versions.now) scopes.old.items scopes.new.items) }
+    ensures known { OnOk result ((of : WitSources) → IsFileOf of place «package».now document.now → AddsScopes of (get_by_text versions.now) scopes.old.items scopes.new.items) }
     ensures keeps { OnOk result ((w : ScopeSyntax) → HasScope scopes.old.items w → HasScope scopes.new.items w) }
     ensures has { OnOk result (HasScopes scopes.new.items «package».now document.now) }
 {

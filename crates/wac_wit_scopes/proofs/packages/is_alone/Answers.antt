@@ -9,6 +9,6 @@ returns-in-Some c is n h same =
     let known = get_by_text c.args.versions.now in
     let at = ap known (sym (c.as_str.ensures.value ∙ c.in_ok-name.ensures)) ∙ sym c.in-Some.ensures.value in
     elim c.if-of.branch [
-      | then-of w ↦ one_version known n c.args.package.now c.in-Some.of.now at w.if-of.true (w.is_same_version.ensures (sym w.result-is ∙ is)) h same
+      | then-of w ↦ one_version known n c.args.package.now c.in-Some.of.now at w.if-of.true (w.is_same_version.ensures.0 (sym w.result-is ∙ is)) h same
       | else-of w ↦ let none : c.if-of.result ≡ false = w.result-is ∙ w.if-of.false in absurd (cc)
     ]

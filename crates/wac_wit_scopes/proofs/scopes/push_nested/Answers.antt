@@ -3,8 +3,7 @@ use Rattle.std.proofs.lemmas.Option.{slice_get_read}
 use Rattle.wac_wit_syntax.specs.declared.tree.NestedPackage.{NestedPackage}
 use Rattle.wac_wit_syntax.specs.declared.tree.TopItem.{TopItem}
 use Rattle.wac_wit_scopes.specs.Scopes.{HasScope}
-use Rattle.wac_wit_scopes.specs.WitSources.{IsScopeAt, in_nested, nested_there}
-use Rattle.wac_wit_scopes.specs.Naming.{scope_in}
+use Rattle.wac_wit_scopes.specs.WitSources.{IsScopeAt, in_nested, nested_there, scope_in}
 use Rattle.wac_wit_scopes.proofs.PathFacts.{contains_at}
 use Rattle.wac_wit_scopes.proofs.ScopeFacts.{All-end, All-next}
 use Rattle.wac_wit_scopes.proofs.scopes.push_nested.Goals as goal

@@ -3,8 +3,8 @@ use Rattle.std.specs.Prelude.{All}
 use Rattle.indexmap.specs.IndexMap.{get_by_text}
 use Rattle.wac_wit_syntax.specs.declared.tree.NestedPackage.{NestedPackage}
 use Rattle.wac_wit_scopes.specs.Scopes.{HasScope}
-use Rattle.wac_wit_scopes.specs.Naming.{AddsScopes, HasNested, scope_in}
-use Rattle.wac_wit_scopes.specs.WitSources.{ScopeSyntax, WitSources}
+use Rattle.wac_wit_scopes.specs.Naming.{AddsScopes, HasNested}
+use Rattle.wac_wit_scopes.specs.WitSources.{ScopeSyntax, WitSources, scope_in}
 use Rattle.wac_wit_scopes.proofs.scopes.push_nested.Given as goal
 
 abbrev pub invariant-loop-nested : goal.invariant-loop-nested

@@ -2,8 +2,7 @@ use Rattle.std.proofs.Common.{◌∙◌, List, sym, subst}
 use Rattle.std.specs.Prelude.{All}
 use Rattle.std.proofs.lemmas.List.Elements.{All-push}
 use Rattle.wac_wit_scopes.specs.Scopes.{HasScope, IsKnownScope}
-use Rattle.wac_wit_scopes.specs.Naming.{scope_in}
-use Rattle.wac_wit_scopes.specs.WitSources.{HaveOneName, package_id}
+use Rattle.wac_wit_scopes.specs.WitSources.{HaveOneName, package_id, scope_in}
 use Rattle.wac_wit_scopes.specs.declared.scopes.ScopeItems.{ScopeItems}
 use Rattle.wac_wit_scopes.proofs.AllScopes.{HasScope-last, HasScope-push}
 use Rattle.wac_wit_scopes.proofs.ScopeFacts.{scope_of_file}

@@ -7,4 +7,4 @@ pub returns-then-has_member_in : goal.returns-then-has_member_in
 returns-then-has_member_in c is of knows =
     let other = c.other-item.result in
     let known = known_scope of c.args.self.now c.deref-other-items.result.now c.loop-other.other-index other knows c.deref-other-items.ensures.value c.loop-other-test.true c.other-item.is in
-    record { other = other.file; elsewhere = c.if-other-scope.true; scope = scope_syntax other; at = known.in_file; same = c.if-is_same_package.ensures refl; has = c.if-has_member_in.ensures is }
+    record { other = other.file; elsewhere = c.if-other-scope.true; scope = scope_syntax other; at = known.in_file; same = c.if-is_same_package.ensures.0 refl; has = c.if-has_member_in.ensures is }

@@ -19,7 +19,7 @@ returns c = λ of judges.
       placed = record { scope = to_at; item = item_at };
       leads = record {
         name = ident_text name;
-        leads = c.if-not-leads.ensures refl of known;
+        leads = c.if-not-leads.ensures.leads refl of known;
         scope = known.is_scope;
         among = contains_at to.items.now place.item item item_at;
         named = ap (option_map ident_text) (sym c.in_ok-name.ensures);
