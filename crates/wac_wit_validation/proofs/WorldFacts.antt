@@ -32,7 +32,7 @@ use Rattle.wac_wit_syntax.specs.declared.tree.Path.{Path}
 use Rattle.wac_wit_syntax.specs.declared.tree.Rename.{Rename}
 use Rattle.wac_wit_syntax.specs.declared.tree.UseItem.{UseItem}
 use Rattle.wac_wit_syntax.specs.declared.tree.WorldDecl.{WorldDecl}
-use Rattle.wac_wit_validation.specs.Validated.{IsWorldNamed, package_text}
+use Rattle.wac_wit_validation.specs.Validated.{IsWorldNamed, KeepsFound, package_text}
 use Rattle.wac_wit_syntax.specs.declared.tree.TopItem.TheVariants as top
 use Rattle.wac_wit_validation.specs.Checking.{HasItem, IsSettingAt, IsValidated, Knows}
 use Rattle.wac_wit_scopes.specs.Scopes.{scope_syntax}
@@ -245,8 +245,10 @@ KnowsWorlds-kept of v x features scopes types found knows worlds =
     KnowsWorlds-more of v x scopes types (knows_kept of v x features scopes types knows.interfaces (λ f among. inl (subst (λ (l : List FoundInterface). Contains l f) found among))) knows worlds
 
 pub StaysAs-kept : (v x : Validator) → v.features ≡ x.features → v.scopes.items ≡ x.scopes.items → v.types.now ≡ x.types.now → x.worlds.items ≡ v.worlds.items
-    → ((of : WitSources) (f : FoundInterface) → Knows of v → Contains x.found.items f → Contains v.found.items f ⊎ IsValidated of v f) → StaysAs v x
-StaysAs-kept v x features scopes types worlds found = record {
+    → ((of : WitSources) (f : FoundInterface) → Knows of v → Contains x.found.items f → Contains v.found.items f ⊎ IsValidated of v f)
+    → ((f : FoundInterface) → Contains v.found.items f → Contains x.found.items f) → StaysAs v x
+StaysAs-kept v x features scopes types worlds found kept = record {
+  found = record { interfaces = kept; worlds = λ f. subst (λ (l : List FoundWorld). Contains l f) (sym worlds) };
   types = sym types;
   scopes = sym scopes;
   knows = λ of knows. KnowsWorlds-more of v x scopes types (knows_kept of v x features scopes types knows.interfaces (λ f among. found of f knows.interfaces among)) knows
@@ -387,8 +389,16 @@ pub same_extern : (k : ExternKind) (e f : ExternItem) → extern_item k e ≡ ex
 same_extern Import e f same = cc
 same_extern Export e f same = cc
 
+pub KeepsFound-trans : (v x y : Validator) → KeepsFound v x → KeepsFound x y → KeepsFound v y
+KeepsFound-trans v x y a b = record { interfaces = λ f among. b.interfaces f (a.interfaces f among); worlds = λ f among. b.worlds f (a.worlds f among) }
+
 pub StaysAs-trans : (v x y : Validator) → StaysAs v x → StaysAs x y → StaysAs v y
-StaysAs-trans v x y a b = record { types = b.types ∙ a.types; scopes = b.scopes ∙ a.scopes; knows = λ of knows. b.knows of (a.knows of knows) }
+StaysAs-trans v x y a b = record {
+  found = KeepsFound-trans v x y a.found b.found;
+  types = b.types ∙ a.types;
+  scopes = b.scopes ∙ a.scopes;
+  knows = λ of knows. b.knows of (a.knows of knows);
+}
 
 pub named_past : (es : List (String Global × ItemKind)) (n i : ℕ) → n ≡ length es → n ≤ i → length (named (λ k. k) es) ≤ i
 named_past es n i is past = omega (arith, is, past, length-map {B = Text × ItemKind} es (λ (e : String Global × ItemKind). (string_bytes e.0, e.1)))

@@ -21,7 +21,7 @@ use Rattle.wac_wit_validation.specs.Denoted.{Denoted, Setting, NamesType, interf
 use Rattle.wac_wit_validation.specs.Functions.{IsMethodOf, HasMethod, method_name}
 use Rattle.wac_wit_validation.specs.Interfaces.{HasExportOf, IsInterfaceTree}
 use Rattle.wac_wit_validation.specs.OneMeaning.{HaveOneMeaning}
-use Rattle.wac_wit_validation.specs.Reading.{Renames, TypesAreNamed, IsItemNamed}
+use Rattle.wac_wit_validation.specs.Reading.{Renames, StandForTypes, TypesAreNamed, IsItemNamed}
 use Rattle.wac_wit_validation.specs.declared.progress.ExportMarks.{ExportMarks}
 use Rattle.wac_wit_validation.specs.declared.names.NamedTypes.{NamedTypes}
 use Rattle.wac_wit_scopes.specs.declared.scopes.ScopeItems.{ScopeItems}
@@ -115,6 +115,10 @@ pub record HasOrigin (c : Collection) (s : Setting) (n : Text) (u : UseContent) 
 abbrev pub HaveOrigins : Collection → Setting → List (Text × UseContent) → Type 0
 HaveOrigins c s us = (n : Text) (u : UseContent) → use_at us n ≡ Some u → HasOrigin c s n u
 
+-- this holds of the entry of an interface that was found
+abbrev pub HoldsOfFound : Validator → FoundInterface → (InterfaceContent → Type 0) → Type 0
+HoldsOfFound v f Holds = (content : InterfaceContent) → slice_get v.types.now.interfaces f.id.index ≡ Some content → Holds content
+
 -- an interface that was found to be as it is written
 pub record IsValidated (of : WitSources) (v : Validator) (f : FoundInterface) : Type 0 where
   pub scope : ScopeItems
@@ -123,11 +127,11 @@ pub record IsValidated (of : WitSources) (v : Validator) (f : FoundInterface) : 
   pub at_item : slice_get scope.items.now f.place.item ≡ Some (top.Interface decl)
   pub there : IsEnabled of decl.gates
   pub stands : Stands v.types.now (interface_key f.id)
-  pub identified : (content : InterfaceContent) → slice_get v.types.now.interfaces f.id.index ≡ Some content → content.id ≡ Some (interface_identifier (package_id scope.package.now) (ident_text decl.name))
-  pub exports : (content : InterfaceContent) → slice_get v.types.now.interfaces f.id.index ≡ Some content → AreExportsOf (interface_setting of (scope_syntax scope) decl.items.items) v.types.now content.exports
-  pub uses : (content : InterfaceContent) → slice_get v.types.now.interfaces f.id.index ≡ Some content → AreUsesOf v.types.now (interface_setting of (scope_syntax scope) decl.items.items) content.uses
-  pub origins : (content : InterfaceContent) → slice_get v.types.now.interfaces f.id.index ≡ Some content → HaveOrigins v.types.now (interface_setting of (scope_syntax scope) decl.items.items) content.uses
-  pub owners : (content : InterfaceContent) → slice_get v.types.now.interfaces f.id.index ≡ Some content → AreOwnersOf v.types.now content.uses content.exports
+  pub identified : HoldsOfFound v f (λ content. content.id ≡ Some (interface_identifier (package_id scope.package.now) (ident_text decl.name)))
+  pub exports : HoldsOfFound v f (λ content. AreExportsOf (interface_setting of (scope_syntax scope) decl.items.items) v.types.now content.exports)
+  pub uses : HoldsOfFound v f (λ content. AreUsesOf v.types.now (interface_setting of (scope_syntax scope) decl.items.items) content.uses)
+  pub origins : HoldsOfFound v f (λ content. HaveOrigins v.types.now (interface_setting of (scope_syntax scope) decl.items.items) content.uses)
+  pub owners : HoldsOfFound v f (λ content. AreOwnersOf v.types.now content.uses content.exports)
   pub tree : IsInterfaceTree of (scope_syntax scope) decl.items.items (item_tree v.types.now (Instance f.id))
 
 -- what is known is so of what is read
@@ -214,6 +218,11 @@ HaveOneCollection names others = names.types.now ≡ others.types.now
 -- all of the names bring what they stand for where they are used from
 abbrev pub BringsAll : Setting → Setting → List Rename → Type 0
 BringsAll s from rs = (r : Rename) → Contains rs r → Brings s from r
+
+-- in a setting to which names are brought from another one, exports alone were marked
+abbrev pub MarksBrought : NamedTypes → NamedTypes → (Setting → Setting → Type 0) → ExportMarks → ExportMarks → Type 0
+MarksBrought names others Brought old new =
+    HaveOneCollection names others → (s from : Setting) → StandForTypes others from → Brought s from → MarksExports s names old new
 
 -- an item is a function of which this holds, if the names before it stand for what they do
 abbrev pub IsFuncBehind : Setting → NamedTypes → ℕ → ItemKind → (FuncTree → Type 0) → Type 0

@@ -4,7 +4,8 @@ use Rattle.std.specs.Prelude.{◌≡◌, ◌≢◌, ℕ, Bool, true, false, List
 use Rattle.std.specs.Option.{option_to_list}
 use Rattle.std.specs.declared.alloc.Global.{Global}
 use Rattle.wac_model.specs.Text.{Text}
-use Rattle.wac_model.specs.ValueTree.{ValueTree, borrow, enum, fixed_size_list, flags, future, list, map_of, no_parts, node, option, own, part, parts_of, primitive, record_of, result_of, stream, tuple, variant}
+use Rattle.wac_model.specs.ValueTree.{ValueTree, borrow, enum, fixed_size_list, flags, future, list, map_of, no_parts, node}
+use Rattle.wac_model.specs.ValueTree.{option, own, part, parts_of, primitive, record_of, result_of, stream, tuple, variant}
 use Rattle.wac_model.specs.declared.primitive.PrimitiveType.{PrimitiveType}
 use Rattle.wac_wit_scopes.specs.WitSources.{WitSources, ScopeSyntax, ident_text, given_name, IsEnabled, HasInterface, PathLeadsTo}
 use Rattle.wac_wit_syntax.specs.declared.positions.Span.{Span}
@@ -80,15 +81,18 @@ mutual
   -- the name of a type
   pub data NamesType : Setting → Text → Denoted → Type 0 where
     defined : {s : Setting} {n : Text} {m : Denoted} (t : TypeItem) → Contains s.types t → IsEnabled s.sources t.gates → ident_text t.name ≡ n → IsDefined s t m → NamesType s n m
-    used : {s : Setting} {n i : Text} {m : Denoted} {v : ScopeSyntax} (u : UseItem) (r : Rename) (d : InterfaceDecl) → Contains s.uses u → IsEnabled s.sources u.gates → Contains u.names.items r → given_name r.name r.alias ≡ n
+    used : {s : Setting} {n i : Text} {m : Denoted} {v : ScopeSyntax} (u : UseItem) (r : Rename) (d : InterfaceDecl) → Contains s.uses u
+        → IsEnabled s.sources u.gates → Contains u.names.items r → given_name r.name r.alias ≡ n
         → PathLeadsTo s.sources s.scope u.path v i → HasInterface s.sources v i d → NamesType (interface_setting s.sources v d.items.items) (ident_text r.name) m → NamesType s n m
 
   -- what a type with a name is
   pub data IsDefined : Setting → TypeItem → Denoted → Type 0 where
     another_name : {s : Setting} {t : TypeItem} {m : Denoted} (id : Ident) → t.def ≡ def.Alias (ty.Name id) → NamesType s (ident_text id) m → IsDefined s t m
     alias : {s : Setting} {t : TypeItem} {v : ValueTree} (e : TypeExpr) → t.def ≡ def.Alias e → ((id : Ident) → e ≢ ty.Name id) → IsValue s e v → IsDefined s t (value_type v)
-    a_record : {s : Setting} {t : TypeItem} {vs : List ValueTree} (fs : Vec Field Global) → t.def ≡ def.Record fs → AreFieldsOf s fs.items vs → IsDefined s t (value_type (node (record_of (field_names fs.items)) (parts_of vs)))
-    a_variant : {s : Setting} {t : TypeItem} {vs : List ValueTree} {cs : List (Text × Bool)} (of : Vec Case Global) → t.def ≡ def.Variant of → AreCasesOf s of.items cs vs → IsDefined s t (value_type (node (variant cs) (parts_of vs)))
+    a_record : {s : Setting} {t : TypeItem} {vs : List ValueTree} (fs : Vec Field Global) → t.def ≡ def.Record fs → AreFieldsOf s fs.items vs
+        → IsDefined s t (value_type (node (record_of (field_names fs.items)) (parts_of vs)))
+    a_variant : {s : Setting} {t : TypeItem} {vs : List ValueTree} {cs : List (Text × Bool)} (of : Vec Case Global) → t.def ≡ def.Variant of
+        → AreCasesOf s of.items cs vs → IsDefined s t (value_type (node (variant cs) (parts_of vs)))
     some_flags : {s : Setting} {t : TypeItem} (ns : Vec Ident Global) → t.def ≡ def.Flags ns → IsDefined s t (value_type (node (flags (map ident_text ns.items)) no_parts))
     an_enum : {s : Setting} {t : TypeItem} (ns : Vec Ident Global) → t.def ≡ def.Enum ns → IsDefined s t (value_type (node (enum (map ident_text ns.items)) no_parts))
     a_resource : {s : Setting} {t : TypeItem} (ms : Vec Method Global) → t.def ≡ def.Resource ms → IsDefined s t (resource_type (type_name s t))
@@ -103,9 +107,11 @@ mutual
     a_list : {s : Setting} {t : Box TypeExpr Global} {v : ValueTree} → IsValue s t.value v → IsValue s (ty.List t) (node list (part v no_parts))
     fixed_list : {s : Setting} {t : Box TypeExpr Global} {n : ℕ} {span : Span} {v : ValueTree} → IsValue s t.value v → IsValue s (ty.FixedList t n span) (node (fixed_size_list n) (part v no_parts))
     an_option : {s : Setting} {t : Box TypeExpr Global} {v : ValueTree} → IsValue s t.value v → IsValue s (ty.Option t) (node option (part v no_parts))
-    a_result : {s : Setting} {ok err : Option (Box TypeExpr Global)} {x y : Option ValueTree} → IsOptional s ok x → IsOptional s err y → IsValue s (ty.Result ok err) (node (result_of (is_some x) (is_some y)) (parts_of (option_to_list x ++ option_to_list y)))
+    a_result : {s : Setting} {ok err : Option (Box TypeExpr Global)} {x y : Option ValueTree} → IsOptional s ok x → IsOptional s err y
+        → IsValue s (ty.Result ok err) (node (result_of (is_some x) (is_some y)) (parts_of (option_to_list x ++ option_to_list y)))
     a_tuple : {s : Setting} (ts : Vec TypeExpr Global) {span : Span} {vs : List ValueTree} → AreValuesOf s ts.items vs → IsValue s (ty.Tuple ts span) (node tuple (parts_of vs))
-    a_map : {s : Setting} {k t : Box TypeExpr Global} {span : Span} {x v : ValueTree} → IsValue s k.value x → IsValue s t.value v → IsValue s (ty.Map k t span) (node map_of (part x (part v no_parts)))
+    a_map : {s : Setting} {k t : Box TypeExpr Global} {span : Span} {x v : ValueTree} → IsValue s k.value x → IsValue s t.value v
+        → IsValue s (ty.Map k t span) (node map_of (part x (part v no_parts)))
     a_future : {s : Setting} {t : Option (Box TypeExpr Global)} {x : Option ValueTree} → IsOptional s t x → IsValue s (ty.Future t) (node (future (is_some x)) (parts_of (option_to_list x)))
     a_stream : {s : Setting} {t : Option (Box TypeExpr Global)} {x : Option ValueTree} → IsOptional s t x → IsValue s (ty.Stream t) (node (stream (is_some x)) (parts_of (option_to_list x)))
 

@@ -64,5 +64,6 @@ IsMethodOf s m root f = IsFuncOf s m.signature (self_param m.kind root) (made m.
 
 -- a function of a resource, which has its name
 pub data HasMethod (s : Setting) : Text → FuncTree → Type 0 where
-  of_resource : {f : FuncTree} (t : TypeItem) (ms : Vec Method Global) (m : Method) → Contains s.types t → IsEnabled s.sources t.gates → t.def ≡ def.Resource ms → Contains ms.items m → IsEnabled s.sources m.gates
+  of_resource : {f : FuncTree} (t : TypeItem) (ms : Vec Method Global) (m : Method) → Contains s.types t → IsEnabled s.sources t.gates
+      → t.def ≡ def.Resource ms → Contains ms.items m → IsEnabled s.sources m.gates
       → IsMethodOf s m (type_name s t) f → HasMethod s (method_name m.kind (type_name s t) (ident_text m.name)) f

@@ -31,6 +31,10 @@ pub record GivesOnce (s : Setting) : Type 0 where
 abbrev pub AllGiveOnce : WitSources → Type 0
 AllGiveOnce of = (w : ScopeSyntax) (n : Text) (d : InterfaceDecl) → HasInterface of w n d → GivesOnce (interface_setting of w d.items.items)
 
--- in each interface, a name of a type stands for one thing at most
+-- a name of a type stands for one thing at most
+abbrev pub HasOneMeaning : Setting → Type 0
+HasOneMeaning s = (n : Text) (m k : Denoted) → NamesType s n m → NamesType s n k → m ≡ k
+
+-- so it does in each interface
 abbrev pub HaveOneMeaning : WitSources → Type 0
-HaveOneMeaning of = (w : ScopeSyntax) (i : Text) (d : InterfaceDecl) → HasInterface of w i d → (n : Text) (m k : Denoted) → NamesType (interface_setting of w d.items.items) n m → NamesType (interface_setting of w d.items.items) n k → m ≡ k
+HaveOneMeaning of = (w : ScopeSyntax) (i : Text) (d : InterfaceDecl) → HasInterface of w i d → HasOneMeaning (interface_setting of w d.items.items)

@@ -131,7 +131,8 @@ TellsOriginsAt v scope is e = (of : WitSources) → Knows of v → (w : ScopeIte
 
 -- the items of a layer's world tell it
 abbrev pub TellsLayer : Validator → List (Text × UseContent) → Layer → Type 0
-TellsLayer v us l = (of : WitSources) (rss : List (List Rename)) (x : PlacedWorld) → KnowsWorlds of v → IsLayerOf of v l rss x → (b : Bor WorldItem) → Contains l.items.items b → TellsWorldItem v (world_setting of rss x) us b.now
+TellsLayer v us l = (of : WitSources) (rss : List (List Rename)) (x : PlacedWorld) → KnowsWorlds of v → IsLayerOf of v l rss x → (b : Bor WorldItem)
+    → Contains l.items.items b → TellsWorldItem v (world_setting of rss x) us b.now
 
 -- it is said of all types of a world, and of the worlds that come into it, where they come from
 pub record TellsWorld (v : Validator) (ls : List Layer) (e : WorldContent) : Type 0 where

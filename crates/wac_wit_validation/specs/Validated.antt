@@ -1,5 +1,5 @@
 -- What the validator says of an entry: it is an interface of the packages that were read.
-use Rattle.std.specs.Prelude.{◌≡◌, ◌++◌, Option, Some, codes, slice_get}
+use Rattle.std.specs.Prelude.{◌≡◌, ◌++◌, Contains, Option, Some, codes, slice_get}
 use Rattle.wac_model.specs.Text.{Text}
 use Rattle.wac_component.specs.Collection.{Collection, InterfaceContent, WorldContent}
 use Rattle.wac_component.specs.Id.{Id}
@@ -12,6 +12,9 @@ use Rattle.wac_wit_validation.specs.Interfaces.{IsInterfaceTree}
 use Rattle.wac_wit_validation.specs.Origins.{AreOwnersOf, AreUsesOf, AreWorldUsesOf}
 use Rattle.wac_wit_validation.specs.Placed.{HasWorld, PlacedWorld}
 use Rattle.wac_wit_validation.specs.Worlds.{IsWorldTree}
+use Rattle.wac_wit_validation.specs.declared.validator.FoundInterface.{FoundInterface}
+use Rattle.wac_wit_validation.specs.declared.validator.FoundWorld.{FoundWorld}
+use Rattle.wac_wit_validation.specs.declared.validator.Validator.{Validator}
 use Rattle.wac_wit_scopes.specs.WitSources.{HasInterface, PackageId, ScopeSyntax, WitSources, interface_identifier}
 
 -- the name of a package without its version, as `wasi:http`
@@ -48,3 +51,19 @@ pub record IsWorldOf (of : WitSources) (c : Collection) («package» : Text) (ve
   pub tree : IsWorldTree of written (item_tree c (Component id))
   pub uses : (content : WorldContent) → slice_get c.worlds id.index ≡ Some content → AreWorldUsesOf of c written content.uses
   pub owners : (content : WorldContent) → slice_get c.worlds id.index ≡ Some content → AreOwnersOf c content.uses content.imports
+
+-- the interface, or the world, of an entry was taken in
+pub record HasFoundInterface (v : Validator) (id : Id) : Type 0 where
+  pub found : FoundInterface
+  pub among : Contains v.found.items found
+  pub is : found.id ≡ id
+
+pub record HasFoundWorld (v : Validator) (id : Id) : Type 0 where
+  pub found : FoundWorld
+  pub among : Contains v.worlds.items found
+  pub is : found.id ≡ id
+
+-- what was taken in stays
+pub record KeepsFound (old new : Validator) : Type 0 where
+  pub interfaces : (f : FoundInterface) → Contains old.found.items f → Contains new.found.items f
+  pub worlds : (f : FoundWorld) → Contains old.worlds.items f → Contains new.worlds.items f

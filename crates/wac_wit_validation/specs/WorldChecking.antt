@@ -31,6 +31,7 @@ use Rattle.wac_wit_validation.specs.Origins.{AreOwnersOf, AreWorldUsesOf}
 use Rattle.wac_wit_validation.specs.Placed.{LeadsToInterface, LeadsToWorld, PlacedInterface, PlacedWorld, placed_identifier}
 use Rattle.wac_wit_validation.specs.Reading.{AreNamesBy, Renames, StandForTypes, IsComposed}
 use Rattle.wac_wit_scopes.specs.WitSources.{IsEnabled, IsScopeOf, ScopeSyntax, WitSources, ident_text}
+use Rattle.wac_wit_validation.specs.Validated.{KeepsFound}
 use Rattle.wac_wit_validation.specs.Worlds.{BringsIn, ExportsIdentifier, HasExternInterface, HasExternOf, IsUsedByExport, IsWorldTree, SaysExtern, SaysInclude, UsesInterface, world_setting}
 use Rattle.wac_wit_validation.specs.declared.marks.ExternMark.{ExternMark}
 use Rattle.wac_wit_validation.specs.declared.marks.ExternMark.TheVariants.{Found, Unmarked, Written}
@@ -78,6 +79,10 @@ IsMarkOf of v w k es n (Found f) = (i : PlacedInterface) × IsInterfaceAt of v e
 pub record AreMarksOf (of : WitSources) (v : Validator) (w : PlacedWorld) (k : ExternKind) (es : List (Text × ItemKind)) (m : ExternMarks) : Type 0 where
   pub even : length m.marks.items ≡ length es
   pub each : (n : ℕ) (x : ExternMark) → slice_get m.marks.items n ≡ Some x → IsMarkOf of v w k es n x
+
+-- such marks stay so
+abbrev pub KeepsExterns : WitSources → Validator → PlacedWorld → ExternKind → List (Text × ItemKind) → ExternMarks → ExternMarks → Type 0
+KeepsExterns of v w k es old new = AreMarksOf of v w k es old → AreMarksOf of v w k es new
 
 -- the interface is marked
 pub record IsMarkedAs (v : Validator) (m : ExternMarks) (i : PlacedInterface) : Type 0 where
@@ -192,6 +197,10 @@ pub record LeadsToExtern (of : WitSources) (v : Validator) (w : ScopeSyntax) (p 
   pub leads : LeadsToInterface of w p interface
   pub scope : IsScopeOf of w
 
+-- the same, wherever the scope is looked at
+abbrev pub LeadsToExternAt : Validator → ℕ → Path → List (Text × ItemKind) → LedExtern → Type 0
+LeadsToExternAt v scope p es l = (of : WitSources) (w : ScopeSyntax) → IsIndexedScope v scope of w → LeadsToExtern of v w p es l
+
 -- ---- what a world says
 
 abbrev pub side_items : WorldSide → List (Text × ItemKind)
@@ -238,7 +247,8 @@ AddsLayersIn v scope t old new = (of : WitSources) (w : PlacedWorld) → IsIndex
 -- each world that comes in by the item, and gives names, has a layer
 abbrev pub CoversInside : Validator → ℕ → IncludeItem → List Layer → Type 0
 CoversInside v scope i ls = (of : WitSources) (w : ScopeSyntax) → IsIndexedScope v scope of w → IsEnabled of i.gates → (u : PlacedWorld) → LeadsToWorld of w i.path u
-    → (rss : List (List Rename)) (x : PlacedWorld) (t : WorldItem) → BringsIn of u rss x → Contains x.decl.items.items t → GivesNames of t → (l : Layer) × Contains ls l × IsLayerOf of v l (i.renames.items ∷ rss) x
+    → (rss : List (List Rename)) (x : PlacedWorld) (t : WorldItem) → BringsIn of u rss x → Contains x.decl.items.items t → GivesNames of t
+    → (l : Layer) × Contains ls l × IsLayerOf of v l (i.renames.items ∷ rss) x
 
 -- what a world that comes in says under names of its own has items under the new ones
 pub record HasNamed (of : WitSources) (rss : List (List Rename)) (x : PlacedWorld) (e : WorldContent) : Type 0 where
@@ -259,11 +269,12 @@ ImportsUsed of w v us = (i : PlacedInterface) → UsesInterface of v us i → Ha
 
 -- in a scope of which a world imports what these items use, marks of imports stay so
 abbrev pub KeepsUses : Validator → ℕ → List UseItem → List (Text × ItemKind) → ExternMarks → ExternMarks → Type 0
-KeepsUses v scope us es old new = (of : WitSources) (w : PlacedWorld) (x : ScopeSyntax) → IsIndexedScope v scope of x → ImportsUsed of w x us → AreMarksOf of v w Import es old → AreMarksOf of v w Import es new
+KeepsUses v scope us es old new = (of : WitSources) (w : PlacedWorld) (x : ScopeSyntax) → IsIndexedScope v scope of x → ImportsUsed of w x us → KeepsExterns of v w Import es old new
 
 -- the same of what an interface uses, if the world imports it
 abbrev pub KeepsUsesOf : Validator → FoundInterface → List (Text × ItemKind) → ExternMarks → ExternMarks → Type 0
-KeepsUsesOf v f es old new = (of : WitSources) (w : PlacedWorld) (i : PlacedInterface) → KnowsWorlds of v → IsPlacedAt v f.place i → HasExternInterface of Import w i → AreMarksOf of v w Import es old → AreMarksOf of v w Import es new
+KeepsUsesOf v f es old new = (of : WitSources) (w : PlacedWorld) (i : PlacedInterface) → KnowsWorlds of v → IsPlacedAt v f.place i
+    → HasExternInterface of Import w i → KeepsExterns of v w Import es old new
 
 -- what an interface uses is marked
 abbrev pub MarksUsesOf : Validator → FoundInterface → ExternMarks → Type 0
@@ -343,9 +354,6 @@ HasInterfacesOf of w e x = Unit {0}
 abbrev pub HasIncluded : WitSources → PlacedWorld → WorldContent → Type 0
 HasIncluded of w e = (x : PlacedWorld) (i : IncludeItem) → SaysInclude of w x i → HasInterfaces of x e
 
-abbrev pub KeepsExterns : WitSources → Validator → PlacedWorld → ExternKind → List (Text × ItemKind) → ExternMarks → ExternMarks → Type 0
-KeepsExterns of v w k es old new = AreMarksOf of v w k es old → AreMarksOf of v w k es new
-
 abbrev pub KeepsBoth : WitSources → Validator → PlacedWorld → WorldContent → WorldMarks → WorldMarks → Type 0
 KeepsBoth of v w e old new = AreWorldMarksOf of v w e old → AreWorldMarksOf of v w e new
 
@@ -355,8 +363,9 @@ pub record IsEntryOf (c : Collection) (id : Id) (content : WorldContent) : Type 
   pub at : slice_get c.worlds id.index ≡ Some content
   pub externs : externs c (world_key id) ≡ world_externs (item_tree c) content
 
--- the collection and the scopes stay, and what is known
+-- the collection and the scopes stay, and what was taken in and is known
 pub record StaysAs (old new : Validator) : Type 0 where
+  pub found : KeepsFound old new
   pub types : new.types.now ≡ old.types.now
   pub scopes : new.scopes.items ≡ old.scopes.items
   pub knows : (of : WitSources) → KnowsWorlds of old → KnowsWorlds of new

@@ -29,14 +29,17 @@ use Rattle.wac_wit_validation.specs.declared.validator.FoundInterface.{FoundInte
 use Rattle.wac_wit_validation.specs.declared.validator.FoundWorld.{FoundWorld}
 use Rattle.wac_wit_validation.specs.declared.validator.ItemPlace.{ItemPlace}
 use Rattle.wac_wit_validation.specs.declared.validator.Validator.{Validator}
-use Rattle.wac_wit_validation.specs.WorldChecking.{AreInterfacesThere, AreLayersOf, AreMarksOf, AreSideOf, AreWorldSides, ExportNeeds, HasAllNeeds, HasInterfacesOf, HasNamed, IsLayerIn, IsLayerOf, IsMarkedAs, IsNamedThere, IsPathThere, IsPlacedAt, IsReadyFor, IsIndexedScope, IsTextAt, IsValidatedWorld, IsWorldAt, KeepsBoth, KeepsExterns, KeepsPaths, KnowsWorlds, side_items, text_content}
+use Rattle.wac_wit_validation.specs.WorldChecking.{AreInterfacesThere, AreLayersOf, AreMarksOf, AreSideOf, AreWorldSides, ExportNeeds, HasAllNeeds, HasInterfacesOf, HasNamed}
+use Rattle.wac_wit_validation.specs.WorldChecking.{IsLayerIn, IsLayerOf, IsMarkedAs, IsNamedThere, IsPathThere, IsPlacedAt, IsReadyFor, IsIndexedScope, IsTextAt}
+use Rattle.wac_wit_validation.specs.WorldChecking.{IsValidatedWorld, IsWorldAt, KeepsBoth, KeepsExterns, KeepsPaths, KnowsWorlds, side_items, text_content}
 
 -- what an item says under a name of its own is there
 abbrev pub CoversExtern : Validator → WorldSide → ExternItem → Type 0
 CoversExtern v side e = (of : WitSources) (rss : List (List Rename)) → Knows of v → Renames side.names rss → IsEnabled of e.gates → IsNamedThere rss (side_items side) e.what
 
 abbrev pub CoversItem : Validator → WorldSide → WorldItem → Type 0
-CoversItem v side item = (of : WitSources) (rss : List (List Rename)) → Knows of v → Renames side.names rss → (e : ExternItem) → item ≡ extern_item side.kind e → IsEnabled of e.gates → IsNamedThere rss (side_items side) e.what
+CoversItem v side item = (of : WitSources) (rss : List (List Rename)) → Knows of v → Renames side.names rss → (e : ExternItem)
+    → item ≡ extern_item side.kind e → IsEnabled of e.gates → IsNamedThere rss (side_items side) e.what
 
 -- the interface that an item says is there
 abbrev pub CoversPath : Validator → ℕ → List (Text × ItemKind) → ExternItem → Type 0
@@ -89,24 +92,28 @@ KeepsAllOf v f e old new = (of : WitSources) (w : PlacedWorld) (valid : IsValida
 
 -- the interface of a name, if the world has it
 abbrev pub KeepsInterfaceOf : Validator → List (Text × ItemKind) → Text → FoundInterface → ExternMarks → ExternMarks → Type 0
-KeepsInterfaceOf v es n f old new = (of : WitSources) (k : ExternKind) (w : PlacedWorld) (i : PlacedInterface) → KnowsWorlds of v → IsPlacedAt v f.place i → n ≡ placed_identifier i → HasExternInterface of k w i → KeepsExterns of v w k es old new
+KeepsInterfaceOf v es n f old new = (of : WitSources) (k : ExternKind) (w : PlacedWorld) (i : PlacedInterface) → KnowsWorlds of v
+    → IsPlacedAt v f.place i → n ≡ placed_identifier i → HasExternInterface of k w i → KeepsExterns of v w k es old new
 
 abbrev pub HasInterfacesOfSide : Validator → List (Text × ItemKind) → List (Text × ItemKind) → ExternMarks → Type 0
 HasInterfacesOfSide v es others found = (of : WitSources) (k : ExternKind) (x : PlacedWorld) → AreSideOf of v x k others found → AreInterfacesThere of k x es
 
 abbrev pub KeepsInterfacesOf : Validator → List (Text × ItemKind) → List (Text × ItemKind) → ExternMarks → ExternMarks → ExternMarks → Type 0
-KeepsInterfacesOf v es others found old new = (of : WitSources) (k : ExternKind) (w x : PlacedWorld) (i : IncludeItem) → KnowsWorlds of v → AreSideOf of v x k others found → SaysInclude of w x i → KeepsExterns of v w k es old new
+KeepsInterfacesOf v es others found old new = (of : WitSources) (k : ExternKind) (w x : PlacedWorld) (i : IncludeItem) → KnowsWorlds of v
+    → AreSideOf of v x k others found → SaysInclude of w x i → KeepsExterns of v w k es old new
 
 -- what an exported interface of a package needs
 abbrev pub KeepsPathNeeds : Validator → ℕ → WorldContent → Path → ExternMarks → ExternMarks → Type 0
-KeepsPathNeeds v scope e p old new = (of : WitSources) (w : PlacedWorld) → IsIndexedScope v scope of w.scope → AreInterfacesThere of Export w e.exports → SaysExtern of w Export (extern.Path p) → KeepsExterns of v w Import e.imports old new
+KeepsPathNeeds v scope e p old new = (of : WitSources) (w : PlacedWorld) → IsIndexedScope v scope of w.scope
+    → AreInterfacesThere of Export w e.exports → SaysExtern of w Export (extern.Path p) → KeepsExterns of v w Import e.imports old new
 
 abbrev pub HasPathNeeds : Validator → ℕ → WorldContent → Path → WorldMarks → Type 0
 HasPathNeeds v scope e p m = (of : WitSources) (w : PlacedWorld) → IsIndexedScope v scope of w.scope → AreMarksOf of v w Export e.exports m.exports → ExportNeeds of v w m (extern.Path p)
 
 -- the names are those of the types of a layer's world
 abbrev pub AreOwnTypes : Validator → Layer → NamedTypes → Type 0
-AreOwnTypes v l names = names.types.now ≡ v.types.now → (of : WitSources) (rss : List (List Rename)) (x : PlacedWorld) → KnowsWorlds of v → IsLayerOf of v l rss x → Renames names rss → AreExportsOf (world_setting of rss x) names.types.now (named_items names)
+AreOwnTypes v l names = names.types.now ≡ v.types.now → (of : WitSources) (rss : List (List Rename)) (x : PlacedWorld) → KnowsWorlds of v
+    → IsLayerOf of v l rss x → Renames names rss → AreExportsOf (world_setting of rss x) names.types.now (named_items names)
 
 -- the name under which a type, or a function of a resource, is imported
 abbrev pub imported_name : List (List Rename) → Text → ItemKind → Text
@@ -118,7 +125,8 @@ KeepsOwn side old new = (of : WitSources) (v : Validator) (w x : PlacedWorld) (r
     → AreExportsOf (world_setting of rss x) v.types.now (named_items side.names) → KeepsExterns of v w Import (side_items side) old new
 
 abbrev pub KeepsType : WorldSide → Text → ItemKind → ExternMarks → ExternMarks → Type 0
-KeepsType side n kind old new = (of : WitSources) (v : Validator) (w : PlacedWorld) (rss : List (List Rename)) → Renames side.names rss → HasExternOf of Import w (imported_name rss n kind) (item_tree v.types.now kind)
+KeepsType side n kind old new = (of : WitSources) (v : Validator) (w : PlacedWorld) (rss : List (List Rename)) → Renames side.names rss
+    → HasExternOf of Import w (imported_name rss n kind) (item_tree v.types.now kind)
     → KeepsExterns of v w Import (side_items side) old new
 
 abbrev pub CoversType : WorldSide → Text → ItemKind → Type 0
@@ -149,7 +157,8 @@ abbrev pub HasWorldMarks : Validator → WorldText → List Layer → WorldMarks
 HasWorldMarks v text ls m = (of : WitSources) (w : PlacedWorld) → IsTextAt v text of w → AreLayersOf of v w ls → AreWorldSides of v w (text_content text) m
 
 abbrev pub KeepsAllNeeds : Validator → WorldText → ExternMarks → ExternMarks → Type 0
-KeepsAllNeeds v text old new = (of : WitSources) (w : PlacedWorld) → IsTextAt v text of w → AreInterfacesThere of Export w (text_content text).exports → KeepsExterns of v w Import (text_content text).imports old new
+KeepsAllNeeds v text old new = (of : WitSources) (w : PlacedWorld) → IsTextAt v text of w → AreInterfacesThere of Export w (text_content text).exports
+    → KeepsExterns of v w Import (text_content text).imports old new
 
 abbrev pub HasNeedsOf : Validator → WorldText → WorldMarks → Type 0
 HasNeedsOf v text m = (of : WitSources) (w : PlacedWorld) → IsTextAt v text of w → AreMarksOf of v w Export (text_content text).exports m.exports → HasAllNeeds of v w m

@@ -92,7 +92,8 @@ pub record ExportsInterface (of : WitSources) (w : PlacedWorld) (i : PlacedInter
 
 -- an interface is used by what a world exports itself
 pub data IsUsedByExport (of : WitSources) (w : PlacedWorld) (i : PlacedInterface) : Type 0 where
-  used_by_interface : {v : PlacedInterface} (p : Path) → SaysExtern of w Export (extern.Path p) → LeadsToInterface of w.scope p v → UsesInterface of v.scope (uses_in v.decl.items.items) i → IsUsedByExport of w i
+  used_by_interface : {v : PlacedInterface} (p : Path) → SaysExtern of w Export (extern.Path p) → LeadsToInterface of w.scope p v
+      → UsesInterface of v.scope (uses_in v.decl.items.items) i → IsUsedByExport of w i
   used_by_inline : (id : Ident) (is : Vec InterfaceItem Global) → SaysExtern of w Export (extern.Inline id is) → UsesInterface of w.scope (uses_in is.items) i → IsUsedByExport of w i
 
 -- a world, or one that comes into it, exports an interface with this identifier
@@ -109,7 +110,8 @@ pub record ExportsIdentifier (of : WitSources) (w : PlacedWorld) (n : Text) : Ty
 pub data ImportsInterface (of : WitSources) (w : PlacedWorld) : PlacedInterface → Type 0 where
   imported : {i : PlacedInterface} (p : Path) → SaysExtern of w Import (extern.Path p) → LeadsToInterface of w.scope p i → ImportsInterface of w i
   used_by_world : {i : PlacedInterface} → UsesInterface of w.scope (world_uses w) i → ImportsInterface of w i
-  used_inside : {i : PlacedInterface} (id : Ident) (is : Vec InterfaceItem Global) → SaysExtern of w Import (extern.Inline id is) → UsesInterface of w.scope (uses_in is.items) i → ImportsInterface of w i
+  used_inside : {i : PlacedInterface} (id : Ident) (is : Vec InterfaceItem Global) → SaysExtern of w Import (extern.Inline id is)
+      → UsesInterface of w.scope (uses_in is.items) i → ImportsInterface of w i
   used_by_export : {i : PlacedInterface} → IsUsedByExport of w i → (ExportsIdentifier of w (placed_identifier i) → ⊥) → ImportsInterface of w i
   used_by_import : {v i : PlacedInterface} → ImportsInterface of w v → UsesInterface of v.scope (uses_in v.decl.items.items) i → ImportsInterface of w i
 
@@ -128,14 +130,18 @@ pub record HasExternInterface (of : WitSources) (k : ExternKind) (w : PlacedWorl
 
 -- what it says itself, and what the worlds say that come into it, under the new names that this gets
 pub data HasExternOf (of : WitSources) : ExternKind → PlacedWorld → Text → ItemTree → Type 0 where
-  extern_interface : {k : ExternKind} {w : PlacedWorld} {t : ItemTree} (i : PlacedInterface) → HasExternInterface of k w i → IsInterfaceTree of i.scope i.decl.items.items t → HasExternOf of k w (placed_identifier i) t
-  extern_inline : {k : ExternKind} {w v : PlacedWorld} {rss : List (List Rename)} {t : ItemTree} (id : Ident) (is : Vec InterfaceItem Global) → BringsIn of w rss v → SaysExtern of v k (extern.Inline id is)
+  extern_interface : {k : ExternKind} {w : PlacedWorld} {t : ItemTree} (i : PlacedInterface) → HasExternInterface of k w i
+      → IsInterfaceTree of i.scope i.decl.items.items t → HasExternOf of k w (placed_identifier i) t
+  extern_inline : {k : ExternKind} {w v : PlacedWorld} {rss : List (List Rename)} {t : ItemTree} (id : Ident) (is : Vec InterfaceItem Global)
+      → BringsIn of w rss v → SaysExtern of v k (extern.Inline id is)
       → IsInterfaceTree of v.scope is.items t → HasExternOf of k w (renamed_by rss (ident_text id)) t
   extern_func : {k : ExternKind} {w v : PlacedWorld} {rss : List (List Rename)} {g : FuncTree} (id : Ident) (sig : Signature) → BringsIn of w rss v → SaysExtern of v k (extern.Func id sig)
       → IsFuncOf (world_setting of rss v) sig [] (λ r. r) g → HasExternOf of k w (renamed_by rss (ident_text id)) (leaf item (func g))
   -- the types of a world, with those that it uses, and their functions are imports
-  extern_type : {w v : PlacedWorld} {rss : List (List Rename)} {n : Text} {m : Denoted} → BringsIn of w rss v → NamesType (world_setting of rss v) n m → HasExternOf of Import w (renamed_by rss n) (named_tree m)
-  extern_method : {w v : PlacedWorld} {rss : List (List Rename)} {n : Text} {g : FuncTree} → BringsIn of w rss v → HasMethod (world_setting of rss v) n g → HasExternOf of Import w n (leaf item (func g))
+  extern_type : {w v : PlacedWorld} {rss : List (List Rename)} {n : Text} {m : Denoted} → BringsIn of w rss v → NamesType (world_setting of rss v) n m
+      → HasExternOf of Import w (renamed_by rss n) (named_tree m)
+  extern_method : {w v : PlacedWorld} {rss : List (List Rename)} {n : Text} {g : FuncTree} → BringsIn of w rss v
+      → HasMethod (world_setting of rss v) n g → HasExternOf of Import w n (leaf item (func g))
 
 -- items are those that the text says, and nothing that the text says is left out
 pub record AreWorldExterns (of : WitSources) (k : ExternKind) (w : PlacedWorld) (is : Items) : Type 0 where

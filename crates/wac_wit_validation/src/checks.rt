@@ -8,7 +8,7 @@ ghost use Rattle.wac_wit_validation.specs.OneMeaning.{HaveOneMeaning};
 ghost use Rattle.wac_wit_validation.specs.Placed.{IsUnambiguous};
 ghost use Rattle.wac_wit_validation.specs.WorldChecking.{KnowsWorlds, StaysAs};
 ghost use Rattle.wac_wit_scopes.specs.WitSources.{WitSources, sources_of};
-ghost use Rattle.wac_wit_validation.specs.Validated.{IsInterfaceOf};
+ghost use Rattle.wac_wit_validation.specs.Validated.{HasFoundInterface, IsInterfaceOf, KeepsFound};
 
 use super::ambiguity::give_names_once;
 use super::once::all_give_once;
@@ -68,6 +68,8 @@ impl<'v> Validator<'v> {
     pub fn add_interface(&mut self, node: usize, id: InterfaceId) -> Result<bool, AllocError>
         ensures types { self.new.types.now ≡ self.old.types.now }
         ensures knows { (of : WitSources) → KnowsWorlds of self.old → KnowsWorlds of self.new }
+        ensures keeps { KeepsFound self.old self.new }
+        ensures took { IfOk result (λ is. IsTrue is → HasFoundInterface self.new id) }
     {
         match self.take_in(node, id, ExternKind::Import)? {
             Some(position) => {
@@ -85,7 +87,8 @@ impl<'v> Validator<'v> {
         id: InterfaceId,
         kind: ExternKind,
     ) -> Result<Option<usize>, AllocError>
-        ensures { StaysAs self.old self.new }
+        ensures stays { StaysAs self.old self.new }
+        ensures took { IfOk result (λ o. IfSome o (λ i. HasFoundInterface self.new id)) }
     {
         let Some(place) = self.place_of(node) else {
             return Ok(None);

@@ -10,8 +10,8 @@ ghost use Rattle.wac_wit_syntax.specs.declared.tree.WorldItem.{WorldItem as Item
 ghost use Rattle.wac_wit_validation.specs.Checking.{HasItem};
 ghost use Rattle.wac_wit_validation.specs.Denoted.{renamed_by};
 ghost use Rattle.wac_wit_validation.specs.Reading.{Renames};
-ghost use Rattle.wac_wit_scopes.specs.WitSources.{ScopeSyntax, WitSources, ident_text};
-ghost use Rattle.wac_wit_validation.specs.WorldChecking.{IsNamedThere, IsIndexedScope, KeepsPaths, KeepsSide, LeadsToExtern, side_items};
+ghost use Rattle.wac_wit_scopes.specs.WitSources.{ident_text};
+ghost use Rattle.wac_wit_validation.specs.WorldChecking.{IsNamedThere, KeepsPaths, KeepsSide, LeadsToExternAt, side_items};
 ghost use Rattle.wac_wit_validation.specs.WorldClauses.{CoversExtern, CoversItem, CoversPath, CoversPathItem, CoversPaths, HasPath, KeepsPath, KeepsSaidPath};
 ghost use Rattle.wac_wit_validation.specs.Worlds.{SaysExtern, extern_item};
 ghost use Rattle.wac_wit_validation.specs.declared.validator.Validator.{Validator as ValidatorOf};
@@ -52,7 +52,7 @@ impl<'v> Validator<'v> {
         path: &Path,
         externs: &IndexMap<String, ItemKind>,
     ) -> Result<Option<LedExtern>, AllocError>
-        ensures { IfOk result (λ o. IfSome o (λ l. (of : WitSources) (w : ScopeSyntax) → IsIndexedScope self.now scope of w → LeadsToExtern of self.now w path.now (named (λ k. k) externs.now.entries) l)) }
+        ensures { IfOk result (λ o. IfSome o (λ l. LeadsToExternAt self.now scope path.now (named (λ k. k) externs.now.entries) l)) }
     {
         match self.catalog.find_place(scope, path)? {
             Some(place) => Ok(self.led_by(scope, path, &place, externs)),
@@ -68,7 +68,7 @@ impl<'v> Validator<'v> {
         place: &FoundPlace,
         externs: &IndexMap<String, ItemKind>,
     ) -> Option<LedExtern>
-        ensures { IfSome result (λ l. (of : WitSources) (w : ScopeSyntax) → IsIndexedScope self.now scope of w → LeadsToExtern of self.now w path.now (named (λ k. k) externs.now.entries) l) }
+        ensures { IfSome result (λ l. LeadsToExternAt self.now scope path.now (named (λ k. k) externs.now.entries) l) }
     {
         let node = self.catalog.nodes.get(place.node)?;
         let (index, name, item) = externs.get_full(node.id.as_str())?;

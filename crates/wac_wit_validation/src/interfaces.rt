@@ -6,10 +6,11 @@ ghost use Rattle.wac_wit_syntax.specs.declared.tree.InterfaceItem.TheVariants.{�
 ghost use Rattle.wac_wit_syntax.specs.declared.tree.Method.{Method};
 ghost use Rattle.wac_wit_syntax.specs.declared.tree.Rename.{Rename as Renamed};
 ghost use Rattle.wac_wit_syntax.specs.declared.tree.TypeDef.TheVariants.{Resource};
-ghost use Rattle.wac_wit_validation.specs.Checking.{AreExportsAt, Brings, BringsAll, HasAllMethods, HasItem, HasMethodItem, HasMethods, HasRootName, HasTypeItem, HaveOneCollection, IsFuncBehind, Knows, MarksAt, MarksDefined, MarksExports, MarksIn, Offers, OffersMethod, OffersMethods, RepresentsNames, named_items};
+ghost use Rattle.wac_wit_validation.specs.Checking.{AreExportsAt, Brings, BringsAll, HasAllMethods, HasItem, HasMethodItem, HasMethods, HasRootName, HasTypeItem, IsFuncBehind, Knows};
+ghost use Rattle.wac_wit_validation.specs.Checking.{MarksAt, MarksBrought, MarksDefined, MarksExports, MarksIn, Offers, OffersMethod, OffersMethods, RepresentsNames, named_items};
 ghost use Rattle.wac_wit_validation.specs.Denoted.{Setting};
 ghost use Rattle.wac_wit_validation.specs.Functions.{IsFuncOf};
-ghost use Rattle.wac_wit_validation.specs.Reading.{Renames, StandForTypes};
+ghost use Rattle.wac_wit_validation.specs.Reading.{Renames};
 ghost use Rattle.wac_wit_scopes.specs.WitSources.{IsEnabled, WitSources, given_name, ident_text};
 
 use super::methods::is_next_method;
@@ -215,7 +216,7 @@ fn are_used(
     from: &NamedTypes<'_>,
     renames: &[Rename],
 ) -> bool
-    ensures marks { IsTrue result → HaveOneCollection names.now from.now → (s f : Setting) → StandForTypes from.now f → BringsAll s f renames.now → MarksExports s names.now progress.old progress.new }
+    ensures marks { IsTrue result → MarksBrought names.now from.now (λ s f. BringsAll s f renames.now) progress.old progress.new }
     ensures covers { IsTrue result → (r : Renamed) → Contains renames.now r → HasTypeItem (named_items names.now) (given_name r.name r.alias) }
 {
     for rename in renames {
@@ -233,7 +234,7 @@ fn is_used(
     from: &NamedTypes<'_>,
     rename: &Rename,
 ) -> bool
-    ensures marks { IsTrue result → names.now.types.now ≡ from.now.types.now → (s f : Setting) → StandForTypes from.now f → Brings s f rename.now → MarksExports s names.now progress.old progress.new }
+    ensures marks { IsTrue result → MarksBrought names.now from.now (λ s f. Brings s f rename.now) progress.old progress.new }
     ensures covers { IsTrue result → HasTypeItem (named_items names.now) (given_name rename.now.name rename.now.alias) }
 {
     let Some((index, of)) = names.type_at(local_name(rename)) else {

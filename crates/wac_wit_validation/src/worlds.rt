@@ -1,14 +1,15 @@
 //! Takes in the worlds of packages.
 
-ghost use Rattle.std.specs.Prelude.{◌≡◌, Contains, IfOk, IfSome, IsTrue, string_bytes};
+ghost use Rattle.std.specs.Prelude.{◌≡◌, Contains, IfOk, IfSome, IsTrue, OnOk, string_bytes};
 ghost use Rattle.std.specs.Option.{option_map};
 ghost use Rattle.wac_component.specs.Content.{world_content};
 ghost use Rattle.wac_wit_validation.specs.Checking.{MarksAt};
 ghost use Rattle.wac_wit_validation.specs.Placed.{PlacedWorld};
-ghost use Rattle.wac_wit_validation.specs.Validated.{IsWorldOf};
+ghost use Rattle.wac_wit_validation.specs.Validated.{HasFoundWorld, IsWorldOf, KeepsFound};
 ghost use Rattle.wac_wit_scopes.specs.WitSources.{WitSources};
 ghost use Rattle.wac_wit_validation.specs.WorldChecking.{IsEntryOf, IsTextAt, IsValidatedWorld, KnowsWorlds, OffersItem, RepresentsItem, StaysAs, text_content};
-ghost use Rattle.wac_wit_validation.specs.WorldClauses.{AreOwnTypes, CoversLayer, CoversOwn, CoversType, HasExportMarks, HasImportsFor, HasNeedsOf, HasWorldMarks, KeepsAllNeeds, KeepsLayer, KeepsLayers, KeepsOwn, KeepsType};
+ghost use Rattle.wac_wit_validation.specs.WorldClauses.{AreOwnTypes, CoversLayer, CoversOwn, CoversType, HasExportMarks, HasImportsFor, HasNeedsOf};
+ghost use Rattle.wac_wit_validation.specs.WorldClauses.{HasWorldMarks, KeepsAllNeeds, KeepsLayer, KeepsLayers, KeepsOwn, KeepsType};
 ghost use Rattle.wac_wit_validation.specs.declared.layers.Layer.{Layer as LayerOf};
 
 use super::externs::WorldSide;
@@ -31,6 +32,8 @@ impl<'v> Validator<'v> {
     pub fn add_world(&mut self, node: usize, id: WorldId) -> Result<bool, AllocError>
         ensures types { self.new.types.now ≡ self.old.types.now }
         ensures knows { (of : WitSources) → KnowsWorlds of self.old → KnowsWorlds of self.new }
+        ensures keeps { KeepsFound self.old self.new }
+        ensures took { IfOk result (λ is. IsTrue is → HasFoundWorld self.new id) }
     {
         self.note_includes(node)?;
         self.add_noted(node, id)
@@ -40,6 +43,8 @@ impl<'v> Validator<'v> {
     fn add_noted(&mut self, node: usize, id: WorldId) -> Result<bool, AllocError>
         ensures types { self.new.types.now ≡ self.old.types.now }
         ensures knows { (of : WitSources) → KnowsWorlds of self.old → KnowsWorlds of self.new }
+        ensures keeps { KeepsFound self.old self.new }
+        ensures took { IfOk result (λ is. IsTrue is → HasFoundWorld self.new id) }
     {
         let Some(place) = self.place_of(node) else {
             return Ok(false);
@@ -86,6 +91,8 @@ impl<'v> Validator<'v> {
     fn push_world(&mut self, node: usize, found: FoundWorld<'v>) -> Result<(), AllocError>
         ensures types { self.new.types.now ≡ self.old.types.now }
         ensures knows { (of : WitSources) → KnowsWorlds of self.old → IsValidatedWorld of self.old found.entry → KnowsWorlds of self.new }
+        ensures keeps { KeepsFound self.old self.new }
+        ensures took { OnOk result (HasFoundWorld self.new found.entry.id) }
     {
         self.world_nodes.insert(node, self.worlds.len())?;
         self.world_ids.insert(found.id, self.worlds.len())?;

@@ -7,6 +7,7 @@ use Rattle.wac_wit_validation.specs.WorldChecking.{AreLayersOf, AreWorldSides, I
 use Rattle.wac_wit_validation.specs.declared.layers.Layer.{Layer}
 use Rattle.wac_wit_validation.specs.declared.marks.WorldMarks.{WorldMarks}
 use Rattle.wac_wit_validation.proofs.NameFacts.{some_told}
+use Rattle.wac_wit_validation.proofs.WorldFacts.{KeepsFound-trans}
 use Rattle.wac_wit_validation.proofs.WorldOrigins.{world_added}
 use Rattle.wac_wit_validation.proofs.validator.Validator.add_noted.Goals as goal
 
@@ -35,3 +36,12 @@ returns-in_err-push_world-clause-knows c = λ of knows.
     c.push_world.ensures.knows of (c.world_marks.ensures.stays.knows of knows) (world_added of v x c.world_marks.ensures.stays (record { place = c.in-Some.place; id = c.args.id; marks = c.in-Some-3.marks; layers = c.in-Some-2.layers }) text here.0 here.1 c.in-Some-text_of.ensures.place
     c.in-Some-text_of.ensures.entry layers (λ at ls. sides at (subst (AreLayersOf of x here.0) (sym c.deref.ensures.value) ls))
     (subst (λ (ls : List Layer). TellsWorld x ls content) c.deref-2.ensures.value (c.in_ok-tells_world.ensures c.if-not-branch.false)))
+
+pub returns-clause-keeps : goal.returns-clause-keeps
+returns-clause-keeps c = KeepsFound-trans c.args.self.now c.world_marks.new.self c.push_world.new.self c.world_marks.ensures.stays.found c.push_world.ensures.keeps
+
+pub returns-in_err-push_world-clause-keeps : goal.returns-in_err-push_world-clause-keeps
+returns-in_err-push_world-clause-keeps c = KeepsFound-trans c.args.self.now c.world_marks.new.self c.push_world.new.self c.world_marks.ensures.stays.found c.push_world.ensures.keeps
+
+pub returns-clause-took : goal.returns-clause-took
+returns-clause-took c = λ is. c.in_ok-push_world.ensures.took

@@ -22,5 +22,5 @@ returns c = λ s setting.
       among = contains_at v.found.items index found found_at;
       at_scope = to_at;
       at_item = read_at to.items.now found.place.item _ c.in_ok-decl.field-0.now c.in_ok-decl.ensures.lookup.0 c.in_ok-decl.ensures.lookup.1 c.in-Interface.is;
-      leads = subst (λ (w : ScopeSyntax). PathLeadsTo s.sources w path (scope_syntax to) (ident_text decl.name)) (sym (setting.at from from_at)) (c.if-not-leads.ensures refl s.sources (setting.knows.scopes found.place.scope to to_at));
+      leads = subst (λ (w : ScopeSyntax). PathLeadsTo s.sources w path (scope_syntax to) (ident_text decl.name)) (sym (setting.at from from_at)) (c.if-not-leads.ensures.leads refl s.sources (setting.knows.scopes found.place.scope to to_at));
     }

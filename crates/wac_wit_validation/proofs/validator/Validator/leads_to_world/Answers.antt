@@ -15,7 +15,7 @@ returns-in-Some-world_at c = λ is of w at v is_at.
     let decl = c.in-Some-world_at.decl.now in
     let knows = at.knows.interfaces in
     let from_at = read_from self.scopes.items c.deref.result.now c.args.scope c.in-Some.from.now c.deref.ensures.value c.in-Some.ensures.lookup.0 c.in-Some.ensures.lookup.1 in
-    let leads = c.leads.ensures is of (knows.scopes c.args.at.now.scope to c.in-Some-world_at.ensures.scope) in
+    let leads = c.leads.ensures.leads is of (knows.scopes c.args.at.now.scope to c.in-Some-world_at.ensures.scope) in
     let here : IsWorldAt of self c.args.at.now v = is_at in
     let one = IsWorldAt-one of self c.args.at.now v to decl is_at c.in-Some-world_at.ensures.scope c.in-Some-world_at.ensures.item in
     subst (λ (x : PlacedWorld). LeadsToWorld of w c.args.path.now x) (sym one) (record {

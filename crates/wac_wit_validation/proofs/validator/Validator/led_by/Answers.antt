@@ -21,7 +21,7 @@ returns c = λ of w at.
     let i : PlacedInterface = record { scope = scope_syntax to; decl = decl } in
     let found : IsFoundAs of v f i = record { valid = knows.found f c.in_ok-found.ensures.among; at = record { scope = to; at_scope = c.in_ok-to.ensures.scope; at_item = c.in_ok-to.ensures.item; is = refl } } in
     let from_at = read_from v.scopes.items c.deref-2.result.now c.args.scope c.in_ok-from.from.now c.deref-2.ensures.value c.in_ok-from.ensures.lookup.0 c.in_ok-from.ensures.lookup.1 in
-    let leads = c.if-not-leads.ensures refl of (knows.scopes f.place.scope to c.in_ok-to.ensures.scope) in
+    let leads = c.if-not-leads.ensures.leads refl of (knows.scopes f.place.scope to c.in_ok-to.ensures.scope) in
     let key = c.if-not-is_identifier_text.ensures refl in
     let entry = named_at c.args.externs.now.entries c.in_ok-index.index c.in_ok-index.name.now c.in_ok-index.item.now c.in_ok-index.ensures.entry in
     record {
