@@ -17,3 +17,4 @@ pub mod OneMeaning
 pub mod OnceFacts
 pub mod OriginFacts
 pub mod WorldOrigins
+pub mod LawFacts

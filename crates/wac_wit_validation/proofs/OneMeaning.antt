@@ -34,7 +34,7 @@ no_resource : {A : Type 0} (v : ValueTree) (r : Text) → value_type v ≡ resou
 no_resource v r e = absurd (cc)
 
 -- what a type is by its outermost layer
-abbrev LayerOf : Setting → TypeExpr-F TypeExpr → ValueTree → Type 0
+abbrev pub LayerOf : Setting → TypeExpr-F TypeExpr → ValueTree → Type 0
 LayerOf s (TypeExpr-F.Primitive p span) w = w ≡ node (primitive p) no_parts
 LayerOf s (TypeExpr-F.Name id) w = NamesType s (ident_text id) (value_type w) ⊎ ((r : Text) × NamesType s (ident_text id) (resource_type r) × (w ≡ node (own r) no_parts))
 LayerOf s (TypeExpr-F.List t) w = (v : ValueTree) × IsValue s t.value v × (w ≡ node list (part v no_parts))
@@ -78,10 +78,10 @@ out-Future t = ap out-TypeExpr (sym (ty.rolls-Future t)) ∙ out-roll-TypeExpr (
 out-Stream : (t : Option (Box TypeExpr Global)) → out-TypeExpr (ty.Stream t) ≡ TypeExpr-F.Stream t
 out-Stream t = ap out-TypeExpr (sym (ty.rolls-Stream t)) ∙ out-roll-TypeExpr (TypeExpr-F.Stream t)
 
-out-Own : (id : Ident) → out-TypeExpr (ty.Own id) ≡ TypeExpr-F.Own id
+pub out-Own : (id : Ident) → out-TypeExpr (ty.Own id) ≡ TypeExpr-F.Own id
 out-Own id = ap out-TypeExpr (sym (ty.rolls-Own id)) ∙ out-roll-TypeExpr (TypeExpr-F.Own id)
 
-out-Borrow : (id : Ident) → out-TypeExpr (ty.Borrow id) ≡ TypeExpr-F.Borrow id
+pub out-Borrow : (id : Ident) → out-TypeExpr (ty.Borrow id) ≡ TypeExpr-F.Borrow id
 out-Borrow id = ap out-TypeExpr (sym (ty.rolls-Borrow id)) ∙ out-roll-TypeExpr (TypeExpr-F.Borrow id)
 
 value_of : (s : Setting) (e : TypeExpr) (w : ValueTree) → IsValue s e w → LayerOf s (out-TypeExpr e) w
@@ -99,7 +99,7 @@ value_of s _ w (a_map {k = k} {t = t} {span = span} h i) = subst (λ (l : TypeEx
 value_of s _ w (a_future {t = t} h) = subst (λ (l : TypeExpr-F TypeExpr). LayerOf s l w) (sym (out-Future t)) (_, h, refl)
 value_of s _ w (a_stream {t = t} h) = subst (λ (l : TypeExpr-F TypeExpr). LayerOf s l w) (sym (out-Stream t)) (_, h, refl)
 
-layer_of : (s : Setting) (e : TypeExpr) (l : TypeExpr-F TypeExpr) (w : ValueTree) → out-TypeExpr e ≡ l → IsValue s e w → LayerOf s l w
+pub layer_of : (s : Setting) (e : TypeExpr) (l : TypeExpr-F TypeExpr) (w : ValueTree) → out-TypeExpr e ≡ l → IsValue s e w → LayerOf s l w
 layer_of s e l w is h = subst (λ (k : TypeExpr-F TypeExpr). LayerOf s k w) is (value_of s e w h)
 
 -- what a type with a name is, by how it is defined

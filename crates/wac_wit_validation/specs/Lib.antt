@@ -14,3 +14,4 @@ pub mod Listing
 pub mod Ambiguity
 pub mod OneMeaning
 pub mod Once
+pub mod Laws

@@ -8,6 +8,7 @@ mod functions;
 mod imports;
 mod includes;
 mod interfaces;
+pub mod laws;
 mod layers;
 mod listing;
 mod marks;

@@ -1,0 +1,69 @@
+-- The laws of what texts denote: each by the rule that its denotation has.
+use Rattle.std.proofs.Common.{◌≡◌, List, [], ◌∷◌, Option, Some, IsSome, string_bytes, refl, ap, subst}
+use Rattle.wac_model.specs.ItemTree.{Items, composite, func, interface, item, item_at, leaf, no_items, world}
+use Rattle.wac_model.specs.Text.{Text}
+use Rattle.wac_model.specs.ValueTree.{borrow, no_parts, node, own}
+use Rattle.wac_wit_scopes.specs.WitSources.{IsPackageOf, IsNamedPackage, PackageId, ScopeSyntax, WitSources, alone, by_use, directly, exactly, given_name, ident_text, package_id, version_text}
+use Rattle.wac_wit_syntax.specs.declared.tree.Gate.{Gate}
+use Rattle.wac_wit_syntax.specs.declared.tree.IncludeItem.{IncludeItem}
+use Rattle.wac_wit_syntax.specs.declared.tree.InterfaceItem.{InterfaceItem}
+use Rattle.wac_wit_syntax.specs.declared.tree.PackageName.{PackageName}
+use Rattle.wac_wit_syntax.specs.declared.tree.TypeExpr.TheOpen.{TypeExpr-F}
+use Rattle.wac_wit_syntax.specs.declared.tree.TypeExpr.TheVariants as ty
+use Rattle.wac_wit_validation.specs.Denoted.{Denoted, NamesType, interface_setting, renamed, used}
+use Rattle.wac_wit_validation.specs.Interfaces.{IsInterfaceTree, a_type, named_tree}
+use Rattle.wac_wit_validation.specs.Laws.{HandlesStandAsWritten, IncludedStandRenamed, PathsLeadToTheirVersion, UsedTypesAreExported}
+use Rattle.wac_wit_validation.specs.Placed.{PlacedWorld}
+use Rattle.wac_wit_validation.specs.Worlds.{BringsIn, SaysInclude, by_include, extern_func, itself}
+use Rattle.wac_wit_validation.proofs.OneMeaning.{layer_of, out-Borrow, out-Own}
+
+pub handles_as_written : HandlesStandAsWritten
+handles_as_written = record {
+  borrowed = λ s id v h. let l : (r : Text) × NamesType s (ident_text id) _ × (v ≡ node (borrow r) no_parts) = layer_of s (ty.Borrow id) (TypeExpr-F.Borrow id) v (out-Borrow id) h in (l.0, l.2);
+  owned = λ s id v h. let l : (r : Text) × NamesType s (ident_text id) _ × (v ≡ node (own r) no_parts) = layer_of s (ty.Own id) (TypeExpr-F.Own id) v (out-Own id) h in (l.0, l.2);
+}
+
+-- ---- trees of interfaces and worlds have what the texts say
+
+same_exports : (is es : Items) → composite item interface no_items is ≡ composite item interface no_items es → es ≡ is
+same_exports is es e = cc
+
+exports_type : (of : WitSources) (w : ScopeSyntax) (is : List InterfaceItem) (exports : Items) (n : Text) (m : Denoted) → IsInterfaceTree of w is (composite item interface no_items exports)
+    → NamesType (interface_setting of w is) n m → IsSome (item_at exports n)
+exports_type of w is exports n m t names = subst (λ (es : Items). IsSome (item_at es n)) (same_exports exports t.exports t.tree) (t.all n (named_tree m) (a_type names))
+
+pub used_type_exported : UsedTypesAreExported
+used_type_exported of w v is u r i d m exports among there within leads has names t = exports_type of w is exports (given_name r.name r.alias) m t (used u r d among there within refl leads has names)
+
+-- ---- versions
+
+exact_version : (n : PackageName) (g : Gate) → n.version ≡ Some g → (package_id n).version ≡ Some (string_bytes g.text)
+exact_version n g is = ap version_text is
+
+named_version : (of : WitSources) (n : PackageName) (g : Gate) (p : PackageId) → n.version ≡ Some g → IsNamedPackage of n p → p.version ≡ Some (string_bytes g.text)
+named_version of n g _ is exactly = exact_version n g is
+named_version of n g p is (alone none _ _) = absurd (cc)
+
+package_version : (of : WitSources) (w : ScopeSyntax) (o : Option PackageName) (n : PackageName) (g : Gate) (p : PackageId) → o ≡ Some n → n.version ≡ Some g → IsPackageOf of w o p → p.version ≡ Some (string_bytes g.text)
+package_version of w o n g p is versioned h = named_version of n g p versioned (subst (λ (k : Option PackageName). IsPackageOf of w k p) is h)
+
+pub version_met : PathsLeadToTheirVersion
+version_met of w v path n g _ is versioned (directly h) = package_version of w path.package n g v.package is versioned h
+version_met of w v path n g _ is versioned (by_use u none _ _ _) = absurd (cc)
+
+-- ---- worlds
+
+same_world_imports : (is es js fs : Items) → composite item world is es ≡ composite item world js fs → js ≡ is
+same_world_imports is es js fs e = cc
+
+same_world_exports : (is es js fs : Items) → composite item world is es ≡ composite item world js fs → fs ≡ es
+same_world_exports is es js fs e = cc
+
+brought_in : (of : WitSources) (w v : PlacedWorld) (i : IncludeItem) → SaysInclude of w v i → BringsIn of w (i.renames.items ∷ []) v
+brought_in of w v i says = by_include i says itself
+
+pub included_renamed : IncludedStandRenamed
+included_renamed = record {
+  imports = λ of w v i id sig g is es says has f t. subst (λ (js : Items). IsSome (item_at js (renamed i.renames.items (ident_text id)))) (same_world_imports is es t.imports t.exports t.tree) (t.are_imports.all _ (leaf item (func g)) (extern_func id sig (brought_in of w v i says) has f));
+  exports = λ of w v i id sig g is es says has f t. subst (λ (js : Items). IsSome (item_at js (renamed i.renames.items (ident_text id)))) (same_world_exports is es t.imports t.exports t.tree) (t.are_exports.all _ (leaf item (func g)) (extern_func id sig (brought_in of w v i says) has f));
+}

@@ -1,0 +1,5 @@
+use Rattle.wac_wit_validation.proofs.LawFacts.{handles_as_written}
+use Rattle.wac_wit_validation.proofs.laws.handles_stand_as_written.Goals as goal
+
+pub returns : goal.returns
+returns c = handles_as_written

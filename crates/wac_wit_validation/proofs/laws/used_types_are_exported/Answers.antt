@@ -1,0 +1,5 @@
+use Rattle.wac_wit_validation.proofs.LawFacts.{used_type_exported}
+use Rattle.wac_wit_validation.proofs.laws.used_types_are_exported.Goals as goal
+
+pub returns : goal.returns
+returns c = used_type_exported

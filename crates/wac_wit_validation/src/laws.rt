@@ -1,0 +1,27 @@
+//! Laws of what texts denote. Each is the contract of a function that does nothing.
+
+ghost use Rattle.wac_wit_validation.specs.Laws.{HandlesStandAsWritten, IncludedStandRenamed, PathsLeadToTheirVersion, UsedTypesAreExported};
+
+/// What a text borrows is denoted by a borrowed handle alone, and what it owns by an owned one: so
+/// a reader that takes one for the other reads no text that has such a handle.
+pub fn handles_stand_as_written()
+    ensures { HandlesStandAsWritten }
+{}
+
+/// Whatever is denoted by an interface exports each type that the interface uses, so none that
+/// leaves out a used type is.
+pub fn used_types_are_exported()
+    ensures { UsedTypesAreExported }
+{}
+
+/// A path that gives a version leads into a package of that version, and never into another one of
+/// its name.
+pub fn paths_lead_to_their_version()
+    ensures { PathsLeadToTheirVersion }
+{}
+
+/// Whatever is denoted by a world has each function of a world that it includes under the new name
+/// that `with` gives it, so none that forgets a new name is.
+pub fn included_stand_renamed()
+    ensures { IncludedStandRenamed }
+{}
