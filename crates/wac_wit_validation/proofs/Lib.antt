@@ -18,3 +18,4 @@ pub mod OnceFacts
 pub mod OriginFacts
 pub mod WorldOrigins
 pub mod LawFacts
+pub mod OneExport

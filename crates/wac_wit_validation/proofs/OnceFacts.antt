@@ -1,25 +1,34 @@
--- Interfaces that give each name of a type once.
-use Rattle.std.proofs.Common.{◌≡◌, ◌∙◌, ℕ, List, Contains, Option, Some, refl, sym, ap, subst}
+-- Interfaces that give each name once.
+use Rattle.std.proofs.Common.{◌≡◌, ◌∙◌, ℕ, ◌+◌, List, Contains, Option, Some, Result, Ok, Err, IfOk, Vec, Global, refl, sym, ap, subst}
 use Rattle.std.specs.Prelude.{slice_get}
 use Rattle.std.proofs.lemmas.Option.{same_Some}
 use Rattle.wac_model.specs.Text.{Text}
 use Rattle.wac_wit_names.specs.declared.features.Features.{Features}
+use Rattle.wac_wit_syntax.specs.declared.tree.FuncItem.{FuncItem}
+use Rattle.wac_wit_syntax.specs.declared.tree.InterfaceDecl.{InterfaceDecl}
 use Rattle.wac_wit_syntax.specs.declared.tree.InterfaceItem.{InterfaceItem}
 use Rattle.wac_wit_syntax.specs.declared.tree.InterfaceItem.TheVariants as inside
+use Rattle.wac_wit_syntax.specs.declared.tree.Method.{Method}
 use Rattle.wac_wit_syntax.specs.declared.tree.Rename.{Rename}
 use Rattle.wac_wit_syntax.specs.declared.tree.TopItem.TheVariants as top
+use Rattle.wac_wit_syntax.specs.declared.tree.TypeDef.TheVariants as def
 use Rattle.wac_wit_syntax.specs.declared.tree.TypeItem.{TypeItem}
 use Rattle.wac_wit_syntax.specs.declared.tree.UseItem.{UseItem}
 use Rattle.wac_wit_validation.proofs.AmbiguityFacts.{slice_get-among}
 use Rattle.wac_wit_validation.proofs.ItemFacts.{offered_items}
 use Rattle.wac_wit_validation.specs.Ambiguity.{KeepsNoted}
 use Rattle.wac_wit_scopes.specs.Scopes.{HasScope}
-use Rattle.wac_wit_validation.specs.Denoted.{Setting, interface_setting}
-use Rattle.wac_wit_validation.specs.Once.{HasFeatures, InsideGivesOnce, ItemsGiveOnce, NotesInner}
+use Rattle.wac_wit_validation.specs.Denoted.{Setting, funcs_in, interface_setting, types_in}
+use Rattle.wac_wit_validation.specs.Functions.{method_name}
+use Rattle.wac_wit_validation.specs.Once.{HasFeatures, InsideGivesOnce, ItemsGiveOnce, NotesInner, NotesMethod}
 use Rattle.wac_wit_validation.specs.OneMeaning.{AllGiveOnce, GivesOnce, GivesType, GivesUse}
-use Rattle.wac_wit_scopes.specs.WitSources.{IsScopeOf, ScopeSyntax, WitSources, given_name, ident_text}
+use Rattle.wac_wit_scopes.specs.WitSources.{HasInterface, IsEnabled, IsScopeOf, ScopeSyntax, WitSources, given_name, ident_text}
 use Rattle.wac_wit_scopes.specs.declared.scopes.ScopeItems.{ScopeItems}
 use Rattle.wac_wit_validation.specs.declared.validator.ItemPlace.{ItemPlace}
+
+pub IfOk-both : {X Y : Type 0} (r : Result X Y) (P Q R : X → Type 0) → ((x : X) → P x → Q x → R x) → IfOk r P → IfOk r Q → IfOk r R
+IfOk-both (Ok x) P Q R f p q = f x p q
+IfOk-both (Err e) P Q R f p q = tt
 
 -- a name that a `use` gives is noted
 abbrev pub NotesRename : (Text → Option ItemPlace) → ℕ → ℕ → Rename → Type 0
@@ -30,8 +39,11 @@ NotesRename-kept a b i keeps j r h = keeps (given_name r.name r.alias) _ h
 
 pub NotesInner-kept : (of : WitSources) (a b : Text → Option ItemPlace) → KeepsNoted a b → (i : ℕ) (t : InterfaceItem) → NotesInner of a i t → NotesInner of b i t
 NotesInner-kept of a b keeps i (inside.Use u) h = λ there j r at. keeps (given_name r.name r.alias) _ (h there j r at)
-NotesInner-kept of a b keeps i (inside.Type t) h = λ there. keeps (ident_text t.name) _ (h there)
-NotesInner-kept of a b keeps i (inside.Func f) h = h
+NotesInner-kept of a b keeps i (inside.Type t) h = λ there. record {
+  own = keeps (ident_text t.name) _ (h there).own;
+  funcs = λ ms is j m at on. keeps (method_name m.kind (ident_text t.name) (ident_text m.name)) _ ((h there).funcs ms is j m at on);
+}
+NotesInner-kept of a b keeps i (inside.Func f) h = λ there. keeps (ident_text f.name) _ (h there)
 
 -- what is noted for each sort of item
 pub NotesInner-type : (of : WitSources) (given : Text → Option ItemPlace) (i : ℕ) (x : InterfaceItem) (t : TypeItem) → x ≡ inside.Type t → NotesInner of given i (inside.Type t) → NotesInner of given i x
@@ -40,23 +52,47 @@ NotesInner-type of given i x t is h = subst (NotesInner of given i) (sym is) h
 pub NotesInner-use : (of : WitSources) (given : Text → Option ItemPlace) (i : ℕ) (x : InterfaceItem) (u : UseItem) → x ≡ inside.Use u → NotesInner of given i (inside.Use u) → NotesInner of given i x
 NotesInner-use of given i x u is h = subst (NotesInner of given i) (sym is) h
 
+pub NotesInner-func : (of : WitSources) (given : Text → Option ItemPlace) (i : ℕ) (x : InterfaceItem) (f : FuncItem) → x ≡ inside.Func f → NotesInner of given i (inside.Func f) → NotesInner of given i x
+NotesInner-func of given i x f is h = subst (NotesInner of given i) (sym is) h
+
+-- a resource's function is noted with one more than its index
+abbrev pub NotesMethodAt : WitSources → (Text → Option ItemPlace) → ℕ → Text → ℕ → Method → Type 0
+NotesMethodAt of given i r j m = NotesMethod of given r (record { scope = i; item = j + 1 }) m
+
+pub NotesMethodAt-kept : (of : WitSources) (a b : Text → Option ItemPlace) (i : ℕ) (r : Text) → KeepsNoted a b → (j : ℕ) (m : Method) → NotesMethodAt of a i r j m → NotesMethodAt of b i r j m
+NotesMethodAt-kept of a b i r keeps j m h = λ on. keeps (method_name m.kind r (ident_text m.name)) _ (h on)
+
 -- names that are noted are given once
 module _ (of : WitSources) (w : ScopeSyntax) (is : List InterfaceItem) (all : InsideGivesOnce of is) where
   abbrev setting : Setting
   setting = interface_setting of w is
 
-  type_place : (n : Text) (t : TypeItem) → GivesType setting n t → (i : ℕ) × (slice_get is i ≡ Some (inside.Type t)) × (all.given n ≡ Some (record { scope = i; item = 0 }))
+  pub type_place : (n : Text) (t : TypeItem) → GivesType setting n t → (i : ℕ) × (slice_get is i ≡ Some (inside.Type t)) × (all.given n ≡ Some (record { scope = i; item = 0 }))
   type_place n t h =
       let among = offered_items of w is (inside.Type t) h.among in
       let at = slice_get-among is (inside.Type t) among in
-      (among.0, at, subst (λ (k : Text). all.given k ≡ Some (record { scope = among.0; item = 0 })) h.named (all.notes among.0 (inside.Type t) at h.there))
+      (among.0, at, subst (λ (k : Text). all.given k ≡ Some (record { scope = among.0; item = 0 })) h.named (all.notes among.0 (inside.Type t) at h.there).own)
 
-  use_place : (n : Text) (u : UseItem) (r : Rename) → GivesUse setting n u r → (i : ℕ) × (slice_get is i ≡ Some (inside.Use u)) × (j : ℕ) × (slice_get u.names.items j ≡ Some r) × (all.given n ≡ Some (record { scope = i; item = j }))
+  pub use_place : (n : Text) (u : UseItem) (r : Rename) → GivesUse setting n u r → (i : ℕ) × (slice_get is i ≡ Some (inside.Use u)) × (j : ℕ) × (slice_get u.names.items j ≡ Some r) × (all.given n ≡ Some (record { scope = i; item = j }))
   use_place n u r h =
       let among = offered_items of w is (inside.Use u) h.among in
       let at = slice_get-among is (inside.Use u) among in
       let within = slice_get-among u.names.items r h.within in
       (among.0, at, h.within.0, within, subst (λ (k : Text). all.given k ≡ Some (record { scope = among.0; item = h.within.0 })) h.named (all.notes among.0 (inside.Use u) at h.there h.within.0 r within))
+
+  pub func_place : (f : FuncItem) → Contains (funcs_in is) f → IsEnabled of f.gates → (i : ℕ) × (slice_get is i ≡ Some (inside.Func f)) × (all.given (ident_text f.name) ≡ Some (record { scope = i; item = 0 }))
+  func_place f f_in on =
+      let among = offered_items of w is (inside.Func f) f_in in
+      let at = slice_get-among is (inside.Func f) among in
+      (among.0, at, all.notes among.0 (inside.Func f) at on)
+
+  pub method_place : (t : TypeItem) (ms : Vec Method Global) (m : Method) → Contains (types_in is) t → IsEnabled of t.gates → t.def ≡ def.Resource ms → Contains ms.items m → IsEnabled of m.gates
+      → (i : ℕ) × (slice_get is i ≡ Some (inside.Type t)) × (j : ℕ) × (slice_get ms.items j ≡ Some m) × (all.given (method_name m.kind (ident_text t.name) (ident_text m.name)) ≡ Some (record { scope = i; item = j + 1 }))
+  method_place t ms m t_in t_on is_resource m_in m_on =
+      let among = offered_items of w is (inside.Type t) t_in in
+      let at = slice_get-among is (inside.Type t) among in
+      let within = slice_get-among ms.items m m_in in
+      (among.0, at, m_in.0, within, (all.notes among.0 (inside.Type t) at t_on).funcs ms is_resource m_in.0 m within m_on)
 
   one_type : (t x : TypeItem) → inside.Type t ≡ inside.Type x → t ≡ x
   one_type t x e = cc
@@ -88,8 +124,12 @@ module _ (of : WitSources) (w : ScopeSyntax) (is : List InterfaceItem) (all : In
   }
 
 -- where all scopes are among those whose interfaces give names once, all do
-pub all_once : (of : WitSources) (features : Features) (ws : List ScopeItems) → HasFeatures features of → ((w : ScopeSyntax) → IsScopeOf of w → HasScope ws w) → ((w : ScopeItems) → Contains ws w → ItemsGiveOnce features w.items.now) → AllGiveOnce of
-all_once of features ws on scopes all w n d has =
-    let found = scopes w has.scope in
-    let item = subst (λ (y : ScopeSyntax). Contains y.items (top.Interface d)) (sym found.is) has.item in
-    once_inside of w d.items.items (all found.scope found.among (top.Interface d) item of on d refl has.there)
+module _ (of : WitSources) (features : Features) (ws : List ScopeItems) (on : HasFeatures features of) (scopes : (w : ScopeSyntax) → IsScopeOf of w → HasScope ws w) (all : (w : ScopeItems) → Contains ws w → ItemsGiveOnce features w.items.now) where
+  pub all_inside : (w : ScopeSyntax) (n : Text) (d : InterfaceDecl) → HasInterface of w n d → InsideGivesOnce of d.items.items
+  all_inside w n d has =
+      let found = scopes w has.scope in
+      let item = subst (λ (y : ScopeSyntax). Contains y.items (top.Interface d)) (sym found.is) has.item in
+      all found.scope found.among (top.Interface d) item of on d refl has.there
+
+  pub all_once : AllGiveOnce of
+  all_once w n d has = once_inside of w d.items.items (all_inside w n d has)

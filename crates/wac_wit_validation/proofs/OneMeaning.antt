@@ -4,13 +4,14 @@ use Rattle.std.specs.Option.{option_to_list}
 use Rattle.std.proofs.lemmas.Option.{same_Some}
 use Rattle.wac_model.specs.Text.{Text}
 use Rattle.wac_model.specs.declared.primitive.PrimitiveType.{PrimitiveType}
-use Rattle.wac_model.specs.ValueTree.{ValueTree, borrow, enum, fixed_size_list, flags, future, list, map_of, no_parts, node, option, own, part, parts_of, primitive, record_of, result_of, stream, tuple, variant}
+use Rattle.wac_model.specs.ValueTree.{FuncTree, ValueTree, borrow, enum, fixed_size_list, flags, future, list, map_of, no_parts, node, option, own, part, parts_of, primitive, record_of, result_of, stream, tuple, variant}
 use Rattle.wac_wit_syntax.specs.declared.positions.Span.{Span}
 use Rattle.wac_wit_syntax.specs.declared.tree.Case.{Case}
 use Rattle.wac_wit_syntax.specs.declared.tree.Field.{Field}
 use Rattle.wac_wit_syntax.specs.declared.tree.Ident.{Ident}
 use Rattle.wac_wit_syntax.specs.declared.tree.InterfaceDecl.{InterfaceDecl}
 use Rattle.wac_wit_syntax.specs.declared.tree.Rename.{Rename}
+use Rattle.wac_wit_syntax.specs.declared.tree.Signature.{Signature}
 use Rattle.wac_wit_syntax.specs.declared.tree.TypeDef.{TypeDef}
 use Rattle.wac_wit_syntax.specs.declared.tree.TypeDef.TheVariants as def
 use Rattle.wac_wit_syntax.specs.declared.tree.TypeExpr.{TypeExpr}
@@ -20,6 +21,7 @@ use Rattle.wac_wit_syntax.specs.declared.tree.TypeExpr.TheViews.{out-TypeExpr, o
 use Rattle.wac_wit_syntax.specs.declared.tree.TypeItem.{TypeItem}
 use Rattle.wac_wit_syntax.specs.declared.tree.UseItem.{UseItem}
 use Rattle.wac_wit_validation.specs.Denoted.{Denoted, value_type, resource_type, Setting, NamesType, defined, used, IsDefined, another_name, alias, a_record, a_variant, some_flags, an_enum, a_resource, IsValue, a_primitive, name, handle, owned, borrowed, a_list, fixed_list, an_option, a_result, a_tuple, a_map, a_future, a_stream, IsOptional, nothing, something, AreValuesOf, no_values, more_values, AreFieldsOf, no_fields, more_fields, AreCasesOf, no_cases, bare, with_type, field_names, interface_setting, type_name}
+use Rattle.wac_wit_validation.specs.Functions.{IsFuncOf, IsReturned, returns, returns_nothing, with_names}
 use Rattle.wac_wit_validation.specs.OneMeaning.{AllGiveOnce, GivesOnce, GivesUse, HaveOneMeaning}
 use Rattle.wac_wit_validation.specs.Placed.{IsUnambiguous, PlacedInterface}
 use Rattle.wac_wit_scopes.specs.WitSources.{HasInterface, PathLeadsTo, ScopeSyntax, WitSources, ident_text}
@@ -270,6 +272,14 @@ module _ (Ok : Setting → Type 0) (once : (s : Setting) → Ok s → GivesOnce 
           ((λ z. (ident_text c.name, true) ∷ rest.0 z) ∙ sym k.names, (λ z. x z ∷ rest.1 z) ∙ sym k.trees)
     ]
 
+abbrev ReturnedOf : Setting → Option TypeExpr → Option ValueTree → Type 0
+ReturnedOf s None y = y ≡ None
+ReturnedOf s (Some t) y = (v : ValueTree) × IsValue s t v × (y ≡ Some v)
+
+returned_of : (s : Setting) (o : Option TypeExpr) (y : Option ValueTree) → IsReturned s o y → ReturnedOf s o y
+returned_of s _ _ returns_nothing = refl
+returned_of s _ _ (returns {v = v} h) = (v, h, refl)
+
 -- an interface's setting
 record IsInside (of : WitSources) (s : Setting) : Type 0 where
   scope : ScopeSyntax
@@ -294,6 +304,25 @@ module _ (of : WitSources) (paths : IsUnambiguous of) (once : AllGiveOnce of) wh
   inside_closed s h n u r gives v i d to has =
       let sources : s.sources ≡ of = ap (λ (k : Setting). k.sources) (sym h.is) in
       record { scope = v; name = i; decl = d; has = subst (λ (o : WitSources). HasInterface o v i d) sources has; is = ap (λ (o : WitSources). interface_setting o v d.items.items) (sym sources) }
+
+  one_returned : (s : Setting) (o : Option TypeExpr) (x y : Option ValueTree) → IsInside of s → IsReturned s o x → IsReturned s o y → x ≡ y
+  one_returned s _ _ y h returns_nothing g = sym (returned_of s None y g)
+  one_returned s _ _ y h (returns {t = t} {v = v} r) g =
+      let k = returned_of s (Some t) y g in
+      ap (λ (x : ValueTree). Some x) (one_value (IsInside of) inside_once inside_leads inside_closed s t v k.0 h r k.1) ∙ sym k.2
+
+  -- a signature denotes one function
+  pub one_func : (w : ScopeSyntax) (i : Text) (d : InterfaceDecl) → HasInterface of w i d → (sig : Signature) (before : List (Text × ValueTree)) (f : Option ValueTree → Option ValueTree) (x y : FuncTree)
+      → IsFuncOf (interface_setting of w d.items.items) sig before f x → IsFuncOf (interface_setting of w d.items.items) sig before f y → x ≡ y
+  one_func w i d has sig before f x y h g =
+      let s = interface_setting of w d.items.items in
+      let ok : IsInside of s = record { scope = w; name = i; decl = d; has = has; is = refl } in
+      let params = one_fields (IsInside of) inside_once inside_leads inside_closed s sig.params.items h.params g.params ok h.are_params g.are_params in
+      let returned = one_returned s sig.returns h.returns g.returns ok h.are_returns g.are_returns in
+      let named = h.named ∙ ap (λ (ps : List ValueTree). before ++ with_names (field_names sig.params.items) ps) params ∙ sym g.named in
+      let given = h.given ∙ ap f returned ∙ sym g.given in
+      let async = h.is_async ∙ sym g.is_async in
+      λ z. record { params = named z; «result» = given z; is_async = async z }
 
   -- where no path is ambiguous, and each interface gives each name of a type once, names stand for one thing
   pub one_meaning : HaveOneMeaning of

@@ -1,11 +1,13 @@
--- That a name of a type stands for one thing (WIT.md, "Item: `use`" and "Items: type").
+-- That names in interfaces stand for one thing (WIT.md, "Item: `interface`", "Item: `use`" and "Items: type").
 use Rattle.std.specs.Prelude.{◌≡◌, Contains}
+use Rattle.wac_model.specs.ItemTree.{ItemTree}
 use Rattle.wac_model.specs.Text.{Text}
 use Rattle.wac_wit_syntax.specs.declared.tree.InterfaceDecl.{InterfaceDecl}
 use Rattle.wac_wit_syntax.specs.declared.tree.Rename.{Rename}
 use Rattle.wac_wit_syntax.specs.declared.tree.TypeItem.{TypeItem}
 use Rattle.wac_wit_syntax.specs.declared.tree.UseItem.{UseItem}
 use Rattle.wac_wit_validation.specs.Denoted.{Denoted, NamesType, Setting, interface_setting}
+use Rattle.wac_wit_validation.specs.Interfaces.{HasExportOf}
 use Rattle.wac_wit_scopes.specs.WitSources.{HasInterface, IsEnabled, ScopeSyntax, WitSources, given_name, ident_text}
 
 -- a type that is there has the name
@@ -38,3 +40,11 @@ HasOneMeaning s = (n : Text) (m k : Denoted) → NamesType s n m → NamesType s
 -- so it does in each interface
 abbrev pub HaveOneMeaning : WitSources → Type 0
 HaveOneMeaning of = (w : ScopeSyntax) (i : Text) (d : InterfaceDecl) → HasInterface of w i d → HasOneMeaning (interface_setting of w d.items.items)
+
+-- the name of an export stands for one item at most
+abbrev pub HasOneItem : Setting → Type 0
+HasOneItem s = (n : Text) (x y : ItemTree) → HasExportOf s n x → HasExportOf s n y → x ≡ y
+
+-- so it does in each interface, whose text denotes one tree then, but for the order
+abbrev pub ExportsStandForOne : WitSources → Type 0
+ExportsStandForOne of = (w : ScopeSyntax) (i : Text) (d : InterfaceDecl) → HasInterface of w i d → HasOneItem (interface_setting of w d.items.items)

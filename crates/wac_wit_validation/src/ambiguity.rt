@@ -93,8 +93,8 @@ fn note_name(
     note(noted, key, place)
 }
 
-// NotesItems what a key stands for, and says whether it stood for nothing.
-fn note(
+/// Notes what a key stands for, and says whether it stood for nothing.
+pub(crate) fn note(
     noted: &mut IndexMap<String, ItemPlace>,
     key: String,
     place: ItemPlace,

@@ -4,7 +4,7 @@ ghost use Rattle.std.specs.Prelude.{◌≡◌, Contains, IfOk, IfSome, IsTrue, S
 ghost use Rattle.std.specs.Option.{option_map};
 ghost use Rattle.wac_wit_syntax.specs.declared.tree.TopItem.TheVariants.{Interface};
 ghost use Rattle.wac_wit_validation.specs.Checking.{IsValidated, Knows};
-ghost use Rattle.wac_wit_validation.specs.OneMeaning.{HaveOneMeaning};
+ghost use Rattle.wac_wit_validation.specs.OneMeaning.{ExportsStandForOne, HaveOneMeaning};
 ghost use Rattle.wac_wit_validation.specs.Placed.{IsUnambiguous};
 ghost use Rattle.wac_wit_validation.specs.WorldChecking.{KnowsWorlds, StaysAs};
 ghost use Rattle.wac_wit_scopes.specs.WitSources.{WitSources, sources_of};
@@ -24,7 +24,7 @@ use wac_wit_syntax::{Document, InterfaceDecl, TopItem};
 impl<'v> Validator<'v> {
     /// Begins with no interface. `None` is answered where no file of a package names it, or two
     /// name different ones, where a path could lead to two interfaces or worlds, and where an
-    /// interface gives a name to two types.
+    /// interface gives a name twice.
     pub fn new(
         alloc: Global,
         types: &'v Types,
@@ -34,6 +34,7 @@ impl<'v> Validator<'v> {
         ensures types { IfOk result (λ o. IfSome o (λ v. v.types.now ≡ types.now)) }
         ensures unambiguous { IfOk result (λ o. IfSome o (λ v. IsUnambiguous (sources_of sources.now.files.now sources.now.documents.now sources.now.features))) }
         ensures one_meaning { IfOk result (λ o. IfSome o (λ v. HaveOneMeaning (sources_of sources.now.files.now sources.now.documents.now sources.now.features))) }
+        ensures one_tree { IfOk result (λ o. IfSome o (λ v. ExportsStandForOne (sources_of sources.now.files.now sources.now.documents.now sources.now.features))) }
         ensures knows { IfOk result (λ o. IfSome o (KnowsWorlds (sources_of sources.now.files.now sources.now.documents.now sources.now.features))) }
     {
         let Some(scopes) = scopes_of(alloc, sources.files, sources.documents)? else {

@@ -1,6 +1,6 @@
 //! Functions of resources.
 
-ghost use Rattle.std.specs.Prelude.{◌≡◌, ◌++◌, IsTrue, codes};
+ghost use Rattle.std.specs.Prelude.{◌≡◌, ◌++◌, IfOk, IsTrue, codes, string_bytes};
 ghost use Rattle.wac_component.specs.Tree.{root_name};
 ghost use Rattle.wac_wit_validation.specs.Checking.{Gives, HasFuncItem, HasRootName, IsFuncBehind, IsFuncItem, MarksExports, named_items};
 ghost use Rattle.wac_wit_validation.specs.Denoted.{Setting};
@@ -10,6 +10,7 @@ ghost use Rattle.wac_wit_scopes.specs.WitSources.{ident_text};
 use super::names::NamedTypes;
 use super::progress::ExportMarks;
 use super::texts::behind;
+use std::alloc::{AllocError, Global};
 use wac_component::{ItemKind, ResourceId};
 use wac_wit_syntax::{Ident, Method, MethodKind};
 
@@ -84,4 +85,42 @@ fn is_name_behind(word: &str, text: &str, resource: &str, name: &str) -> bool
         Some(rest) => rest == name,
         None => false,
     }
+}
+
+/// The name of a function of a resource, as `[method]r.f`.
+pub(crate) fn method_text(
+    alloc: Global,
+    resource: &str,
+    method: &Method,
+) -> Result<String, AllocError>
+    ensures { IfOk result (λ text. string_bytes text ≡ method_name method.now.kind resource.now (ident_text method.now.name)) }
+{
+    match method.kind {
+        MethodKind::Constructor => text_behind(alloc, "[constructor]", resource),
+        MethodKind::Method => named_text(alloc, "[method]", resource, &method.name.name),
+        MethodKind::Static => named_text(alloc, "[static]", resource, &method.name.name),
+    }
+}
+
+fn text_behind(alloc: Global, word: &str, name: &str) -> Result<String, AllocError>
+    ensures { IfOk result (λ text. string_bytes text ≡ word.now ++ name.now) }
+{
+    let mut text = String::from_str(alloc, word)?;
+    text.push_str(name)?;
+    Ok(text)
+}
+
+// A word, and the names of a resource and of a function with a dot between.
+fn named_text(
+    alloc: Global,
+    word: &str,
+    resource: &str,
+    name: &str,
+) -> Result<String, AllocError>
+    ensures { IfOk result (λ text. string_bytes text ≡ word.now ++ resource.now ++ codes "." ++ name.now) }
+{
+    let mut text = text_behind(alloc, word, resource)?;
+    text.push_str(".")?;
+    text.push_str(name)?;
+    Ok(text)
 }

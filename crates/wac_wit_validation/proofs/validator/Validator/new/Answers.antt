@@ -12,7 +12,8 @@ use Rattle.wac_wit_scopes.specs.WitSources.{IsScopeOf, ScopeSyntax, sources_of}
 use Rattle.wac_wit_validation.proofs.AmbiguityFacts.{unambiguous}
 use Rattle.wac_wit_validation.proofs.FoundFacts.{Contains-nothing}
 use Rattle.wac_wit_validation.proofs.NameFacts.{some_told}
-use Rattle.wac_wit_validation.proofs.OnceFacts.{all_once}
+use Rattle.wac_wit_validation.proofs.OnceFacts.{all_inside, all_once}
+use Rattle.wac_wit_validation.proofs.OneExport.{exports_stand_for_one}
 use Rattle.wac_wit_validation.proofs.OneMeaning.{one_meaning}
 use Rattle.wac_wit_validation.proofs.validator.Validator.new.Goals as goal
 
@@ -31,6 +32,15 @@ returns-clause-one_meaning c =
     c.in-Some.is c.in_ok-scopes.ensures.all sources.features in
     let once = subst (λ (ws : List ScopeItems). (w : ScopeItems) → Contains ws w → ItemsGiveOnce sources.features w.items.now) c.deref-2.ensures.value (c.in_ok-all_give_once.ensures c.if-not-branch-2.false) in
     one_meaning of (returns-clause-unambiguous c) (all_once of sources.features c.in-Some.scopes.items (λ n. refl) all once)
+
+pub returns-clause-one_tree : goal.returns-clause-one_tree
+returns-clause-one_tree c =
+    let sources = c.args.sources.now in
+    let of = sources_of sources.files.now sources.documents.now sources.features in
+    let all = some_told c.in_ok-scopes.field-0 c.in-Some.scopes (λ (ws : Vec ScopeItems Global). (features : Features) (w : ScopeSyntax) → IsScopeOf (sources_of sources.files.now sources.documents.now features) w → HasScope ws.items w)
+    c.in-Some.is c.in_ok-scopes.ensures.all sources.features in
+    let once = subst (λ (ws : List ScopeItems). (w : ScopeItems) → Contains ws w → ItemsGiveOnce sources.features w.items.now) c.deref-2.ensures.value (c.in_ok-all_give_once.ensures c.if-not-branch-2.false) in
+    exports_stand_for_one of (returns-clause-unambiguous c) (all_once of sources.features c.in-Some.scopes.items (λ n. refl) all once) (all_inside of sources.features c.in-Some.scopes.items (λ n. refl) all once)
 
 pub returns-clause-knows : goal.returns-clause-knows
 returns-clause-knows c = record {

@@ -2,7 +2,7 @@ use Rattle.indexmap.specs.IndexMap.{get_by_text}
 use Rattle.wac_wit_validation.specs.Once.{NotesInner}
 use Rattle.wac_wit_validation.proofs.AmbiguityFacts.{EachBelow-end, EachBelow-more, EachBelow-none}
 use Rattle.wac_wit_validation.proofs.OnceFacts.{NotesInner-kept}
-use Rattle.wac_wit_validation.proofs.once.note_types.Goals as goal
+use Rattle.wac_wit_validation.proofs.once.note_inside.Goals as goal
 
 pub loop-index-init : goal.loop-index-init
 loop-index-init c = λ of on. EachBelow-none c.args.items.now (NotesInner of (get_by_text c.args.given.now))
@@ -10,9 +10,9 @@ loop-index-init c = λ of on. EachBelow-none c.args.items.now (NotesInner of (ge
 pub loop-index-preserved : goal.loop-index-preserved
 loop-index-preserved c = λ of on.
     let before = get_by_text c.loop-index.given in
-    let after = get_by_text c.note_type.new.given in
+    let after = get_by_text c.note_inner.new.given in
     EachBelow-more c.args.items.now (NotesInner of before) (NotesInner of after) c.loop-index.index c.index-items-index.result c.loop-index-test.true c.index-items-index.is
-    (NotesInner-kept of before after (c.in_ok-note_type.ensures.grows c.if-not-branch.false)) (c.in_ok-note_type.ensures.notes c.if-not-branch.false of on) (c.loop-index.invariant of on)
+    (NotesInner-kept of before after (c.in_ok-note_inner.ensures.grows c.if-not-branch.false)) (c.in_ok-note_inner.ensures.notes c.if-not-branch.false of on) (c.loop-index.invariant of on)
 
 pub returns : goal.returns
 returns c = λ is of on. EachBelow-end c.args.items.now (NotesInner of (get_by_text c.loop-index.given)) c.loop-index.index c.loop-index-test.false (c.loop-index.invariant of on)
