@@ -11,7 +11,8 @@ use Rattle.wac_wit_names.specs.declared.sources.SourceFile.{SourceFile}
 use Rattle.wac_wit_syntax.specs.declared.tree.Document.{Document}
 use Rattle.wac_wit_validation.specs.WorldChecking.{KnowsWorlds}
 use Rattle.wac_wit_scopes.specs.WitSources.{HasInterface, IsInGroup, IsScopeOf, PackageId, ScopeSyntax, WitSources, sources_of}
-use Rattle.wac_wit_validation.specs.Placed.{HasWorld}
+use Rattle.wac_wit_validation.specs.OneMeaning.{ExportsStandForOne}
+use Rattle.wac_wit_validation.specs.Placed.{HasWorld, IsUnambiguous}
 use Rattle.wac_wit_syntax.specs.declared.tree.InterfaceDecl.{InterfaceDecl}
 use Rattle.wac_wit_syntax.specs.declared.tree.WorldDecl.{WorldDecl}
 use Rattle.wac_wit_validation.specs.Validated.{IsInterfaceOf, IsWorldOf, package_text}
@@ -64,10 +65,17 @@ pub record ListsAll (of : WitSources) (ps : List WitPackage) : Type 0 where
   pub worlds : (w : ScopeSyntax) (n : Text) (d : WorldDecl) → HasWorld of w n d → HasPackage of ps w.«package» (λ p. IsSome (get_by_text p.worlds n))
   pub of_texts : (p : WitPackage) → Contains ps p → IsOfScope of p
 
--- each is so, and they are all
+-- what is read says one thing: a path leads to one interface or world at most, and in an interface the name of an export stands for
+-- one item at most
+pub record SaysOneThing (of : WitSources) : Type 0 where
+  pub paths : IsUnambiguous of
+  pub exports : ExportsStandForOne of
+
+-- each is so, they are all, and their texts say one thing
 pub record AreReadPackages (of : WitSources) (c : Collection) (wit : Wit) : Type 0 where
   pub each : IsEachRead of c wit
   pub all : ListsAll of wit.packages.items
+  pub clear : SaysOneThing of
 
 -- the packages are those of files: there is a document of each file, which its text says, and the interfaces and the worlds are what
 -- these documents denote

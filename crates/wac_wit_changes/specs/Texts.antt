@@ -7,7 +7,7 @@ use Rattle.wac_types.specs.ItemTree.{ItemTree}
 use Rattle.wac_types.specs.Order.{Fits}
 use Rattle.wac_types.specs.Text.{Text}
 use Rattle.wac_wit_scopes.specs.Parsed.{AreParsed}
-use Rattle.wac_wit.specs.Read.{ListsAll}
+use Rattle.wac_wit.specs.Read.{ListsAll, SaysOneThing}
 use Rattle.wac_wit.specs.declared.packages.WitPackage.{WitPackage}
 use Rattle.wac_wit_names.specs.declared.features.Features.{Features}
 use Rattle.wac_wit_names.specs.declared.sources.SourceFile.{SourceFile}
@@ -91,7 +91,8 @@ pub record IsTextReportOn (olds news : WitSources) (others : List WitPackage) (o
   pub about : IsReportOfOne others old r ⊎ ((new : WitPackage) × IsCounterpart others old new × IsTextReportOfBoth olds news old new r)
 
 -- what became of the packages of old files, beside those of new files: each file's text says its tree, nothing in these
--- trees is left out of the packages, and there is a report on each old package, in their order, about what they denote
+-- trees is left out of the packages, they say one thing, and there is a report on each old package, in their order, about
+-- what they denote
 pub record ComparesTexts (old new : List SourceFile) (features : Features) (t : ComparedTexts) : Type 0 where
   pub old_trees : List Document
   pub new_trees : List Document
@@ -99,4 +100,6 @@ pub record ComparesTexts (old new : List SourceFile) (features : Features) (t : 
   pub new_parsed : AreParsed new new_trees
   pub old_all : ListsAll (sources_of old old_trees features) t.old.packages.items
   pub new_all : ListsAll (sources_of new new_trees features) t.new.packages.items
+  pub old_clear : SaysOneThing (sources_of old old_trees features)
+  pub new_clear : SaysOneThing (sources_of new new_trees features)
   pub each : AllZip (IsTextReportOn (sources_of old old_trees features) (sources_of new new_trees features) t.new.packages.items) t.old.packages.items t.reports.items

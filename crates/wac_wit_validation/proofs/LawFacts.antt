@@ -1,6 +1,6 @@
 -- The laws of what texts denote: each by the rule that its denotation has.
-use Rattle.std.proofs.Common.{◌≡◌, List, [], ◌∷◌, Option, Some, IsSome, string_bytes, refl, ap, subst}
-use Rattle.wac_model.specs.ItemTree.{Items, composite, func, interface, item, item_at, leaf, no_items, world}
+use Rattle.std.proofs.Common.{◌≡◌, true, false, List, [], ◌∷◌, Option, Some, None, IsSome, string_bytes, refl, sym, ap, subst}
+use Rattle.wac_model.specs.ItemTree.{ItemTree, Items, composite, func, interface, item, item_at, leaf, no_items, world}
 use Rattle.wac_model.specs.Text.{Text}
 use Rattle.wac_model.specs.ValueTree.{borrow, no_parts, node, own}
 use Rattle.wac_wit_scopes.specs.WitSources.{IsPackageOf, IsNamedPackage, PackageId, ScopeSyntax, WitSources, alone, by_use, directly, exactly, given_name, ident_text, package_id, version_text}
@@ -11,8 +11,8 @@ use Rattle.wac_wit_syntax.specs.declared.tree.PackageName.{PackageName}
 use Rattle.wac_wit_syntax.specs.declared.tree.TypeExpr.TheOpen.{TypeExpr-F}
 use Rattle.wac_wit_syntax.specs.declared.tree.TypeExpr.TheVariants as ty
 use Rattle.wac_wit_validation.specs.Denoted.{Denoted, NamesType, interface_setting, renamed, used}
-use Rattle.wac_wit_validation.specs.Interfaces.{IsInterfaceTree, a_type, named_tree}
-use Rattle.wac_wit_validation.specs.Laws.{HandlesStandAsWritten, IncludedStandRenamed, PathsLeadToTheirVersion, UsedTypesAreExported}
+use Rattle.wac_wit_validation.specs.Interfaces.{HasExportOf, IsInterfaceTree, a_type, named_tree}
+use Rattle.wac_wit_validation.specs.Laws.{HandlesStandAsWritten, IncludedStandRenamed, InterfacesHaveOneTree, PathsLeadToTheirVersion, UsedTypesAreExported}
 use Rattle.wac_wit_validation.specs.Placed.{PlacedWorld}
 use Rattle.wac_wit_validation.specs.Worlds.{BringsIn, SaysInclude, by_include, extern_func, itself}
 use Rattle.wac_wit_validation.proofs.OneMeaning.{layer_of, out-Borrow, out-Own}
@@ -34,6 +34,20 @@ exports_type of w is exports n m t names = subst (λ (es : Items). IsSome (item_
 
 pub used_type_exported : UsedTypesAreExported
 used_type_exported of w v is u r i d m exports among there within leads has names t = exports_type of w is exports (given_name r.name r.alias) m t (used u r d among there within refl leads has names)
+
+-- two that are there together, and are one where both are, are one
+same_options : {A : Type 0} (a b : Option A) → ((x : A) → a ≡ Some x → IsSome b) → ((y : A) → b ≡ Some y → IsSome a) → ((x y : A) → a ≡ Some x → b ≡ Some y → x ≡ y) → a ≡ b
+same_options None None f g h = refl
+same_options None (Some y) f g h = absurd (let no : false ≡ true = g y refl in cc)
+same_options (Some x) None f g h = absurd (let no : false ≡ true = f x refl in cc)
+same_options (Some x) (Some y) f g h = ap Some (h x y refl refl)
+
+pub one_interface_tree : InterfacesHaveOneTree
+one_interface_tree of w i d es fs n one has t u =
+    let s = interface_setting of w d.items.items in
+    let each : (gs : Items) → IsInterfaceTree of w d.items.items (composite item interface no_items gs) → (x : ItemTree) → item_at gs n ≡ Some x → HasExportOf s n x = λ gs v x at. v.each n x (subst (λ (hs : Items). item_at hs n ≡ Some x) (sym (same_exports gs v.exports v.tree)) at) in
+    let all : (gs : Items) → IsInterfaceTree of w d.items.items (composite item interface no_items gs) → (x : ItemTree) → HasExportOf s n x → IsSome (item_at gs n) = λ gs v x h. subst (λ (hs : Items). IsSome (item_at hs n)) (same_exports gs v.exports v.tree) (v.all n x h) in
+    same_options (item_at es n) (item_at fs n) (λ x at. all fs u x (each es t x at)) (λ y at. all es t y (each fs u y at)) (λ x y at by. one w i d has n x y (each es t x at) (each fs u y by))
 
 -- ---- versions
 

@@ -153,19 +153,19 @@ module _ (of : WitSources) (w : ScopeSyntax) (is : List InterfaceItem) (all : In
     pub one_export : (n : Text) (x y : ItemTree) → HasExportOf own n x → HasExportOf own n y → x ≡ y
     one_export n x y h g = elim (export_by of w is n x h) [
       | inl t ↦ elim (export_by of w is n y g) [
-          | inl k ↦ t.tree ∙ ap named_tree (meaning n t.denoted k.denoted t.names k.names) ∙ sym k.tree
-          | inr r ↦ elim r [ inl f ↦ absurd (no_type_func n y f (place_of_type n t.denoted t.names)) | inr m ↦ absurd (no_type_method n m.type_of m.of (place_of_type n t.denoted t.names)) ]
-        ]
+        | inl k ↦ t.tree ∙ ap named_tree (meaning n t.denoted k.denoted t.names k.names) ∙ sym k.tree
+        | inr r ↦ elim r [ inl f ↦ absurd (no_type_func n y f (place_of_type n t.denoted t.names)) | inr m ↦ absurd (no_type_method n m.type_of m.of (place_of_type n t.denoted t.names)) ]
+      ]
       | inr l ↦ elim l [
-          | inl f ↦ elim (export_by of w is n y g) [
-              | inl k ↦ absurd (no_type_func n x f (place_of_type n k.denoted k.names))
-              | inr r ↦ elim r [ inl e ↦ one_func_export n x y f e | inr m ↦ absurd (no_func_method n x f m.type_of m.of) ]
-            ]
-          | inr m ↦ elim (export_by of w is n y g) [
-              | inl k ↦ absurd (no_type_method n m.type_of m.of (place_of_type n k.denoted k.names))
-              | inr r ↦ elim r [ inl e ↦ absurd (no_func_method n y e m.type_of m.of) | inr k ↦ m.tree ∙ ap (λ (f : FuncTree). leaf item (func f)) (one_method n m.type_of k.type_of m.of k.of) ∙ sym k.tree ]
-            ]
+        | inl f ↦ elim (export_by of w is n y g) [
+          | inl k ↦ absurd (no_type_func n x f (place_of_type n k.denoted k.names))
+          | inr r ↦ elim r [ inl e ↦ one_func_export n x y f e | inr m ↦ absurd (no_func_method n x f m.type_of m.of) ]
         ]
+        | inr m ↦ elim (export_by of w is n y g) [
+          | inl k ↦ absurd (no_type_method n m.type_of m.of (place_of_type n k.denoted k.names))
+          | inr r ↦ elim r [ inl e ↦ absurd (no_func_method n y e m.type_of m.of) | inr k ↦ m.tree ∙ ap (λ (f : FuncTree). leaf item (func f)) (one_method n m.type_of k.type_of m.of k.of) ∙ sym k.tree ]
+        ]
+      ]
     ]
 
 -- where no path is ambiguous, and each interface gives each name once, exports stand for one thing

@@ -1,4 +1,4 @@
--- Laws of what texts denote: what no reading of a text is that mistakes it in one of these ways.
+-- Laws of what texts denote: an interface denotes one tree, and no tree that mistakes its text in one of these ways.
 use Rattle.std.specs.Prelude.{◌≡◌, List, [], ◌∷◌, Contains, Some, IsSome, string_bytes}
 use Rattle.wac_model.specs.ItemTree.{Items, composite, interface, item, item_at, no_items, world}
 use Rattle.wac_model.specs.Text.{Text}
@@ -20,6 +20,7 @@ use Rattle.wac_wit_syntax.specs.declared.tree.UseItem.{UseItem}
 use Rattle.wac_wit_validation.specs.Denoted.{Denoted, IsValue, NamesType, Setting, interface_setting, renamed, uses_in}
 use Rattle.wac_wit_validation.specs.Functions.{IsFuncOf}
 use Rattle.wac_wit_validation.specs.Interfaces.{IsInterfaceTree}
+use Rattle.wac_wit_validation.specs.OneMeaning.{ExportsStandForOne}
 use Rattle.wac_wit_validation.specs.Placed.{PlacedWorld}
 use Rattle.wac_wit_validation.specs.Worlds.{IsWorldTree, SaysExtern, SaysInclude, world_setting}
 
@@ -48,3 +49,8 @@ pub record IncludedStandRenamed : Type 0 where
   pub exports : (of : WitSources) (w v : PlacedWorld) (i : IncludeItem) (id : Ident) (sig : Signature) (g : FuncTree) (is es : Items)
       → SaysInclude of w v i → SaysExtern of v Export (extern.Func id sig) → IsFuncOf (world_setting of (i.renames.items ∷ []) v) sig [] (λ r. r) g
       → IsWorldTree of w (composite item world is es) → IsSome (item_at es (renamed i.renames.items (ident_text id)))
+
+-- where names of exports stand for one item, the trees that an interface denotes have the same items
+abbrev pub InterfacesHaveOneTree : Type 0
+InterfacesHaveOneTree = (of : WitSources) (w : ScopeSyntax) (i : Text) (d : InterfaceDecl) (es fs : Items) (n : Text) → ExportsStandForOne of → HasInterface of w i d
+    → IsInterfaceTree of w d.items.items (composite item interface no_items es) → IsInterfaceTree of w d.items.items (composite item interface no_items fs) → item_at es n ≡ item_at fs n

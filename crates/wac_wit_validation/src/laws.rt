@@ -1,6 +1,12 @@
 //! Laws of what texts denote. Each is the contract of a function that does nothing.
 
-ghost use Rattle.wac_wit_validation.specs.Laws.{HandlesStandAsWritten, IncludedStandRenamed, PathsLeadToTheirVersion, UsedTypesAreExported};
+ghost use Rattle.wac_wit_validation.specs.Laws.{HandlesStandAsWritten, IncludedStandRenamed, InterfacesHaveOneTree, PathsLeadToTheirVersion, UsedTypesAreExported};
+
+/// Where what is read says one thing, an interface denotes one tree, but for the order of its exports:
+/// two trees that it denotes have the same item under each name.
+pub fn interfaces_have_one_tree()
+    ensures { InterfacesHaveOneTree }
+{}
 
 /// What a text borrows is denoted by a borrowed handle alone, and what it owns by an owned one: so
 /// a reader that takes one for the other reads no text that has such a handle.

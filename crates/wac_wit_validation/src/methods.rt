@@ -111,12 +111,7 @@ fn text_behind(alloc: Global, word: &str, name: &str) -> Result<String, AllocErr
 }
 
 // A word, and the names of a resource and of a function with a dot between.
-fn named_text(
-    alloc: Global,
-    word: &str,
-    resource: &str,
-    name: &str,
-) -> Result<String, AllocError>
+fn named_text(alloc: Global, word: &str, resource: &str, name: &str) -> Result<String, AllocError>
     ensures { IfOk result (λ text. string_bytes text ≡ word.now ++ resource.now ++ codes "." ++ name.now) }
 {
     let mut text = text_behind(alloc, word, resource)?;

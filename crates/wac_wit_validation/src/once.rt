@@ -17,8 +17,8 @@ use std::alloc::{AllocError, Global};
 use wac_wit_names::Features;
 use wac_wit_scopes::ScopeItems;
 use wac_wit_syntax::{
-    FuncItem, Gates, Ident, InterfaceDecl, InterfaceItem, Method, Rename, TopItem, TypeDef, TypeItem,
-    UseItem,
+    FuncItem, Gates, Ident, InterfaceDecl, InterfaceItem, Method, Rename, TopItem, TypeDef,
+    TypeItem, UseItem,
 };
 
 /// Whether each interface that is there gives each name once.

@@ -14,4 +14,8 @@ returns c = told_of c.lists_all.result _ _ c.lists_all.ensures (λ b told is.
     record {
       each = subst (λ (d : Collection). IsEachRead of d wit) (c.are_added.ensures.types ∙ types) (c.if-not-are_listed.ensures refl of knows);
       all = subst (ListsAll of) c.deref-3.ensures.value (told is of knows);
+      clear = record {
+        paths = some_of c.in_ok-validator.field-0 c.in-Some.validator _ c.in-Some.is c.in_ok-validator.ensures.unambiguous;
+        exports = some_of c.in_ok-validator.field-0 c.in-Some.validator _ c.in-Some.is c.in_ok-validator.ensures.one_tree;
+      };
     })
