@@ -2,7 +2,7 @@
 use Rattle.std.proofs.Common.{◌≡◌, ◌∙◌, ℕ, ◌++◌, ◌∷◌, [], Contains, List, Option, Some, ap, refl, subst, sym}
 use Rattle.std.specs.Prelude.{Box}
 use Rattle.std.specs.declared.alloc.Global.{Global}
-use Rattle.wac_wit_refusals.specs.BorrowSteps.{AreSitesPut, IsAliased, IsContent, IsNameOf, IsSitePut, IsStreamed, SiteHasBorrow, SiteIsChar, as_alias, put_before, put_now}
+use Rattle.wac_wit_refusals.specs.BorrowSteps.{AreSitesPut, IsAliased, IsContent, IsNameOf, IsSitePut, IsStreamed, SiteHas, as_alias, put_before, put_now}
 use Rattle.wac_wit_refusals.specs.Borrows.{HasBorrow, IsSent, by_future, by_stream, in_definition, in_part, place_of_site}
 use Rattle.wac_wit_refusals.specs.CharStreams.{IsCharStream, IsCharType, names_char}
 use Rattle.wac_wit_refusals.specs.Definitions.{BodyPlace, NamesDefinition}
@@ -11,6 +11,7 @@ use Rattle.wac_wit_refusals.specs.TypeSites.{BodyAt, HasTypeExpr, IsWritten, Typ
 use Rattle.wac_wit_refusals.specs.declared.bodies.PlacedBody.{PlacedBody}
 use Rattle.wac_wit_refusals.specs.declared.definitions.DefinitionSite.{DefinitionSite}
 use Rattle.wac_wit_refusals.specs.declared.type_sites.TypeSite.{TypeSite}
+use Rattle.wac_wit_refusals.specs.declared.wanted.Wanted.TheVariants.{Borrow, Char}
 use Rattle.wac_wit_refusals.proofs.Walks.{each_push}
 use Rattle.wac_wit_scopes.specs.WitSources.{WitSources, ident_text}
 use Rattle.wac_wit_syntax.specs.declared.positions.Span.{Span}
@@ -52,16 +53,16 @@ pub part_borrow : (of : WitSources) (q p : PlacedBody) (e x : TypeExpr) → q �
 part_borrow of q p e x same w h = written_borrow of (body_place p) e (as_alias e) x w refl (subst (λ (b : PlacedBody). HasBorrow of (body_place b) x) same h)
 
 -- what a definition has, its name has
-pub name_borrow : (of : WitSources) (from : TypeSite) (d : DefinitionSite) (t : TypeSite) → IsNameOf of from d → t.placed ≡ d.placed → IsWritten (a_definition d.ty.now.def) t.ty.now → SiteHasBorrow of t → SiteHasBorrow of from
+pub name_borrow : (of : WitSources) (from : TypeSite) (d : DefinitionSite) (t : TypeSite) → IsNameOf of from d → t.placed ≡ d.placed → IsWritten (a_definition d.ty.now.def) t.ty.now → SiteHas of Borrow t → SiteHas of Borrow from
 name_borrow of from d t n same w h = subst (HasBorrow of (body_place from.placed)) (sym n.is)
     (in_definition (body_place from.placed) (body_place d.placed) n.name d.ty.now.def t.ty.now n.defines w (subst (λ (p : PlacedBody). HasBorrow of (body_place p) t.ty.now) same h))
 
-pub name_char : (of : WitSources) (from : TypeSite) (d : DefinitionSite) (t : TypeSite) → IsNameOf of from d → t.placed ≡ d.placed → IsAliased d t.ty.now → SiteIsChar of t → SiteIsChar of from
+pub name_char : (of : WitSources) (from : TypeSite) (d : DefinitionSite) (t : TypeSite) → IsNameOf of from d → t.placed ≡ d.placed → IsAliased d t.ty.now → SiteHas of Char t → SiteHas of Char from
 name_char of from d t n same is h = subst (IsCharType of (body_place from.placed)) (sym n.is)
     (names_char (body_place from.placed) (body_place d.placed) n.name t.ty.now (subst (NamesDefinition of (body_place from.placed) (ident_text n.name) (body_place d.placed)) is n.defines)
     (subst (λ (p : PlacedBody). IsCharType of (body_place p) t.ty.now) same h))
 
-pub same_char : (of : WitSources) (t : TypeSite) (p : PlacedBody) (e : TypeExpr) → t.placed ≡ p → e ≡ t.ty.now → SiteIsChar of t → IsCharType of (body_place p) e
+pub same_char : (of : WitSources) (t : TypeSite) (p : PlacedBody) (e : TypeExpr) → t.placed ≡ p → e ≡ t.ty.now → SiteHas of Char t → IsCharType of (body_place p) e
 same_char of t p e at is h = subst (IsCharType of (body_place p)) (sym is) (subst (λ (q : PlacedBody). IsCharType of (body_place q) t.ty.now) at h)
 
 -- what a stream or a future has

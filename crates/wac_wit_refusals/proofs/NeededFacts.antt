@@ -7,11 +7,11 @@ use Rattle.std.proofs.lemmas.Slice.Eq.{bytes_eq-Decides}
 use Rattle.indexmap.specs.IndexMap.{get_by_text}
 use Rattle.wac_wit_refusals.proofs.Reached.{same_item, same_scope}
 use Rattle.wac_model.specs.Text.{Text}
-use Rattle.wac_wit_refusals.specs.NeededSteps.{AreExports, IsOnBothSides, NeedsFoundTwice, imports_of, IsFoundNeed, IsFoundUnexported, IsExportListed, IsNameListed, IsNeededFor, IsUnlisted, KeepsListed, Needing, NeedsUses, NeedsLed, NeedsNext, NeedsWhat, as_import, some_export, this_export}
+use Rattle.wac_wit_refusals.specs.NeededSteps.{AreExports, IsOnBothSides, NeedsFoundTwice, imports_of, IsFoundNeed, IsFoundUnexported, IsExportListed, IsNameListed, IsNeededFor, IsUnlisted, KeepsListed, Needing, NeedsUses, NeedsLed, NeedsNext, NeedsWhat, as_import, some_export, this_export, this_item}
 use Rattle.wac_wit_refusals.specs.NeededTwice.{IsExportThere, IsNeededAsImport, IsNotExported, by_way_of, by_written_use, is_itself}
 use Rattle.wac_wit_refusals.specs.Needs.{NeedsItem, at_once, by_way}
 use Rattle.wac_wit_refusals.specs.Paths.{name_of_item}
-use Rattle.wac_wit_refusals.specs.declared.cycles.Reached.{Reached}
+use Rattle.wac_wit_refusals.specs.declared.needs.Reached.{Reached}
 use Rattle.wac_wit_refusals.specs.declared.exports.WorldExports.{WorldExports}
 use Rattle.wac_wit_refusals.specs.declared.judge.Judge.{Judge}
 use Rattle.wac_wit_refusals.specs.declared.led.LedTo.{LedTo}
@@ -29,6 +29,7 @@ use Rattle.wac_wit_syntax.specs.declared.tree.WorldItem.TheVariants as world_ite
 
 -- what is needed by what is needed is
 needs_more : (of : WitSources) (n : Needing) (u : ScopeSyntax) (r : TopItem) (v : ScopeSyntax) (s : TopItem) → IsNeededFor of n u r → NeedsItem of u r v s → IsNeededFor of n v s
+needs_more of (this_item w t) u r v s h m = by_way u r v s h m
 needs_more of (this_export w x) u r v s h m = by_way_of u r v s h m
 needs_more of (some_export w is) u r v s h m = record { export = h.export; there = h.there; needed = by_way_of u r v s h.needed m }
 needs_more of (as_import w is) u r v s h m = record { export = h.export; there = h.there; scope = h.scope; between = h.between; needed = h.needed; imported = h.imported; leads = by_way u r v s h.leads m }
@@ -36,6 +37,9 @@ needs_more of (as_import w is) u r v s h m = record { export = h.export; there =
 module _ (of : WitSources) (j : Judge) where
   pub needs_next : (n : Needing) (l : LedTo) → IsFoundNeed of j n l → NeedsNext of j n l
   needs_next n l h v known placed needs = record { known = known; placed = placed; needed = needs_more of n (scope_syntax l.scope) l.item.now (scope_syntax v.scope) v.item.now h.needed needs }
+
+  pub needs_first : (l : LedTo) → NeedsNext of j (this_item (scope_syntax l.scope) l.item.now) l
+  needs_first l v known placed needs = record { known = known; placed = placed; needed = at_once (scope_syntax v.scope) v.item.now needs }
 
   pub needs_this : (w : ScopeSyntax) (x : ExternItem) → NeedsWhat of j (this_export w x) w x
   needs_this w x l known placed needed = record { known = known; placed = placed; needed = needed }

@@ -6,8 +6,8 @@ use Rattle.wac_wit_scopes.specs.Scopes.{scope_syntax}
 use Rattle.wac_wit_scopes.specs.WitSources.{WitSources}
 use Rattle.wac_wit_scopes.specs.declared.scopes.ScopeItems.{ScopeItems}
 use Rattle.wac_wit_syntax.specs.declared.tree.TopItem.{TopItem}
-use Rattle.wac_wit_refusals.specs.Leading.{IsPlacedItem, IsReached, IsNeedStep}
-use Rattle.wac_wit_refusals.specs.Needs.{LeadsByNeeds, at_once, by_way}
+use Rattle.wac_wit_refusals.specs.Leading.{IsPlacedItem, NeedsItself}
+use Rattle.wac_wit_refusals.specs.Needs.{LeadsByNeeds}
 use Rattle.wac_wit_refusals.specs.declared.hints.MemberPlace.{MemberPlace}
 use Rattle.wac_wit_refusals.specs.declared.judge.Judge.{Judge}
 use Rattle.wac_wit_refusals.specs.declared.led.LedTo.{LedTo}
@@ -20,13 +20,6 @@ module _ (j : Judge) (l s : LedTo) (same : l.place ≡ s.place) (left : IsPlaced
   same_item = let scope = same_scope in same_Some _ _ (sym left.item ∙ (λ i. slice_get (scope i).items.now (same i).item) ∙ right.item)
 
   -- what is reached from something, and stands at its place, is that
-  pub needs_back : (of : WitSources) → IsReached of j s l → LeadsByNeeds of (scope_syntax s.scope) s.item.now (scope_syntax s.scope) s.item.now
-  needs_back of r = subst (λ (t : TopItem). LeadsByNeeds of (scope_syntax s.scope) s.item.now (scope_syntax s.scope) t) same_item
-      (subst (λ (w : ScopeItems). LeadsByNeeds of (scope_syntax s.scope) s.item.now (scope_syntax w) l.item.now) same_scope r.leads)
-
-module _ (of : WitSources) (j : Judge) (s : LedTo) where
-  pub first_step : IsNeedStep of j s s
-  first_step v known placed needs = record { known = known; placed = placed; leads = at_once _ _ needs }
-
-  pub next_step : (l : LedTo) → IsReached of j s l → IsNeedStep of j s l
-  next_step l r v known placed needs = record { known = known; placed = placed; leads = by_way _ _ _ _ r.leads needs }
+  pub needs_back : (of : WitSources) → LeadsByNeeds of (scope_syntax s.scope) s.item.now (scope_syntax l.scope) l.item.now → NeedsItself of s
+  needs_back of leads = subst (λ (t : TopItem). LeadsByNeeds of (scope_syntax s.scope) s.item.now (scope_syntax s.scope) t) same_item
+      (subst (λ (w : ScopeItems). LeadsByNeeds of (scope_syntax s.scope) s.item.now (scope_syntax w) l.item.now) same_scope leads)

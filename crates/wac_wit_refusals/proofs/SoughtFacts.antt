@@ -16,7 +16,7 @@ use Rattle.wac_wit_refusals.proofs.Walks.{among_none}
 use Rattle.wac_wit_refusals.specs.Brought.{IsRenamedTo, as_before, newly_named}
 use Rattle.wac_wit_refusals.specs.IncludeSteps.{AreLacking, IsLacking, HasNoNewName, LeadsToPlacedWorld, NewNameLacks, RenamedLack, names_of_world}
 use Rattle.wac_wit_refusals.specs.Includes.{LacksName, an_include_lacks, from_include, from_world}
-use Rattle.wac_wit_refusals.specs.declared.sought_names.PlacedWorld.{PlacedWorld}
+use Rattle.wac_wit_refusals.specs.declared.worlds.PlacedWorld.{PlacedWorld}
 use Rattle.wac_wit_refusals.specs.declared.sought_names.SoughtName.{SoughtName}
 
 module _ (of : WitSources) (xs ys : List SoughtName) where

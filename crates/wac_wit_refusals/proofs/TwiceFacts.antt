@@ -1,8 +1,9 @@
 -- Names that stand twice among those that are listed.
-use Rattle.std.proofs.Common.{◌≡◌, ℕ, List, Option, Some, None, IfSome, refl}
+use Rattle.std.proofs.Common.{◌≡◌, ℕ, ◌++◌, ◌∷◌, [], List, Option, Some, None, IfSome, refl, subst, sym}
 use Rattle.wac_wit_refusals.specs.NamesTwice.{IsTakenTwice}
 use Rattle.wac_wit_refusals.specs.Sites.{alias_ident}
 use Rattle.wac_wit_refusals.specs.TypeLists.{AreTaken, StandsTwice}
+use Rattle.wac_wit_refusals.proofs.TypeFacts.{kept_push}
 use Rattle.wac_wit_refusals.specs.declared.taken_names.TakenName.{TakenName}
 use Rattle.wac_wit_scopes.specs.WitSources.{given_name, ident_text}
 use Rattle.wac_wit_syntax.specs.declared.positions.Span.{Span}
@@ -22,6 +23,11 @@ taken_twice Takes ns span all h = record {
   apart = h.again.twice.apart;
   same = h.again.twice.same;
 }
+
+-- the only name of an item is put last
+pub taken_push : (T : ℕ → ℕ → Ident → Type 0) (old new : List TakenName) (n : TakenName) (i : ℕ) (x : Ident) → n.item ≡ i → n.part ≡ 0 → n.name.now ≡ x → new ≡ old ++ n ∷ [] → AreTaken T old → T i 0 x → AreTaken T new
+taken_push T old new n i x item part name pushed all here = kept_push (λ (m : TakenName). T m.item m.part m.name.now) old new n pushed all
+    (subst (λ (k : ℕ). T k n.part n.name.now) (sym item) (subst (λ (k : ℕ). T i k n.name.now) (sym part) (subst (T i 0) (sym name) here)))
 
 pub alias_given : (n : Ident) (a : Option Ident) → ident_text (alias_ident n a) ≡ given_name n a
 alias_given n None = refl

@@ -4,7 +4,7 @@ use Rattle.std.specs.Borrow.{Bor}
 use Rattle.std.specs.declared.alloc.Global.{Global}
 use Rattle.wac_wit_refusals.specs.Borrows.{HasBorrow, IsSent}
 use Rattle.wac_wit_refusals.specs.CharStreams.{IsCharType}
-use Rattle.wac_wit_refusals.specs.Definitions.{NamesDefinition}
+use Rattle.wac_wit_refusals.specs.Definitions.{BodyPlace, NamesDefinition}
 use Rattle.wac_wit_refusals.specs.Following.{body_place}
 use Rattle.wac_wit_refusals.specs.Judging.{body_syntax}
 use Rattle.wac_wit_refusals.specs.Sites.{BodySyntax}
@@ -13,6 +13,8 @@ use Rattle.wac_wit_refusals.specs.declared.bodies.PlacedBody.{PlacedBody}
 use Rattle.wac_wit_refusals.specs.declared.definitions.DefinitionSite.{DefinitionSite}
 use Rattle.wac_wit_refusals.specs.declared.handles.FollowedName.{FollowedName}
 use Rattle.wac_wit_refusals.specs.declared.type_sites.TypeSite.{TypeSite}
+use Rattle.wac_wit_refusals.specs.declared.wanted.Wanted.{Wanted}
+use Rattle.wac_wit_refusals.specs.declared.wanted.Wanted.TheVariants.{Borrow, Char}
 use Rattle.wac_wit_scopes.specs.WitSources.{WitSources, ident_text}
 use Rattle.wac_wit_syntax.specs.declared.positions.Span.{Span}
 use Rattle.wac_wit_syntax.specs.declared.tree.Ident.{Ident}
@@ -56,12 +58,13 @@ as_alias e = a_definition (def.Alias e)
 abbrev pub IsAliased : DefinitionSite → TypeExpr → Type 0
 IsAliased d e = d.ty.now.def ≡ def.Alias e
 
--- one of them has a borrowed handle in it, or is `char`
-abbrev pub SiteHasBorrow : WitSources → TypeSite → Type 0
-SiteHasBorrow of t = HasBorrow of (body_place t.placed) t.ty.now
+-- it has a borrowed handle in it, or is `char`
+abbrev pub HasWanted : WitSources → Wanted → BodyPlace → TypeExpr → Type 0
+HasWanted of Borrow = HasBorrow of
+HasWanted of Char = IsCharType of
 
-abbrev pub SiteIsChar : WitSources → TypeSite → Type 0
-SiteIsChar of t = IsCharType of (body_place t.placed) t.ty.now
+abbrev pub SiteHas : WitSources → Wanted → TypeSite → Type 0
+SiteHas of x t = HasWanted of x (body_place t.placed) t.ty.now
 
 abbrev pub AnySite : (TypeSite → Type 0) → List TypeSite → Type 0
 AnySite H ts = (t : TypeSite) × Contains ts t × H t
@@ -87,19 +90,6 @@ pub record HasBorrowReturned (of : WitSources) (p : PlacedBody) (span : Span) : 
   pub is_at : name.span ≡ span
   pub borrow : ReturnsBorrow of p signature
 
--- a stream or a future has a borrowed handle
-pub record SendsBorrow (of : WitSources) (p : PlacedBody) (e : TypeExpr) : Type 0 where
-  pub sent : TypeExpr
-  pub sends : IsSent e sent
-  pub borrow : HasBorrow of (body_place p) sent
-
-pub record HasBorrowSent (of : WitSources) (p : PlacedBody) (span : Span) : Type 0 where
-  pub inside : Ident
-  pub expr : TypeExpr
-  pub has : HasTypeExpr of (body_syntax p.body) inside expr
-  pub is_at : inside.span ≡ span
-  pub borrow : SendsBorrow of p expr
-
 -- the type in a box, if there is one
 abbrev pub IsContent : Option (Box TypeExpr Global) → TypeExpr → Type 0
 IsContent o e = (b : Box TypeExpr Global) × (o ≡ Some b) × (b.value ≡ e)
@@ -107,35 +97,35 @@ IsContent o e = (b : Box TypeExpr Global) × (o ≡ Some b) × (b.value ≡ e)
 abbrev pub IsStreamed : TypeExpr → TypeExpr → Type 0
 IsStreamed s e = (b : Box TypeExpr Global) × (s ≡ expr.Stream (Some b)) × (b.value ≡ e)
 
--- `stream<char>`
-pub record StreamsChar (of : WitSources) (p : PlacedBody) (e : TypeExpr) : Type 0 where
-  pub streamed : TypeExpr
-  pub streams : IsStreamed e streamed
-  pub char : IsCharType of (body_place p) streamed
+-- what a stream or a future has, or a stream alone
+abbrev pub IsCarried : Wanted → TypeExpr → TypeExpr → Type 0
+IsCarried Borrow = IsSent
+IsCarried Char = IsStreamed
 
-pub record HasCharStream (of : WitSources) (p : PlacedBody) (span : Span) : Type 0 where
+-- a stream or a future has a borrowed handle, or it is `stream<char>`
+pub record Carries (of : WitSources) (x : Wanted) (p : PlacedBody) (e : TypeExpr) : Type 0 where
+  pub carried : TypeExpr
+  pub carries : IsCarried x e carried
+  pub has : HasWanted of x (body_place p) carried
+
+pub record HasCarrier (of : WitSources) (x : Wanted) (p : PlacedBody) (span : Span) : Type 0 where
   pub inside : Ident
   pub expr : TypeExpr
   pub has : HasTypeExpr of (body_syntax p.body) inside expr
   pub is_at : inside.span ≡ span
-  pub streams : StreamsChar of p expr
+  pub carries : Carries of x p expr
 
--- where a type sends a borrowed handle, or streams characters, that is so at a place
-abbrev pub SendsAt : WitSources → PlacedBody → Span → TypeExpr → Type 0
-SendsAt of p span e = SendsBorrow of p e → HasBorrowSent of p span
-
-abbrev pub StreamsAt : WitSources → PlacedBody → Span → TypeExpr → Type 0
-StreamsAt of p span e = StreamsChar of p e → HasCharStream of p span
+-- where a type is such a one, that is so at a place
+abbrev pub CarriesAt : WitSources → Wanted → PlacedBody → Span → TypeExpr → Type 0
+CarriesAt of x p span e = Carries of x p e → HasCarrier of x p span
 
 -- types at a place, of which one that has a borrowed handle, or is `char`, is refused
-abbrev pub AreSentAt : WitSources → PlacedBody → Span → List TypeSite → Type 0
-AreSentAt of p span ts = (t : TypeSite) → Contains ts t → SiteHasBorrow of t → HasBorrowSent of p span
+abbrev pub AreCarriedAt : WitSources → Wanted → PlacedBody → Span → List TypeSite → Type 0
+AreCarriedAt of x p span ts = (t : TypeSite) → Contains ts t → SiteHas of x t → HasCarrier of x p span
 
-abbrev pub AddsSentAt : WitSources → PlacedBody → Span → List TypeSite → List TypeSite → Type 0
-AddsSentAt of p span old new = AreSentAt of p span old → AreSentAt of p span new
+abbrev pub AddsCarriedAt : WitSources → Wanted → PlacedBody → Span → List TypeSite → List TypeSite → Type 0
+AddsCarriedAt of x p span old new = AreCarriedAt of x p span old → AreCarriedAt of x p span new
 
-abbrev pub AreStreamedAt : WitSources → PlacedBody → Span → List TypeSite → Type 0
-AreStreamedAt of p span ts = (t : TypeSite) → Contains ts t → SiteIsChar of t → HasCharStream of p span
-
-abbrev pub AddsStreamedAt : WitSources → PlacedBody → Span → List TypeSite → List TypeSite → Type 0
-AddsStreamedAt of p span old new = AreStreamedAt of p span old → AreStreamedAt of p span new
+-- what a type has is put behind them
+abbrev pub AddsCarriedBy : WitSources → Wanted → PlacedBody → TypeExpr → List TypeSite → List TypeSite → Type 0
+AddsCarriedBy of x p e old new = (span : Span) → CarriesAt of x p span e → AddsCarriedAt of x p span old new

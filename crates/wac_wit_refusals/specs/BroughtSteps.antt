@@ -1,16 +1,15 @@
 -- What is known while names are listed that come into a world.
 use Rattle.std.specs.Prelude.{◌≡◌, ℕ, Bool, Contains, List, Some, slice_get}
 use Rattle.wac_wit_refusals.specs.Brought.{ComesBy, HasSideName}
-use Rattle.wac_wit_refusals.specs.Paths.{LeadsToItem}
 use Rattle.wac_wit_refusals.specs.TypeSites.{AreOneName}
 use Rattle.wac_wit_refusals.specs.declared.coming.ComingName.{ComingName}
-use Rattle.wac_wit_refusals.specs.declared.coming.IncludedWorld.{IncludedWorld}
+use Rattle.wac_wit_refusals.specs.declared.worlds.IncludedWorld.{IncludedWorld}
 use Rattle.wac_wit_scopes.specs.Scopes.{scope_syntax}
 use Rattle.wac_wit_scopes.specs.WitSources.{IsEnabled, ScopeSyntax, WitSources, ident_text}
 use Rattle.wac_wit_syntax.specs.declared.positions.Span.{Span}
 use Rattle.wac_wit_syntax.specs.declared.tree.IncludeItem.{IncludeItem}
-use Rattle.wac_wit_syntax.specs.declared.tree.TopItem.TheVariants as top
 use Rattle.wac_wit_syntax.specs.declared.tree.WorldItem.{WorldItem}
+use Rattle.wac_wit_refusals.specs.IncludeSteps.{LeadsToPlacedWorld}
 use Rattle.wac_wit_syntax.specs.declared.tree.WorldItem.TheVariants as world_item
 
 -- names that come into a world
@@ -24,7 +23,7 @@ AreComing of exports w is cs = (c : ComingName) → Contains cs c → IsComing o
 pub record IsIncludedWorld (of : WitSources) (w : ScopeSyntax) (is : List WorldItem) (v : IncludedWorld) : Type 0 where
   pub at : slice_get is v.index ≡ Some (world_item.Include v.item.now)
   pub there : IsEnabled of v.item.now.gates
-  pub leads : LeadsToItem of w v.item.now.path (scope_syntax v.scope) (top.World v.decl.now)
+  pub leads : LeadsToPlacedWorld of w v.item.now.path v.world
 
 abbrev pub AreIncludedWorlds : WitSources → ScopeSyntax → List WorldItem → List IncludedWorld → Type 0
 AreIncludedWorlds of w is vs = (v : IncludedWorld) → Contains vs v → IsIncludedWorld of w is v
@@ -43,7 +42,7 @@ AreSideNames of exports w is cs = (c : ComingName) → Contains cs c → HasSide
 
 -- names that an included world has
 abbrev pub AreNamesInside : WitSources → Bool → IncludedWorld → List ComingName → Type 0
-AreNamesInside of exports v cs = AreSideNames of exports (scope_syntax v.scope) v.decl.now.items.items cs
+AreNamesInside of exports v cs = AreSideNames of exports (scope_syntax v.world.scope) v.world.items.now cs
 
 -- the names are still such as come into a world when what those of an included world become is put behind them
 abbrev pub AddsBrought : WitSources → IncludedWorld → List ComingName → List ComingName → List ComingName → Type 0

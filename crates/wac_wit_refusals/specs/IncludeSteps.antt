@@ -4,7 +4,7 @@ use Rattle.wac_model.specs.Text.{Text}
 use Rattle.wac_wit_refusals.specs.Brought.{IsRenamedTo}
 use Rattle.wac_wit_refusals.specs.Includes.{LacksName, NameSource, RenamesUnknown, from_include, from_world}
 use Rattle.wac_wit_refusals.specs.Paths.{LeadsToItem}
-use Rattle.wac_wit_refusals.specs.declared.sought_names.PlacedWorld.{PlacedWorld}
+use Rattle.wac_wit_refusals.specs.declared.worlds.PlacedWorld.{PlacedWorld}
 use Rattle.wac_wit_refusals.specs.declared.sought_names.SoughtName.{SoughtName}
 use Rattle.wac_wit_scopes.specs.Scopes.{scope_syntax}
 use Rattle.wac_wit_scopes.specs.WitSources.{IsEnabled, ScopeSyntax, WitSources, given_name, ident_text}
@@ -83,3 +83,9 @@ pub record RenamesUnknownAt (of : WitSources) (w : ScopeSyntax) (t : WorldItem) 
   pub there : IsEnabled of item.gates
   pub is_at : item.path.name.span ≡ span
   pub unknown : RenamesUnknown of w item
+
+-- a world has such an item
+pub record HasUnknownRename (of : WitSources) (w : ScopeSyntax) (is : List WorldItem) (span : Span) : Type 0 where
+  pub item : WorldItem
+  pub among : Contains is item
+  pub renames : RenamesUnknownAt of w item span

@@ -2,13 +2,11 @@
 use Rattle.std.specs.Prelude.{◌≡◌, ℕ, Contains, List, slice_get, None, Some, Vec}
 use Rattle.std.specs.declared.alloc.Global.{Global}
 use Rattle.wac_model.specs.Text.{Text}
-use Rattle.wac_wit_refusals.specs.Judging.{IsKnownBody, Judges, body_syntax}
-use Rattle.wac_wit_refusals.specs.Needs.{LeadsByNeeds, NeedsItem}
-use Rattle.wac_wit_refusals.specs.Paths.{HasPathOf, LeadsToItem, name_of_item}
-use Rattle.wac_wit_refusals.specs.Sites.{interface_items, world_items}
+use Rattle.wac_wit_refusals.specs.Judging.{IsKnownBody, Judges}
+use Rattle.wac_wit_refusals.specs.Needs.{LeadsByNeeds}
+use Rattle.wac_wit_refusals.specs.Paths.{HasPathOf, HoldsBody, LeadsToItem, name_of_item}
 use Rattle.wac_wit_refusals.specs.UsedReasons.{GivesTypeName, IsInsideEnabled, IsUsedAt}
 use Rattle.wac_wit_refusals.specs.declared.bodies.PlacedBody.{PlacedBody}
-use Rattle.wac_wit_refusals.specs.declared.cycles.Reached.{Reached}
 use Rattle.wac_wit_refusals.specs.declared.judge.Judge.{Judge}
 use Rattle.wac_wit_refusals.specs.declared.led.LedTo.{LedTo}
 use Rattle.wac_wit_refusals.specs.declared.paths.PlacedPath.{PlacedPath}
@@ -23,8 +21,8 @@ use Rattle.wac_wit_syntax.specs.declared.tree.Path.{Path}
 use Rattle.wac_wit_syntax.specs.declared.tree.TopItem.{TopItem}
 use Rattle.wac_wit_syntax.specs.declared.tree.TopItem.TheVariants as top
 use Rattle.wac_wit_syntax.specs.declared.tree.TopUse.{TopUse}
+use Rattle.wac_wit_refusals.specs.Sites.{BodySyntax}
 use Rattle.wac_wit_syntax.specs.declared.tree.WorldDecl.{WorldDecl}
-use Rattle.wac_wit_syntax.specs.declared.tree.WorldItem.{WorldItem}
 
 -- what is found at a place is said to stand there
 pub record IsPlacedItem (j : Judge) (l : LedTo) : Type 0 where
@@ -47,6 +45,15 @@ ArePathsOf of t ps = (p : SoughtPath) → Contains ps p → IsPathOf of t p
 -- paths of an item stay such as others are put behind them
 abbrev pub AddsPathsOf : WitSources → TopItem → Vec SoughtPath Global → Vec SoughtPath Global → Type 0
 AddsPathsOf of t old new = ArePathsOf of t old.items → ArePathsOf of t new.items
+
+-- paths of whatever holds a body stay such as others are put behind them
+abbrev pub AddsForBody : WitSources → BodySyntax → Vec SoughtPath Global → Vec SoughtPath Global → Type 0
+AddsForBody of b old new = (t : TopItem) → HoldsBody of t b → AddsPathsOf of t old new
+
+-- an item of a scope that is known
+pub record IsKnownItem (of : WitSources) (w : ScopeItems) (t : TopItem) : Type 0 where
+  pub known : IsKnownScope of w
+  pub among : Contains w.items.now t
 
 -- a path in a file
 pub record IsKnownPath (of : WitSources) (file : ℕ) (p : PlacedPath) : Type 0 where
@@ -78,25 +85,9 @@ LacksMember items n = (t : TopItem) → Contains items t → name_of_item t ≡ 
 abbrev pub LeadsNowhere : WitSources → ScopeSyntax → Path → Type 0
 LeadsNowhere of w path = (v : ScopeSyntax) → IsScopeOf of v → IsPackageOf of w path.package v.package → LacksMember v.items (ident_text path.name)
 
--- what is needed by what is found first
-pub record IsReached (of : WitSources) (j : Judge) (start l : LedTo) : Type 0 where
-  pub known : IsKnownScope of l.scope
-  pub placed : IsPlacedItem j l
-  pub leads : LeadsByNeeds of (scope_syntax start.scope) start.item.now (scope_syntax l.scope) l.item.now
-
-abbrev pub AreReached : WitSources → Judge → LedTo → List LedTo → Type 0
-AreReached of j start ls = (l : LedTo) → Contains ls l → IsReached of j start l
-
-abbrev pub AddsReached : WitSources → Judge → LedTo → Reached → Reached → Type 0
-AddsReached of j start old new = AreReached of j start old.found.items → AreReached of j start new.found.items
-
 -- an interface or a world needs itself
 abbrev pub NeedsItself : WitSources → LedTo → Type 0
 NeedsItself of l = LeadsByNeeds of (scope_syntax l.scope) l.item.now (scope_syntax l.scope) l.item.now
-
--- what was found, and what is needed by that is
-abbrev pub IsNeedStep : WitSources → Judge → LedTo → LedTo → Type 0
-IsNeedStep of j start l = (v : LedTo) → IsKnownScope of v.scope → IsPlacedItem j v → NeedsItem of (scope_syntax l.scope) l.item.now (scope_syntax v.scope) v.item.now → IsReached of j start v
 
 -- a used type, whose name stands at a place
 abbrev pub IsFoundUsed : WitSources → ℕ → Span → FoundUsed → Type 0
@@ -105,13 +96,6 @@ IsFoundUsed of file span u = IsUsedAt of file span u.from.now (ident_text u.name
 -- it is used in a body, of which something is known
 abbrev pub IsUsedIf : Judge → PlacedBody → Span → Type 0 → FoundUsed → Type 0
 IsUsedIf j p span H u = (of : WitSources) → Judges of j → (file : ℕ) → IsKnownBody of file p → H → IsFoundUsed of file span u
-
--- it is used in a body, if that has an item
-abbrev pub IsUsedInside : Judge → PlacedBody → Span → InterfaceItem → FoundUsed → Type 0
-IsUsedInside j p span t u = (of : WitSources) → Judges of j → (file : ℕ) → IsKnownBody of file p → (is : List InterfaceItem) → body_syntax p.body ≡ interface_items is → Contains is t → IsFoundUsed of file span u
-
-abbrev pub IsUsedInWorld : Judge → PlacedBody → Span → WorldItem → FoundUsed → Type 0
-IsUsedInWorld j p span t u = (of : WitSources) → Judges of j → (file : ℕ) → IsKnownBody of file p → (is : List WorldItem) → body_syntax p.body ≡ world_items is → Contains is t → IsFoundUsed of file span u
 
 -- an item is a `use` that gives a path its name, and leads to a world of another package
 pub record GivesForeign (of : WitSources) (p : PlacedPath) (t : TopItem) : Type 0 where

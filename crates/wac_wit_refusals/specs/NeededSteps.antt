@@ -4,9 +4,9 @@ use Rattle.indexmap.specs.IndexMap.{get_by_text}
 use Rattle.wac_model.specs.Text.{Text}
 use Rattle.wac_wit_refusals.specs.Leading.{IsPlacedItem}
 use Rattle.wac_wit_refusals.specs.NeededTwice.{IsExportThere, IsExported, IsNeededAsImport, IsNeededBy, IsNotExported, NeedsOnBothSides, ident_of_extern}
-use Rattle.wac_wit_refusals.specs.Needs.{NeedsItem}
+use Rattle.wac_wit_refusals.specs.Needs.{LeadsByNeeds, NeedsItem}
 use Rattle.wac_wit_refusals.specs.Paths.{LeadsToItem, name_of_item}
-use Rattle.wac_wit_refusals.specs.declared.cycles.Reached.{Reached}
+use Rattle.wac_wit_refusals.specs.declared.needs.Reached.{Reached}
 use Rattle.wac_wit_refusals.specs.declared.exports.WorldExports.{WorldExports}
 use Rattle.wac_wit_refusals.specs.declared.judge.Judge.{Judge}
 use Rattle.wac_wit_refusals.specs.declared.led.LedTo.{LedTo}
@@ -24,8 +24,9 @@ use Rattle.wac_wit_syntax.specs.declared.tree.UseItem.{UseItem}
 use Rattle.wac_wit_syntax.specs.declared.tree.WorldItem.{WorldItem}
 use Rattle.wac_wit_syntax.specs.declared.tree.WorldItem.TheVariants as world_item
 
--- what needs an interface: one export, some export of a world, or such by way of what isn't exported
+-- what needs an interface or a world: one of these, an export, some export of a world, or such by way of what isn't exported
 pub data Needing : Type 0 where
+  this_item : ScopeSyntax → TopItem → Needing
   this_export : ScopeSyntax → ExternItem → Needing
   some_export : ScopeSyntax → List WorldItem → Needing
   as_import : ScopeSyntax → List WorldItem → Needing
@@ -37,6 +38,7 @@ pub record IsNeededBySome (of : WitSources) (w : ScopeSyntax) (is : List WorldIt
   pub needed : IsNeededBy of w export v s
 
 abbrev pub IsNeededFor : WitSources → Needing → ScopeSyntax → TopItem → Type 0
+IsNeededFor of (this_item w t) v s = LeadsByNeeds of w t v s
 IsNeededFor of (this_export w x) v s = IsNeededBy of w x v s
 IsNeededFor of (some_export w is) v s = IsNeededBySome of w is v s
 IsNeededFor of (as_import w is) v s = IsNeededAsImport of w is v s

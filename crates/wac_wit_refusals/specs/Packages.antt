@@ -18,7 +18,8 @@ pub record PackagePlace : Type 0 where
 -- the name that stands there
 pub data IsNamedAt (of : WitSources) : PackagePlace → PackageName → Type 0 where
   by_file : (i : ℕ) (f : FileSyntax) (n : PackageName) → slice_get of.files i ≡ Some f → f.document.package ≡ Some n → IsNamedAt of (record { file = i; nested = None }) n
-  by_nested : (i : ℕ) (f : FileSyntax) (k : ℕ) (p : NestedPackage) → slice_get of.files i ≡ Some f → slice_get f.document.packages.items k ≡ Some p → IsNamedAt of (record { file = i; nested = Some k }) p.name
+  by_nested : (i : ℕ) (f : FileSyntax) (k : ℕ) (p : NestedPackage) → slice_get of.files i ≡ Some f → slice_get f.document.packages.items k ≡ Some p
+      → IsNamedAt of (record { file = i; nested = Some k }) p.name
 
 -- a file names another package
 pub record NamesAnother (d : Document) (n : PackageName) : Type 0 where

@@ -1,9 +1,8 @@
 -- The paths in files, what they ask for, and where they lead (WIT.md, "WIT Packages and `use`" and "Worlds").
-use Rattle.std.specs.Prelude.{◌≡◌, ℕ, List, Contains, Option, Some, None, Vec}
+use Rattle.std.specs.Prelude.{◌≡◌, ℕ, List, Contains, Option, Some, None}
 use Rattle.std.specs.Option.{option_map}
-use Rattle.std.specs.declared.alloc.Global.{Global}
 use Rattle.wac_model.specs.Text.{Text}
-use Rattle.wac_wit_refusals.specs.Sites.{BodySyntax, HasExternIn, HasUseIn, interface_items, world_items}
+use Rattle.wac_wit_refusals.specs.Sites.{BodySyntax, HasExternIn, HasInlineIn, HasUseIn, interface_items, world_items}
 use Rattle.wac_wit_refusals.specs.declared.paths.Sought.{Sought}
 use Rattle.wac_wit_refusals.specs.declared.paths.Sought.TheVariants.{Anything, Interface, OtherName, World}
 use Rattle.wac_wit_scopes.specs.WitSources.{IsEnabled, IsScopeAt, IsScopeOf, PathLeadsTo, ScopeSyntax, WitSources, ident_text}
@@ -57,8 +56,7 @@ pub data HasPathIn : BodySyntax → Gates → Path → Sought → Type 0 where
 pub data HoldsBody (of : WitSources) : TopItem → BodySyntax → Type 0 where
   of_interface : (d : InterfaceDecl) → IsEnabled of d.gates → HoldsBody of (top.Interface d) (interface_items d.items.items)
   of_world : (d : WorldDecl) → IsEnabled of d.gates → HoldsBody of (top.World d) (world_items d.items.items)
-  of_inline : (d : WorldDecl) (x : ExternItem) (n : Ident) (is : Vec InterfaceItem Global) → IsEnabled of d.gates → HasExternIn d.items.items x → IsEnabled of x.gates → x.what ≡ extern.Inline n is
-      → HoldsBody of (top.World d) (interface_items is.items)
+  of_inline : (d : WorldDecl) (js : List InterfaceItem) → IsEnabled of d.gates → HasInlineIn of d.items.items js → HoldsBody of (top.World d) (interface_items js)
 
 -- a path stands in an item of a scope. Outside of interfaces and worlds it gets another name. Inside of those that are there it
 -- asks for an interface or a world, but in what a feature hides for no more than that something is there

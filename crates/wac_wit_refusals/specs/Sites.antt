@@ -30,12 +30,15 @@ pub data HasExternIn (is : List WorldItem) (x : ExternItem) : Type 0 where
   an_import : Contains is (world_item.Import x) → HasExternIn is x
   an_export : Contains is (world_item.Export x) → HasExternIn is x
 
+-- an interface that is written in a world, as an import or an export that is there
+pub data HasInlineIn (of : WitSources) (is : List WorldItem) : List InterfaceItem → Type 0 where
+  an_inline : (x : ExternItem) (n : Ident) (js : Vec InterfaceItem Global) → HasExternIn is x → IsEnabled of x.gates → x.what ≡ extern.Inline n js → HasInlineIn of is js.items
+
 -- an interface or a world of a scope, or an interface that is written in a world: no feature that is off hides it
 pub data HasBody (of : WitSources) (w : ScopeSyntax) : BodySyntax → Type 0 where
   an_interface : (d : InterfaceDecl) → Contains w.items (top.Interface d) → IsEnabled of d.gates → HasBody of w (interface_items d.items.items)
   a_world : (d : WorldDecl) → Contains w.items (top.World d) → IsEnabled of d.gates → HasBody of w (world_items d.items.items)
-  written_in : (d : WorldDecl) (x : ExternItem) (n : Ident) (is : Vec InterfaceItem Global) → Contains w.items (top.World d) → IsEnabled of d.gates → HasExternIn d.items.items x → IsEnabled of x.gates → x.what ≡ extern.Inline n is
-      → HasBody of w (interface_items is.items)
+  written_in : (d : WorldDecl) (js : List InterfaceItem) → Contains w.items (top.World d) → IsEnabled of d.gates → HasInlineIn of d.items.items js → HasBody of w (interface_items js)
 
 -- a type is defined in it, whether a feature hides it or not
 abbrev pub HasTypeItemIn : BodySyntax → TypeItem → Type 0

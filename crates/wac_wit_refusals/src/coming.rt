@@ -1,8 +1,8 @@
 //! Names that come into a world, by its own items and by what it includes.
 
-ghost use Rattle.std.specs.Prelude.{IfOk, IfSome, OnOk};
+ghost use Rattle.std.specs.Prelude.{IfOk, OnOk};
 ghost use Rattle.wac_wit_refusals.specs.Brought.{IsRenamedTo, TakesSideName};
-ghost use Rattle.wac_wit_refusals.specs.BroughtSteps.{AddsBrought, AddsIncludedBy, AreComing, AreIncludedWorlds, IsIncludedBy};
+ghost use Rattle.wac_wit_refusals.specs.BroughtSteps.{AddsBrought, AreComing};
 ghost use Rattle.wac_wit_refusals.specs.Judging.{Judges};
 ghost use Rattle.wac_wit_refusals.specs.TypeLists.{AreTaken};
 ghost use Rattle.wac_wit_scopes.specs.Scopes.{scope_syntax};
@@ -13,9 +13,10 @@ use super::budget::{MAX_ITEMS, takes};
 use super::judge::Judge;
 use super::taken_names::TakenName;
 use super::type_names::local_name;
+use super::worlds::IncludedWorld;
 use std::alloc::{AllocError, Global};
 use wac_wit_scopes::ScopeItems;
-use wac_wit_syntax::{Ident, IncludeItem, Rename, TopItem, WorldDecl, WorldItem};
+use wac_wit_syntax::{Ident, Rename, WorldItem};
 
 // How many worlds are looked at that include one another.
 const MAX_DEPTH: usize = 100;
@@ -29,19 +30,6 @@ pub(crate) struct ComingName<'c> {
     pub(crate) source: &'c Ident,
     /// The name in the world.
     pub(crate) name: &'c Ident,
-}
-
-/// A world that another includes.
-#[derive(Clone, Copy)]
-pub(crate) struct IncludedWorld<'c> {
-    /// The index of the `include`.
-    pub(crate) index: usize,
-    /// This.
-    pub(crate) item: &'c IncludeItem,
-    /// The scope that the world stands in.
-    pub(crate) scope: ScopeItems<'c>,
-    /// The world.
-    pub(crate) decl: &'c WorldDecl,
 }
 
 impl<'j> Judge<'j> {
@@ -74,15 +62,10 @@ impl<'j> Judge<'j> {
         if depth == 0 || !takes(left, items.len()) || !takes(left, names.len()) {
             return Ok(names);
         }
-        for world in &self.worlds_included(scope, items)? {
-            let inside = self.names_within(
-                &world.scope,
-                &world.decl.items,
-                exports,
-                depth - 1,
-                left,
-            )?;
-            push_renamed(&mut names, world, &inside, left)?;
+        for included in &self.worlds_included(scope, items)? {
+            let world = included.world;
+            let inside = self.names_within(&world.scope, world.items, exports, depth - 1, left)?;
+            push_renamed(&mut names, included, &inside, left)?;
         }
         Ok(names)
     }
@@ -120,84 +103,26 @@ impl<'j> Judge<'j> {
             self.item_names(&body)
         }
     }
-
-    fn worlds_included(
-        &self,
-        scope: &ScopeItems<'j>,
-        items: &'j [WorldItem],
-    ) -> Result<Vec<IncludedWorld<'j>>, AllocError>
-        ensures { IfOk result (λ vs. (of : WitSources) → Judges of self.now → AreIncludedWorlds of (scope_syntax scope.now) items.now vs.items) }
-    {
-        let mut worlds = Vec::new(self.alloc);
-        for (index, item) in items.iter().enumerate() {
-            self.push_included(&mut worlds, scope, index, item)?;
-        }
-        Ok(worlds)
-    }
-
-    fn push_included(
-        &self,
-        worlds: &mut Vec<IncludedWorld<'j>>,
-        scope: &ScopeItems<'j>,
-        index: usize,
-        item: &'j WorldItem,
-    ) -> Result<(), AllocError>
-        ensures { OnOk result ((of : WitSources) → Judges of self.now → AddsIncludedBy of (scope_syntax scope.now) index item.now worlds.old.items worlds.new.items) }
-    {
-        if let Some(world) = self.world_included(scope, index, item)? {
-            worlds.push(world)?;
-        }
-        Ok(())
-    }
-
-    // The world that an item includes, if it is an `include` that is there.
-    fn world_included(
-        &self,
-        scope: &ScopeItems<'j>,
-        index: usize,
-        item: &'j WorldItem,
-    ) -> Result<Option<IncludedWorld<'j>>, AllocError>
-        ensures { IfOk result (λ o. IfSome o (λ v. (of : WitSources) → Judges of self.now → IsIncludedBy of (scope_syntax scope.now) index item.now v)) }
-    {
-        let WorldItem::Include(it) = item else {
-            return Ok(None);
-        };
-        if !self.is_there(&it.gates) {
-            return Ok(None);
-        }
-        let Some(led) = self.led_to(scope, &it.path)? else {
-            return Ok(None);
-        };
-        match led.item {
-            TopItem::World(decl) => Ok(Some(IncludedWorld {
-                index,
-                item: it,
-                scope: led.scope,
-                decl,
-            })),
-            _ => Ok(None),
-        }
-    }
 }
 
 // Puts the names of an included world last, under the names that they get.
 fn push_renamed<'c>(
     names: &mut Vec<ComingName<'c>>,
-    world: &IncludedWorld<'c>,
+    included: &IncludedWorld<'c>,
     inside: &[ComingName<'c>],
     left: &mut usize,
 ) -> Result<(), AllocError>
-    ensures { OnOk result ((of : WitSources) → AddsBrought of world.now inside.now names.old.items names.new.items) }
+    ensures { OnOk result ((of : WitSources) → AddsBrought of included.now inside.now names.old.items names.new.items) }
 {
-    let each = world.item.renames.len().saturating_add(1);
+    let each = included.item.renames.len().saturating_add(1);
     if !takes(left, inside.len().saturating_mul(each)) {
         return Ok(());
     }
     for coming in inside {
         names.push(ComingName {
-            index: world.index,
+            index: included.index,
             source: coming.name,
-            name: new_name(&world.item.renames, coming.name),
+            name: new_name(&included.item.renames, coming.name),
         })?;
     }
     Ok(())

@@ -137,12 +137,10 @@ impl<'j> Judge<'j> {
     fn defined_name(&self, at: &FollowedName<'j>) -> Result<NameStep<'j>, AllocError>
         ensures { IfOk result (λ s. (of : WitSources) → Judges of self.now → IsKnownScope of at.now.placed.scope → IsNameStep of at.now s) }
     {
-        for ty in &self.types_there(&at.placed.body)? {
-            if ty.name.name == at.name.name {
-                return Ok(step_of(at, *ty));
-            }
+        match self.type_of_name(&at.placed.body, at.name)? {
+            Some(ty) => Ok(step_of(at, ty)),
+            None => Ok(NameStep::Nowhere),
         }
-        Ok(NameStep::Nowhere)
     }
 }
 

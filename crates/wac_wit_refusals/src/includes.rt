@@ -1,17 +1,17 @@
 //! New names for what an included world doesn't have.
 
-ghost use Rattle.std.specs.Prelude.{◌≡◌, ℕ, IfOk, IsTrue};
-ghost use Rattle.wac_wit_refusals.specs.IncludeSteps.{LacksSome, RenamesUnknownAt};
+ghost use Rattle.std.specs.Prelude.{ℕ, IfOk, IsTrue};
+ghost use Rattle.wac_wit_refusals.specs.IncludeSteps.{HasUnknownRename, LacksSome, RenamesUnknownAt};
 ghost use Rattle.wac_wit_refusals.specs.Includes.{IsUnknownRename, RenamesUnknown};
-ghost use Rattle.wac_wit_refusals.specs.Judging.{IsKnownBody, Judges, body_syntax};
-ghost use Rattle.wac_wit_refusals.specs.Sites.{world_items};
+ghost use Rattle.wac_wit_refusals.specs.Judging.{IsKnownBody, Judges};
 ghost use Rattle.wac_wit_scopes.specs.Scopes.{scope_syntax};
 ghost use Rattle.wac_wit_scopes.specs.WitSources.{WitSources};
 
 use super::bodies::{Body, PlacedBody};
 use super::budget::MAX_ITEMS;
 use super::judge::{Judge, is_at};
-use super::sought_names::{PlacedWorld, SoughtName};
+use super::sought_names::SoughtName;
+use super::worlds::PlacedWorld;
 use std::alloc::AllocError;
 use wac_wit_scopes::ScopeItems;
 use wac_wit_syntax::{IncludeItem, Rename, Span, WorldItem};
@@ -34,20 +34,20 @@ impl<'j> Judge<'j> {
     {
         match placed.body {
             Body::Interface(_) => Ok(false),
-            Body::World(items) => self.has_unknown_rename_in(placed, items, span),
+            Body::World(items) => self.has_unknown_rename_in(&placed.scope, items, span),
         }
     }
 
     fn has_unknown_rename_in(
         &self,
-        placed: &PlacedBody<'j>,
+        scope: &ScopeItems<'j>,
         items: &'j [WorldItem],
         span: Span,
     ) -> Result<bool, AllocError>
-        ensures { IfOk result (λ is. IsTrue is → (of : WitSources) → Judges of self.now → (file : ℕ) → IsKnownBody of file placed.now → body_syntax placed.now.body ≡ world_items items.now → IsUnknownRename of file span) }
+        ensures { IfOk result (λ is. IsTrue is → (of : WitSources) → Judges of self.now → HasUnknownRename of (scope_syntax scope.now) items.now span) }
     {
         for item in items {
-            if self.renames_unknown_at(&placed.scope, item, span)? {
+            if self.renames_unknown_at(scope, item, span)? {
                 return Ok(true);
             }
         }

@@ -1,25 +1,20 @@
 //! What exports need.
 
-ghost use Rattle.std.specs.Prelude.{◌≡◌, Contains, IfOk, IfSome, OnOk, [], List};
+ghost use Rattle.std.specs.Prelude.{Contains, IfOk, IfSome, List, OnOk};
 ghost use Rattle.wac_wit_refusals.specs.Judging.{Judges};
-ghost use Rattle.wac_wit_refusals.specs.Leading.{IsPathOf};
-ghost use Rattle.wac_wit_refusals.specs.NeededSteps.{AddsImports, AddsNeeded, AddsNext, AreExports, AreImports, AreNeeded, IsFoundNeed, Needing, NeedsUses, NeedsLed, NeedsUse, NeedsWhat, some_export, some_of, this_export};
+ghost use Rattle.wac_wit_refusals.specs.NeededSteps.{AddsImports, AddsNeeded, AreExports, AreImports, AreNeeded, IsFoundNeed, Needing, NeedsUse, NeedsUses, NeedsWhat, some_export, some_of, this_export};
 ghost use Rattle.wac_wit_refusals.specs.NeededTwice.{IsExportThere};
-ghost use Rattle.wac_wit_refusals.specs.declared.judge.Judge.{Judge as Known};
 ghost use Rattle.wac_wit_scopes.specs.Scopes.{scope_syntax};
 ghost use Rattle.wac_wit_scopes.specs.WitSources.{WitSources};
 ghost use Rattle.wac_wit_syntax.specs.declared.tree.WorldItem.{WorldItem as ItemOfWorld};
 
-use super::cycles::{MAX_REACHED, Reached, key_of};
 use super::exports::WorldExports;
 use super::judge::Judge;
-use super::leading::seeks_member;
 use super::led::LedTo;
-use super::paths::SoughtPath;
-use indexmap::IndexSet;
-use std::alloc::{AllocError, Global};
+use super::needs::Reached;
+use std::alloc::AllocError;
 use wac_wit_scopes::ScopeItems;
-use wac_wit_syntax::{Extern, ExternItem, InterfaceItem, Path, WorldItem};
+use wac_wit_syntax::{Extern, ExternItem, InterfaceItem, WorldItem};
 
 impl<'j> Judge<'j> {
     /// The interface that an export is, and all that it needs.
@@ -30,7 +25,7 @@ impl<'j> Judge<'j> {
     ) -> Result<Reached<'j>, AllocError>
         ensures { IfOk result (λ r. (of : WitSources) → Judges of self.now → AreNeeded of self.now (this_export (scope_syntax scope.now) export.now) r.found.items) }
     {
-        let mut needed = nothing(self.alloc);
+        let mut needed = Reached::new(self.alloc);
         self.push_export(&mut needed, scope, export)?;
         self.push_all_needs(&mut needed)?;
         Ok(needed)
@@ -44,7 +39,7 @@ impl<'j> Judge<'j> {
         ensures { IfOk result (λ r. (of : WitSources) → Judges of self.now → AreExports of exports.now → AreImports of self.now exports.now r) }
     {
         let needed = self.needed_by_some(exports)?;
-        let mut imported = nothing(self.alloc);
+        let mut imported = Reached::new(self.alloc);
         self.push_needs_of_imports(&mut imported, exports, &needed.found)?;
         self.push_all_needs(&mut imported)?;
         Ok(imported)
@@ -54,7 +49,7 @@ impl<'j> Judge<'j> {
     fn needed_by_some(&self, exports: &WorldExports<'j>) -> Result<Reached<'j>, AllocError>
         ensures { IfOk result (λ r. (of : WitSources) → Judges of self.now → AreNeeded of self.now (some_of exports.now) r.found.items) }
     {
-        let mut needed = nothing(self.alloc);
+        let mut needed = Reached::new(self.alloc);
         self.push_exports(&mut needed, &exports.scope, exports.items)?;
         self.push_all_needs(&mut needed)?;
         Ok(needed)
@@ -161,79 +156,4 @@ impl<'j> Judge<'j> {
             Ok(())
         }
     }
-
-    // Puts what is needed by what was found last, and what that needs.
-    fn push_all_needs(&self, needed: &mut Reached<'j>) -> Result<(), AllocError>
-        ensures { OnOk result ((of : WitSources) → Judges of self.now → (n : Needing) → AddsNeeded of self.now n needed.old needed.new) }
-    {
-        for index in 0..MAX_REACHED {
-            let Some(next) = needed.found.get(index) else {
-                return Ok(());
-            };
-            let next = *next;
-            self.push_next(needed, &next)?;
-        }
-        Ok(())
-    }
-
-    // Puts what an interface needs last.
-    fn push_next(&self, needed: &mut Reached<'j>, from: &LedTo<'j>) -> Result<(), AllocError>
-        ensures { OnOk result ((of : WitSources) → Judges of self.now → (n : Needing) → AddsNext of self.now n from.now needed.old needed.new) }
-    {
-        let paths = self.paths_of(from.item)?;
-        for path in &paths {
-            self.push_sought(needed, from, path)?;
-        }
-        Ok(())
-    }
-
-    fn push_sought(
-        &self,
-        needed: &mut Reached<'j>,
-        from: &LedTo<'j>,
-        path: &SoughtPath<'j>,
-    ) -> Result<(), AllocError>
-        ensures { OnOk result ((of : WitSources) → Judges of self.now → (n : Needing) → IsPathOf of from.now.item.now path.now → AddsNext of self.now n from.now needed.old needed.new) }
-    {
-        if seeks_member(path.seeks) {
-            self.push_led(needed, &from.scope, path.path)
-        } else {
-            Ok(())
-        }
-    }
-
-    // Puts last where a path leads.
-    fn push_led(
-        &self,
-        needed: &mut Reached<'j>,
-        scope: &ScopeItems<'j>,
-        path: &Path,
-    ) -> Result<(), AllocError>
-        ensures { OnOk result ((of : WitSources) → Judges of self.now → (n : Needing) → NeedsLed of self.now n (scope_syntax scope.now) path.now → AddsNeeded of self.now n needed.old needed.new) }
-    {
-        match self.led_to(scope, path)? {
-            Some(led) => push(self.alloc, needed, led),
-            None => Ok(()),
-        }
-    }
-}
-
-fn nothing<'j>(alloc: Global) -> Reached<'j>
-    ensures { result.found.items ≡ [] }
-{
-    Reached {
-        found: Vec::new(alloc),
-        seen: IndexSet::new(alloc),
-    }
-}
-
-// Puts what was found last, if it wasn't found before.
-fn push<'j>(alloc: Global, needed: &mut Reached<'j>, led: LedTo<'j>) -> Result<(), AllocError>
-    ensures { OnOk result ((of : WitSources) (j : Known) (n : Needing) → IsFoundNeed of j n led.entry → AddsNeeded of j n needed.old needed.new) }
-{
-    let key = key_of(alloc, led.place)?;
-    if needed.seen.insert(key)? {
-        needed.found.push(led)?;
-    }
-    Ok(())
 }

@@ -9,11 +9,11 @@ ghost use Rattle.wac_wit_scopes.specs.Scopes.{scope_syntax};
 ghost use Rattle.wac_wit_scopes.specs.WitSources.{WitSources};
 
 use super::bodies::{Body, PlacedBody};
-use super::cycles::{Reached, is_place, key_of};
 use super::exports::WorldExports;
 use super::judge::{Judge, is_at};
 use super::led::LedTo;
-use std::alloc::{AllocError, Global};
+use super::needs::{Reached, is_among};
+use std::alloc::AllocError;
 use wac_wit_scopes::ScopeItems;
 use wac_wit_syntax::{Extern, ExternItem, Ident, Span, WorldItem};
 
@@ -136,19 +136,5 @@ fn ident_of(what: &Extern) -> &Ident
         Extern::Func(name, _) => name,
         Extern::Inline(name, _) => name,
         Extern::Named(name, _) => name,
-    }
-}
-
-// Whether something at the place of what was found is reached.
-fn is_among(alloc: Global, reached: &Reached<'_>, led: &LedTo<'_>) -> Result<bool, AllocError>
-    ensures { IfOk result (λ is. IsTrue is → (l : Found) × Contains reached.now.found.items l × (l.place ≡ led.now.place)) }
-{
-    let key = key_of(alloc, led.place)?;
-    let Some(index) = reached.seen.get_index_of(key.as_str()) else {
-        return Ok(false);
-    };
-    match reached.found.get(index) {
-        Some(of) => Ok(is_place(of.place, led.place)),
-        None => Ok(false),
     }
 }

@@ -2,8 +2,8 @@
 
 ghost use Rattle.std.specs.Prelude.{Contains, IfOk, List, OnOk};
 ghost use Rattle.wac_wit_refusals.specs.Judging.{Judges};
-ghost use Rattle.wac_wit_refusals.specs.Leading.{AddsPaths, AddsPathsOf, AreKnownPaths, ArePathsOf, IsPathOf};
-ghost use Rattle.wac_wit_refusals.specs.Paths.{HasPathIn, HasPathOf, HoldsBody};
+ghost use Rattle.wac_wit_refusals.specs.Leading.{AddsForBody, AddsPaths, AddsPathsOf, AreKnownPaths, ArePathsOf, IsKnownItem, IsPathOf};
+ghost use Rattle.wac_wit_refusals.specs.Paths.{HasPathIn, HasPathOf};
 ghost use Rattle.wac_wit_refusals.specs.Sites.{BodySyntax, HasExternIn, interface_items};
 ghost use Rattle.wac_wit_scopes.specs.Scopes.{IsKnownScope};
 ghost use Rattle.wac_wit_scopes.specs.WitSources.{IsEnabled, WitSources};
@@ -93,7 +93,7 @@ impl<'j> Judge<'j> {
         scope: &ScopeItems<'j>,
         item: &'j TopItem,
     ) -> Result<(), AllocError>
-        ensures { OnOk result ((of : WitSources) → Judges of self.now → IsKnownScope of scope.now → Contains scope.now.items.now item.now → AddsPaths of scope.now.file paths.old paths.new) }
+        ensures { OnOk result ((of : WitSources) → Judges of self.now → IsKnownItem of scope.now item.now → AddsPaths of scope.now.file paths.old paths.new) }
     {
         let of = self.paths_of(item)?;
         place_all(paths, scope, &of)
@@ -131,7 +131,7 @@ impl<'j> Judge<'j> {
         paths: &mut Vec<SoughtPath<'j>>,
         items: &'j [InterfaceItem],
     ) -> Result<(), AllocError>
-        ensures { OnOk result ((of : WitSources) → Judges of self.now → (t : ItemOf) → HoldsBody of t (interface_items items.now) → AddsPathsOf of t paths.old paths.new) }
+        ensures { OnOk result ((of : WitSources) → Judges of self.now → AddsForBody of (interface_items items.now) paths.old paths.new) }
     {
         for item in items {
             self.push_use(paths, item)?;
@@ -144,7 +144,7 @@ impl<'j> Judge<'j> {
         paths: &mut Vec<SoughtPath<'j>>,
         item: &'j InterfaceItem,
     ) -> Result<(), AllocError>
-        ensures { OnOk result ((of : WitSources) → Judges of self.now → (t : ItemOf) (is : List InsideOf) → HoldsBody of t (interface_items is) → Contains is item.now → AddsPathsOf of t paths.old paths.new) }
+        ensures { OnOk result ((of : WitSources) → Judges of self.now → (is : List InsideOf) → Contains is item.now → AddsForBody of (interface_items is) paths.old paths.new) }
     {
         match item {
             InterfaceItem::Use(it) => self.push_path(paths, &it.gates, &it.path, Sought::Interface),
@@ -202,7 +202,7 @@ impl<'j> Judge<'j> {
         path: &'j Path,
         seeks: Sought,
     ) -> Result<(), AllocError>
-        ensures { OnOk result ((of : WitSources) → Judges of self.now → (t : ItemOf) (b : BodySyntax) → HoldsBody of t b → HasPathIn b gates.now path.now seeks → AddsPathsOf of t paths.old paths.new) }
+        ensures { OnOk result ((of : WitSources) → Judges of self.now → (b : BodySyntax) → HasPathIn b gates.now path.now seeks → AddsForBody of b paths.old paths.new) }
     {
         if self.is_there(gates) {
             push(paths, path, seeks)
@@ -229,7 +229,7 @@ fn place_all<'b>(
     scope: &ScopeItems<'b>,
     of_item: &[SoughtPath<'b>],
 ) -> Result<(), AllocError>
-    ensures { OnOk result ((of : WitSources) (t : ItemOf) → IsKnownScope of scope.now → Contains scope.now.items.now t → ArePathsOf of t of_item.now → AddsPaths of scope.now.file paths.old paths.new) }
+    ensures { OnOk result ((of : WitSources) (t : ItemOf) → IsKnownItem of scope.now t → ArePathsOf of t of_item.now → AddsPaths of scope.now.file paths.old paths.new) }
 {
     for path in of_item {
         place(paths, scope, path)?;
@@ -242,7 +242,7 @@ fn place<'b>(
     scope: &ScopeItems<'b>,
     it: &SoughtPath<'b>,
 ) -> Result<(), AllocError>
-    ensures { OnOk result ((of : WitSources) (t : ItemOf) → IsKnownScope of scope.now → Contains scope.now.items.now t → IsPathOf of t it.now → AddsPaths of scope.now.file paths.old paths.new) }
+    ensures { OnOk result ((of : WitSources) (t : ItemOf) → IsKnownItem of scope.now t → IsPathOf of t it.now → AddsPaths of scope.now.file paths.old paths.new) }
 {
     paths.push(PlacedPath {
         scope: *scope,

@@ -1,29 +1,20 @@
 //! Names that a world lacks, with all that it includes.
 
-ghost use Rattle.std.specs.Prelude.{◌≡◌, ◌↔◌, All, IfOk, IfSome, IsTrue, OnOk, false};
-ghost use Rattle.wac_wit_refusals.specs.IncludeSteps.{AllIncludesLack, HasNoNewName, IncludeLacksSought, IsLacking, ItemLacksSought, LacksWith, LeadsToPlacedWorld, NewNameLacks, RenamedLack};
+ghost use Rattle.std.specs.Prelude.{◌≡◌, ◌↔◌, All, IfOk, IsTrue, OnOk, false};
+ghost use Rattle.wac_wit_refusals.specs.IncludeSteps.{AllIncludesLack, HasNoNewName, IncludeLacksSought, IsLacking, ItemLacksSought, LacksWith, NewNameLacks, RenamedLack};
 ghost use Rattle.wac_wit_refusals.specs.Includes.{GivesPlainName, IsNamedExtern, IsWorldItemEnabled, LacksPlainName};
 ghost use Rattle.wac_wit_refusals.specs.Judging.{Judges};
-ghost use Rattle.wac_wit_scopes.specs.Scopes.{scope_syntax};
 ghost use Rattle.wac_wit_scopes.specs.WitSources.{WitSources, ident_text};
 
 use super::budget::takes;
 use super::judge::Judge;
-use super::type_names::local_name;
-use super::used::gives_any;
+use super::type_names::{gives, local_name};
+use super::worlds::PlacedWorld;
 use std::alloc::AllocError;
-use wac_wit_scopes::ScopeItems;
-use wac_wit_syntax::{Extern, Ident, IncludeItem, Path, Rename, TopItem, WorldItem};
+use wac_wit_syntax::{Extern, Ident, IncludeItem, Rename, WorldItem};
 
 // In how many worlds a name is looked for, each as often as it is included.
 const MAX_WORLDS: usize = 10_000;
-
-/// The items of a world, and what that stands in.
-#[derive(Clone, Copy)]
-pub(crate) struct PlacedWorld<'j> {
-    pub(crate) scope: ScopeItems<'j>,
-    pub(crate) items: &'j [WorldItem],
-}
 
 /// A name that is looked for in a world.
 #[derive(Clone, Copy)]
@@ -109,26 +100,6 @@ impl<'j> Judge<'j> {
         }
     }
 
-    /// The world that a path leads to.
-    pub(crate) fn world_led_to(
-        &self,
-        from: &ScopeItems<'j>,
-        path: &Path,
-    ) -> Result<Option<PlacedWorld<'j>>, AllocError>
-        ensures { IfOk result (λ o. IfSome o (λ p. (of : WitSources) → Judges of self.now → LeadsToPlacedWorld of (scope_syntax from.now) path.now p)) }
-    {
-        let Some(led) = self.led_to(from, path)? else {
-            return Ok(None);
-        };
-        match led.item {
-            TopItem::World(decl) => Ok(Some(PlacedWorld {
-                scope: led.scope,
-                items: &decl.items,
-            })),
-            _ => Ok(None),
-        }
-    }
-
     // Whether no item of a world gives a name of its own.
     fn lacks_plain_name(&self, items: &[WorldItem], name: &Ident) -> bool
         ensures { IsTrue result → (of : WitSources) → Judges of self.now → LacksPlainName of items.now (ident_text name.now) }
@@ -209,7 +180,7 @@ fn gives_plain_name(item: &WorldItem, name: &Ident) -> bool
     ensures { IsTrue result ↔ GivesPlainName item.now (ident_text name.now) }
 {
     match item {
-        WorldItem::Use(it) => gives_any(&it.names, name),
+        WorldItem::Use(it) => gives(it, name),
         WorldItem::Type(it) => it.name.name == name.name,
         WorldItem::Include(_) => false,
         WorldItem::Import(it) => has_plain_name(&it.what, name),

@@ -25,6 +25,21 @@ pub(crate) struct TakenName<'t> {
     pub(crate) name: &'t Ident,
 }
 
+impl<'t> TakenName<'t> {
+    // The only name that an item gives.
+    fn of_item(item: usize, name: &'t Ident) -> TakenName<'t>
+        ensures item { result.item ≡ item }
+        ensures part { result.part ≡ 0 }
+        ensures name { result.name.now ≡ name.now }
+    {
+        TakenName {
+            item,
+            part: 0,
+            name,
+        }
+    }
+}
+
 /// Whether a name that stands at a place stands elsewhere too.
 pub(crate) fn stands_twice(names: &[TakenName<'_>], span: Span) -> bool
     ensures { IsTrue result → StandsTwice names.now span }
@@ -86,11 +101,7 @@ impl<'j> Judge<'j> {
     {
         for placed in types {
             if self.is_there(&placed.ty.gates) {
-                names.push(TakenName {
-                    item: placed.item,
-                    part: 0,
-                    name: &placed.ty.name,
-                })?;
+                names.push(TakenName::of_item(placed.item, &placed.ty.name))?;
             }
         }
         Ok(())
@@ -122,11 +133,7 @@ impl<'j> Judge<'j> {
             if let InterfaceItem::Func(it) = item
                 && self.is_there(&it.gates)
             {
-                names.push(TakenName {
-                    item: index,
-                    part: 0,
-                    name: &it.name,
-                })?;
+                names.push(TakenName::of_item(index, &it.name))?;
             }
         }
         Ok(())
@@ -143,11 +150,7 @@ impl<'j> Judge<'j> {
             if let WorldItem::Import(it) = item
                 && let Some(name) = self.plain_name(it)
             {
-                names.push(TakenName {
-                    item: index,
-                    part: 0,
-                    name,
-                })?;
+                names.push(TakenName::of_item(index, name))?;
             }
         }
         Ok(())
@@ -171,11 +174,7 @@ impl<'j> Judge<'j> {
             if let WorldItem::Export(it) = item
                 && let Some(name) = self.plain_name(it)
             {
-                names.push(TakenName {
-                    item: index,
-                    part: 0,
-                    name,
-                })?;
+                names.push(TakenName::of_item(index, name))?;
             }
         }
         Ok(names)
@@ -251,11 +250,7 @@ fn names_of_fields<'t>(alloc: Global, fields: &'t [Field]) -> Result<Vec<TakenNa
 {
     let mut names = Vec::new(alloc);
     for (index, field) in fields.iter().enumerate() {
-        names.push(TakenName {
-            item: index,
-            part: 0,
-            name: &field.name,
-        })?;
+        names.push(TakenName::of_item(index, &field.name))?;
     }
     Ok(names)
 }
@@ -265,11 +260,7 @@ fn names_of_cases<'t>(alloc: Global, cases: &'t [Case]) -> Result<Vec<TakenName<
 {
     let mut names = Vec::new(alloc);
     for (index, case) in cases.iter().enumerate() {
-        names.push(TakenName {
-            item: index,
-            part: 0,
-            name: &case.name,
-        })?;
+        names.push(TakenName::of_item(index, &case.name))?;
     }
     Ok(names)
 }
@@ -279,11 +270,7 @@ fn names_in<'t>(alloc: Global, idents: &'t [Ident]) -> Result<Vec<TakenName<'t>>
 {
     let mut names = Vec::new(alloc);
     for (index, name) in idents.iter().enumerate() {
-        names.push(TakenName {
-            item: index,
-            part: 0,
-            name,
-        })?;
+        names.push(TakenName::of_item(index, name))?;
     }
     Ok(names)
 }

@@ -2,20 +2,20 @@
 
 ghost use Rattle.std.specs.Prelude.{◌≡◌, ◌↔◌, ℕ, Contains, IfOk, IfSome, IsTrue};
 ghost use Rattle.wac_wit_refusals.specs.Judging.{IsKnownBody, Judges, body_syntax};
-ghost use Rattle.wac_wit_refusals.specs.Leading.{IsFoundUsed, IsTypeHidden, IsUsedIf, IsUsedInWorld, IsUsedInside};
-ghost use Rattle.wac_wit_refusals.specs.Sites.{HasUseIn, interface_items, world_items};
+ghost use Rattle.wac_wit_refusals.specs.Leading.{IsFoundUsed, IsTypeHidden, IsUsedIf};
+ghost use Rattle.wac_wit_refusals.specs.Sites.{HasUseIn};
 ghost use Rattle.wac_wit_refusals.specs.UsedReasons.{GivesTypeName, IsHiddenUsed, IsInsideEnabled, IsUnknownUsed};
-ghost use Rattle.wac_wit_scopes.specs.WitSources.{WitSources, given_name, ident_text};
+ghost use Rattle.wac_wit_scopes.specs.WitSources.{WitSources, ident_text};
 ghost use Rattle.wac_wit_syntax.specs.declared.tree.InterfaceItem.{InterfaceItem as InsideOf};
 ghost use Rattle.wac_wit_syntax.specs.declared.tree.Rename.{Rename as RenameOf};
 ghost use Rattle.wac_wit_syntax.specs.declared.tree.TopItem.TheVariants as top;
 
-use super::bodies::{Body, PlacedBody};
+use super::bodies::PlacedBody;
 use super::judge::{Judge, is_at};
+use super::type_items::uses_of;
+use super::type_names::gives;
 use std::alloc::AllocError;
-use wac_wit_syntax::{
-    Ident, InterfaceDecl, InterfaceItem, Rename, Span, TopItem, UseItem, WorldItem,
-};
+use wac_wit_syntax::{Ident, InterfaceDecl, InterfaceItem, Rename, Span, TopItem, UseItem};
 
 /// A type that is used: the interface, and the name.
 #[derive(Clone, Copy)]
@@ -92,70 +92,12 @@ impl<'j> Judge<'j> {
     ) -> Result<Option<FoundUsed<'j>>, AllocError>
         ensures { IfOk result (λ o. IfSome o (λ u. (of : WitSources) → Judges of self.now → (file : ℕ) → IsKnownBody of file body.now → IsFoundUsed of file span u)) }
     {
-        match body.body {
-            Body::Interface(items) => self.used_in_interface(body, items, span),
-            Body::World(items) => self.used_in_world(body, items, span),
-        }
-    }
-
-    fn used_in_interface(
-        &self,
-        body: &PlacedBody<'j>,
-        items: &'j [InterfaceItem],
-        span: Span,
-    ) -> Result<Option<FoundUsed<'j>>, AllocError>
-        ensures { IfOk result (λ o. IfSome o (IsUsedIf self.now body.now span (body_syntax body.now.body ≡ interface_items items.now))) }
-    {
-        for item in items {
-            if let Some(used) = self.used_in_interface_item(body, item, span)? {
+        for placed in &uses_of(self.alloc, &body.body)? {
+            if let Some(used) = self.used_by(body, placed.used, span)? {
                 return Ok(Some(used));
             }
         }
         Ok(None)
-    }
-
-    fn used_in_interface_item(
-        &self,
-        body: &PlacedBody<'j>,
-        item: &'j InterfaceItem,
-        span: Span,
-    ) -> Result<Option<FoundUsed<'j>>, AllocError>
-        ensures { IfOk result (λ o. IfSome o (IsUsedInside self.now body.now span item.now)) }
-    {
-        match item {
-            InterfaceItem::Use(it) => self.used_by(body, it, span),
-            _ => Ok(None),
-        }
-    }
-
-    fn used_in_world(
-        &self,
-        body: &PlacedBody<'j>,
-        items: &'j [WorldItem],
-        span: Span,
-    ) -> Result<Option<FoundUsed<'j>>, AllocError>
-        ensures { IfOk result (λ o. IfSome o (IsUsedIf self.now body.now span (body_syntax body.now.body ≡ world_items items.now))) }
-    {
-        for item in items {
-            if let Some(used) = self.used_in_world_item(body, item, span)? {
-                return Ok(Some(used));
-            }
-        }
-        Ok(None)
-    }
-
-    fn used_in_world_item(
-        &self,
-        body: &PlacedBody<'j>,
-        item: &'j WorldItem,
-        span: Span,
-    ) -> Result<Option<FoundUsed<'j>>, AllocError>
-        ensures { IfOk result (λ o. IfSome o (IsUsedInWorld self.now body.now span item.now)) }
-    {
-        match item {
-            WorldItem::Use(it) => self.used_by(body, it, span),
-            _ => Ok(None),
-        }
     }
 
     // The type that a `use` names at a place.
@@ -229,35 +171,7 @@ fn gives_type(item: &InterfaceItem, name: &Ident) -> bool
 {
     match item {
         InterfaceItem::Type(it) => it.name.name == name.name,
-        InterfaceItem::Use(it) => gives_any(&it.names, name),
+        InterfaceItem::Use(it) => gives(it, name),
         InterfaceItem::Func(_) => false,
-    }
-}
-
-/// Whether one of the names that are used becomes this one.
-pub(crate) fn gives_any(names: &[Rename], name: &Ident) -> bool
-    ensures { IsTrue result ↔ (r : RenameOf) × Contains names.now r × (given_name r.name r.alias ≡ ident_text name.now) }
-{
-    for rename in names {
-        if gives_name(rename, name) {
-            return true;
-        }
-    }
-    false
-}
-
-fn gives_name(rename: &Rename, name: &Ident) -> bool
-    ensures { IsTrue result ↔ given_name rename.now.name rename.now.alias ≡ ident_text name.now }
-{
-    local_name(rename).name == name.name
-}
-
-// The name that a used type gets.
-fn local_name(rename: &Rename) -> &Ident
-    ensures { ident_text result.now ≡ given_name rename.now.name rename.now.alias }
-{
-    match &rename.alias {
-        Some(alias) => alias,
-        None => &rename.name,
     }
 }

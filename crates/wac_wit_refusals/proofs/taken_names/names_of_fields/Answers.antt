@@ -1,7 +1,8 @@
 use Rattle.std.proofs.Common.{refl}
 use Rattle.wac_wit_refusals.specs.NamesTwice.{TakesFieldName, a_field_name}
 use Rattle.wac_wit_refusals.specs.declared.taken_names.TakenName.{TakenName}
-use Rattle.wac_wit_refusals.proofs.TypeFacts.{at_read, kept_push, none_among}
+use Rattle.wac_wit_refusals.proofs.TwiceFacts.{taken_push}
+use Rattle.wac_wit_refusals.proofs.TypeFacts.{at_read, none_among}
 use Rattle.wac_wit_refusals.proofs.taken_names.names_of_fields.Goals as goal
 
 pub loop-index-init : goal.loop-index-init
@@ -11,7 +12,7 @@ pub loop-index-preserved : goal.loop-index-preserved
 loop-index-preserved c =
     let item = c.index-fields-index.result in
     let at = at_read c.args.fields.now c.loop-index.index item item c.loop-index-test.true c.index-fields-index.is refl in
-    kept_push (λ (n : TakenName). TakesFieldName c.args.fields.now n.item n.part n.name.now) c.loop-index.names.items c.push.new.self.items _ c.in_ok-push.ensures.items c.loop-index.invariant (a_field_name c.loop-index.index item at)
+    taken_push (TakesFieldName c.args.fields.now) c.loop-index.names.items c.push.new.self.items _ _ _ c.of_item.ensures.item c.of_item.ensures.part c.of_item.ensures.name c.in_ok-push.ensures.items c.loop-index.invariant (a_field_name c.loop-index.index item at)
 
 pub returns : goal.returns
 returns c = c.loop-index.invariant

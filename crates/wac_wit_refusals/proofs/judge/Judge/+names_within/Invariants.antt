@@ -8,5 +8,5 @@ use Rattle.wac_wit_refusals.proofs.judge.Judge.+names_within.Given as goal
 abbrev pub decreases-names_within : goal.decreases-names_within
 decreases-names_within l = l.depth
 
-abbrev pub invariant-loop-world : goal.invariant-loop-world
-invariant-loop-world l = (of : WitSources) → Judges of l.self → AreComing of l.exports (scope_syntax l.scope) l.items l.names.items
+abbrev pub invariant-loop-included : goal.invariant-loop-included
+invariant-loop-included l = (of : WitSources) → Judges of l.self → AreComing of l.exports (scope_syntax l.scope) l.items l.names.items

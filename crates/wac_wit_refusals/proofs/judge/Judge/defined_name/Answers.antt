@@ -1,10 +1,7 @@
-use Rattle.std.proofs.Common.{◌∙◌, sym}
-use Rattle.std.proofs.lemmas.Slice.Eq.{bytes_eq-Decides}
-use Rattle.wac_wit_refusals.proofs.TypeFacts.{among_from}
+use Rattle.std.proofs.lemmas.Option.{MatchOption-at_some}
 use Rattle.wac_wit_refusals.proofs.judge.Judge.defined_name.Goals as goal
 
-pub returns-then-eq : goal.returns-then-eq
-returns-then-eq c of knows known =
-    let ty = c.ty-item.result in
-    let among = among_from c.in_ok-types_there.field-0.items c.deref-ty-items.result.now c.loop-ty.ty-index ty c.deref-ty-items.ensures.value c.loop-ty-test.true c.ty-item.is in
-    c.step_of.ensures of known (c.in_ok-types_there.ensures of knows ty among) ((bytes_eq-Decides _ _).0 (sym c.eq.ensures ∙ c.if-eq.true))
+pub returns-in-Some : goal.returns-in-Some
+returns-in-Some c of knows known =
+    let is = MatchOption-at_some _ _ c.in-Some.ty c.in-Some.is c.in_ok-ty.ensures of knows in
+    c.step_of.ensures of known is.has is.named

@@ -9,4 +9,4 @@ loop-step-preserved c of knows d h =
     c.loop-step.invariant of knows d (defined_elsewhere _ _ (body_place d.placed) _ _ d.ty.now.def used.uses h)
 
 pub returns-in-Some : goal.returns-in-Some
-returns-in-Some c of knows = c.loop-step.invariant of knows c.in-Some.site (c.in-Some.ensures of knows)
+returns-in-Some c of knows = c.loop-step.invariant of knows c.in-Some.site (some_fact _ _ _ c.in-Some.is c.in_ok-site.ensures of knows)

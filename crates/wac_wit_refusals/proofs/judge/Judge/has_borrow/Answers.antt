@@ -9,7 +9,7 @@ use Rattle.wac_wit_refusals.proofs.Walks.{among_none}
 use Rattle.wac_wit_refusals.proofs.judge.Judge.has_borrow.Goals as goal
 
 pub returns : goal.returns
-returns c = ok_value_then _ _ c.leads_to_borrow.result c.leads_to_borrow.ensures (λ b h is of knows.
+returns c = ok_value_then _ _ c.leads_to.result c.leads_to.ensures (λ b h is of knows.
     let p = c.args.placed.now in
     let any = h is of knows in
     put_then (λ (t : TypeSite). HasBorrow of (body_place p) c.args.ty.now) _ p (IsWritten (as_alias c.args.ty.now)) any.0 (c.in_ok-push_parts.ensures any.0 any.1)

@@ -15,5 +15,5 @@ returns-then-stands_at c = IfOk-weaker c.needs_itself.result _ _ (λ b h is of j
       name = name.0;
       named = name.1;
       is_at = name.2;
-      leads = h is of judges known placed;
+      leads = h is of judges placed;
     }) c.needs_itself.ensures

@@ -10,4 +10,4 @@ returns c = λ of judges.
     let scope = scope_syntax c.args.scope.now in
     let export = c.args.export.now in
     c.in_ok-push_all_needs.ensures of judges (this_export scope export)
-    (c.in_ok-push_export.ensures of judges (this_export scope export) (needs_this of self scope export) (λ l among. absurd (among_none _ l c.nothing-needed.ensures among)))
+    (c.in_ok-push_export.ensures of judges (this_export scope export) (needs_this of self scope export) (λ l among. absurd (among_none _ l c.new-needed.ensures among)))

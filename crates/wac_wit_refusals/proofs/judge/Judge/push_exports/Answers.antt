@@ -3,7 +3,7 @@ use Rattle.wac_wit_refusals.proofs.Walks.{among_at}
 use Rattle.wac_wit_refusals.proofs.NeededFacts.{needs_some}
 use Rattle.wac_wit_refusals.specs.NeededSteps.{AreNeeded, some_export}
 use Rattle.wac_wit_scopes.specs.Scopes.{scope_syntax}
-use Rattle.wac_wit_refusals.specs.declared.cycles.Reached.{Reached}
+use Rattle.wac_wit_refusals.specs.declared.needs.Reached.{Reached}
 use Rattle.wac_wit_refusals.proofs.judge.Judge.push_exports.Goals as goal
 use Rattle.wac_wit_refusals.proofs.judge.Judge.push_exports.Goals.{in-Some+in_ok-push_export, in_default}
 

@@ -5,7 +5,8 @@ use Rattle.wac_wit_refusals.specs.NamesTwice.{TakesName, a_function}
 use Rattle.wac_wit_refusals.specs.Sites.{interface_items}
 use Rattle.wac_wit_refusals.specs.TypeLists.{AreTaken}
 use Rattle.wac_wit_refusals.specs.declared.taken_names.TakenName.{TakenName}
-use Rattle.wac_wit_refusals.proofs.TypeFacts.{at_read, kept_push}
+use Rattle.wac_wit_refusals.proofs.TwiceFacts.{taken_push}
+use Rattle.wac_wit_refusals.proofs.TypeFacts.{at_read}
 use Rattle.wac_wit_refusals.proofs.judge.Judge.push_func_names.Goals.{in-Func+then-is_there+in_ok-push, in_default}
 use Rattle.wac_wit_refusals.proofs.judge.Judge.push_func_names.Goals as goal
 
@@ -13,7 +14,7 @@ pub loop-index-preserved : goal.loop-index-preserved
 loop-index-preserved c of knows all =
     let items = c.args.items.now in
     elim c.match-item.branch [
-      | in-Func+then-is_there+in_ok-push w ↦ kept_push (λ (n : TakenName). TakesName of (interface_items items) n.item n.part n.name.now) c.loop-index.names.items c.match-item.names.items _ (ap (λ (v : Vec TakenName Global). v.items) w.names-is ∙ w.in_ok-push.ensures.items) (c.loop-index.invariant of knows all)
+      | in-Func+then-is_there+in_ok-push w ↦ taken_push (TakesName of (interface_items items)) c.loop-index.names.items c.match-item.names.items _ _ _ w.of_item.ensures.item w.of_item.ensures.part w.of_item.ensures.name (ap (λ (v : Vec TakenName Global). v.items) w.names-is ∙ w.in_ok-push.ensures.items) (c.loop-index.invariant of knows all)
           (a_function items c.loop-index.index w.in-Func.it refl (at_read items c.loop-index.index c.index-items-index.result _ c.loop-index-test.true c.index-items-index.is w.in-Func.is) ((w.is_there.ensures of knows).0 w.if-is_there.true))
       | in_default w ↦ subst (λ (v : Vec TakenName Global). AreTaken (TakesName of (interface_items items)) v.items) (sym w.names-is) (c.loop-index.invariant of knows all)
     ]

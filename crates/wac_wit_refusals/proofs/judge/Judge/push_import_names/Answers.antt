@@ -5,7 +5,8 @@ use Rattle.wac_wit_refusals.specs.NamesTwice.{TakesName, an_imported}
 use Rattle.wac_wit_refusals.specs.Sites.{world_items}
 use Rattle.wac_wit_refusals.specs.TypeLists.{AreTaken}
 use Rattle.wac_wit_refusals.specs.declared.taken_names.TakenName.{TakenName}
-use Rattle.wac_wit_refusals.proofs.TypeFacts.{at_read, kept_push}
+use Rattle.wac_wit_refusals.proofs.TwiceFacts.{taken_push}
+use Rattle.wac_wit_refusals.proofs.TypeFacts.{at_read}
 use Rattle.wac_wit_refusals.proofs.judge.Judge.push_import_names.Goals.{in-Import+in-Some+in_ok-push, in_default}
 use Rattle.wac_wit_refusals.proofs.judge.Judge.push_import_names.Goals as goal
 
@@ -14,7 +15,7 @@ loop-index-preserved c of knows all =
     let items = c.args.items.now in
     let before = c.loop-index.invariant of knows all in
     elim c.match-item.branch [
-      | in-Import+in-Some+in_ok-push w ↦ kept_push (λ (n : TakenName). TakesName of (world_items items) n.item n.part n.name.now) c.loop-index.names.items c.match-item.names.items _ (ap (λ (v : Vec TakenName Global). v.items) w.names-is ∙ w.in_ok-push.ensures.items) before
+      | in-Import+in-Some+in_ok-push w ↦ taken_push (TakesName of (world_items items)) c.loop-index.names.items c.match-item.names.items _ _ _ w.of_item.ensures.item w.of_item.ensures.part w.of_item.ensures.name (ap (λ (v : Vec TakenName Global). v.items) w.names-is ∙ w.in_ok-push.ensures.items) before
           (an_imported items c.loop-index.index w.in-Import.it w.in-Some.name.now refl (at_read items c.loop-index.index c.index-items-index.result _ c.loop-index-test.true c.index-items-index.is w.in-Import.is) (w.in-Some.ensures.there of knows) w.in-Some.ensures.has)
       | in_default w ↦ subst (λ (v : Vec TakenName Global). AreTaken (TakesName of (world_items items)) v.items) (sym w.names-is) before
     ]

@@ -7,9 +7,9 @@ use Rattle.wac_wit_refusals.specs.Sites.{world_items}
 use Rattle.wac_wit_refusals.proofs.judge.Judge.push_of_item.Goals as goal
 
 pub returns-in-Use : goal.returns-in-Use
-returns-in-Use c = on_ok_weaker c.push_path.result (λ pushes of judges d there among. pushes of judges (top.World d) (world_items d.items.items) (of_world d there)
-    (by_use (world_items d.items.items) c.in-Use.it (subst (λ (x : WorldItem). Contains d.items.items x) c.in-Use.is among))) c.push_path.ensures
+returns-in-Use c = on_ok_weaker c.push_path.result (λ pushes of judges d there among. pushes of judges (world_items d.items.items)
+    (by_use (world_items d.items.items) c.in-Use.it (subst (λ (x : WorldItem). Contains d.items.items x) c.in-Use.is among)) (top.World d) (of_world d there)) c.push_path.ensures
 
 pub returns-in-Include : goal.returns-in-Include
-returns-in-Include c = on_ok_weaker c.push_path-in-Include.result (λ pushes of judges d there among. pushes of judges (top.World d) (world_items d.items.items) (of_world d there)
-    (by_include d.items.items c.in-Include.it (subst (λ (x : WorldItem). Contains d.items.items x) c.in-Include.is among))) c.push_path-in-Include.ensures
+returns-in-Include c = on_ok_weaker c.push_path-in-Include.result (λ pushes of judges d there among. pushes of judges (world_items d.items.items)
+    (by_include d.items.items c.in-Include.it (subst (λ (x : WorldItem). Contains d.items.items x) c.in-Include.is among)) (top.World d) (of_world d there)) c.push_path-in-Include.ensures

@@ -4,7 +4,8 @@ use Rattle.std.specs.declared.alloc.Global.{Global}
 use Rattle.wac_wit_refusals.specs.NamesTwice.{TakesName, a_defined}
 use Rattle.wac_wit_refusals.specs.TypeLists.{AreTaken}
 use Rattle.wac_wit_refusals.specs.declared.taken_names.TakenName.{TakenName}
-use Rattle.wac_wit_refusals.proofs.TypeFacts.{among_read, kept_push}
+use Rattle.wac_wit_refusals.proofs.TwiceFacts.{taken_push}
+use Rattle.wac_wit_refusals.proofs.TypeFacts.{among_read}
 use Rattle.wac_wit_refusals.proofs.judge.Judge.push_type_names.Goals.{then-is_there+in_ok-push, else-is_there}
 use Rattle.wac_wit_refusals.proofs.judge.Judge.push_type_names.Goals as goal
 
@@ -13,7 +14,7 @@ loop-placed-preserved c of b knows types all =
     let placed = c.placed-item.result in
     let at = types.at placed (among_read c.args.types.now c.loop-placed.placed-index placed c.loop-placed-test.true c.placed-item.is) in
     elim c.if-is_there.branch [
-      | then-is_there+in_ok-push w ↦ kept_push (λ (n : TakenName). TakesName of b n.item n.part n.name.now) c.loop-placed.names.items c.if-is_there.names.items _ (ap (λ (v : Vec TakenName Global). v.items) w.names-is ∙ w.in_ok-push.ensures.items) (c.loop-placed.invariant of b knows types all)
+      | then-is_there+in_ok-push w ↦ taken_push (TakesName of b) c.loop-placed.names.items c.if-is_there.names.items _ _ _ w.of_item.ensures.item w.of_item.ensures.part w.of_item.ensures.name (ap (λ (v : Vec TakenName Global). v.items) w.names-is ∙ w.in_ok-push.ensures.items) (c.loop-placed.invariant of b knows types all)
           (a_defined placed.item placed.ty.now at ((c.is_there.ensures of knows).0 w.if-is_there.true))
       | else-is_there w ↦ subst (λ (v : Vec TakenName Global). AreTaken (TakesName of b) v.items) (sym w.names-is) (c.loop-placed.invariant of b knows types all)
     ]

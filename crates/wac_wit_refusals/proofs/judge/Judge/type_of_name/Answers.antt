@@ -1,12 +1,10 @@
-use Rattle.std.proofs.Common.{subst, sym}
-use Rattle.wac_wit_refusals.specs.BorrowSteps.{IsTypeOfName}
-use Rattle.wac_wit_refusals.specs.Judging.{body_syntax}
-use Rattle.wac_wit_refusals.specs.declared.bodies.Body.{Body}
-use Rattle.wac_wit_refusals.proofs.TypeFacts.{if_some_then}
+use Rattle.std.proofs.Common.{◌∙◌, sym}
+use Rattle.std.proofs.lemmas.Slice.Eq.{bytes_eq-Decides}
+use Rattle.wac_wit_refusals.proofs.TypeFacts.{among_from}
 use Rattle.wac_wit_refusals.proofs.judge.Judge.type_of_name.Goals as goal
 
-pub returns-in-Interface : goal.returns-in-Interface
-returns-in-Interface c = if_some_then _ _ c.type_of_interface.result c.type_of_interface.ensures (λ t h of knows. subst (λ (b : Body). IsTypeOfName of (body_syntax b) c.args.name.now t.now) (sym c.in-Interface.is) (h of knows))
-
-pub returns-in-World : goal.returns-in-World
-returns-in-World c = if_some_then _ _ c.type_of_world.result c.type_of_world.ensures (λ t h of knows. subst (λ (b : Body). IsTypeOfName of (body_syntax b) c.args.name.now t.now) (sym c.in-World.is) (h of knows))
+pub returns-then-eq : goal.returns-then-eq
+returns-then-eq c of knows =
+    let ty = c.ty-item.result in
+    let among = among_from c.in_ok-types_there.field-0.items c.deref-ty-items.result.now c.loop-ty.ty-index ty c.deref-ty-items.ensures.value c.loop-ty-test.true c.ty-item.is in
+    record { has = c.in_ok-types_there.ensures of knows ty among; named = (bytes_eq-Decides _ _).0 (sym c.eq.ensures ∙ c.if-eq.true) }

@@ -1,0 +1,99 @@
+//! Types that lead to a borrowed handle, or to `char`, along names.
+
+ghost use Rattle.std.specs.Prelude.{◌≡◌, IfOk, IsTrue, OnOk};
+ghost use Rattle.wac_model.specs.declared.primitive.PrimitiveType.TheVariants as primitive;
+ghost use Rattle.wac_wit_refusals.specs.BorrowSteps.{AddsNamed, AnySite, HasWanted, SiteHas};
+ghost use Rattle.wac_wit_refusals.specs.Definitions.{BodyPlace};
+ghost use Rattle.wac_wit_refusals.specs.Judging.{Judges};
+ghost use Rattle.wac_wit_scopes.specs.WitSources.{WitSources};
+ghost use Rattle.wac_wit_syntax.specs.declared.positions.Span.{Span as PlaceOf};
+ghost use Rattle.wac_wit_syntax.specs.declared.tree.Ident.{Ident as IdentOf};
+ghost use Rattle.wac_wit_syntax.specs.declared.tree.TypeExpr.TheVariants as expr;
+
+use super::budget::{MAX_ITEMS, takes};
+use super::judge::Judge;
+use super::type_sites::{Followed, MAX_TYPES, TypeSite, push_aliased, push_definition};
+use std::alloc::AllocError;
+use wac_model::PrimitiveType;
+use wac_wit_syntax::TypeExpr;
+
+/// What types are followed for.
+#[derive(Clone, Copy)]
+pub(crate) enum Wanted {
+    /// A borrowed handle in them.
+    Borrow,
+    /// That they are `char`, or another name of it.
+    Char,
+}
+
+impl<'j> Judge<'j> {
+    /// Whether the types lead to what is wanted.
+    pub(crate) fn leads_to(
+        &self,
+        followed: &mut Followed<'j>,
+        wanted: Wanted,
+    ) -> Result<bool, AllocError>
+        ensures { IfOk result (λ is. IsTrue is → (of : WitSources) → Judges of self.now → AnySite (SiteHas of wanted) followed.old.found.items) }
+    {
+        let mut left = MAX_ITEMS;
+        for index in 0..MAX_TYPES {
+            let Some(next) = followed.found.get(index) else {
+                return Ok(false);
+            };
+            let next = *next;
+            if is_wanted(next.ty, wanted) {
+                return Ok(true);
+            }
+            if !takes(&mut left, next.cost()) {
+                return Ok(false);
+            }
+            self.push_named(followed, &next, wanted)?;
+        }
+        Ok(false)
+    }
+
+    // Puts what a name stands for last.
+    fn push_named(
+        &self,
+        followed: &mut Followed<'j>,
+        from: &TypeSite<'j>,
+        wanted: Wanted,
+    ) -> Result<(), AllocError>
+        ensures { OnOk result ((of : WitSources) → Judges of self.now → AddsNamed (SiteHas of wanted) from.now followed.old.found.items followed.new.found.items) }
+    {
+        let Some(site) = self.definition_named(from)? else {
+            return Ok(());
+        };
+        match wanted {
+            Wanted::Borrow => push_definition(self.alloc, followed, &site),
+            Wanted::Char => push_aliased(self.alloc, followed, &site),
+        }
+    }
+}
+
+fn is_wanted(ty: &TypeExpr, wanted: Wanted) -> bool
+    ensures { IsTrue result → (of : WitSources) (p : BodyPlace) → HasWanted of wanted p ty.now }
+{
+    match wanted {
+        Wanted::Borrow => is_borrow(ty),
+        Wanted::Char => is_char(ty),
+    }
+}
+
+fn is_borrow(ty: &TypeExpr) -> bool
+    ensures { IsTrue result → (id : IdentOf) × (ty.now ≡ expr.Borrow id) }
+{
+    match ty {
+        TypeExpr::Borrow(_) => true,
+        _ => false,
+    }
+}
+
+fn is_char(ty: &TypeExpr) -> bool
+    ensures { IsTrue result → (place : PlaceOf) × (ty.now ≡ expr.Primitive primitive.Char place) }
+{
+    match ty {
+        TypeExpr::Primitive(PrimitiveType::Char, _) => true,
+        _ => false,
+    }
+}
