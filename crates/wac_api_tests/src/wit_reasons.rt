@@ -6,7 +6,7 @@ use wac_types::Types;
 use wac_wit::{Features, Reason, SourceFile, WitError, read_packages};
 
 // The texts of files of one folder, and why they are refused, at one place alone.
-static REFUSED: [(&[&str], Reason); 44] = [
+static REFUSED: [(&[&str], Reason); 45] = [
     (&["package a:b; interface i { f: func( }"], Reason::Syntax),
     (&["package a:b;", "package a:c;"], Reason::AnotherPackage),
     (&["package a:B; interface i {}"], Reason::UpperCase),
@@ -177,6 +177,12 @@ static REFUSED: [(&[&str], Reason); 44] = [
     (
         &[
             "package a:b; interface i { type t = u8; } interface j { use i.{t}; } interface k { use j.{t}; } world w { export i; export k; }",
+        ],
+        Reason::NeededTwice,
+    ),
+    (
+        &[
+            "package a:b; interface i { type t = u8; } interface j { use i.{t}; } interface k { use j.{t}; } world v { export k; } world w { include v; export i; }",
         ],
         Reason::NeededTwice,
     ),

@@ -18,3 +18,4 @@ pub mod SoughtFacts
 pub mod NeededFacts
 pub mod BorrowFacts
 pub mod KeptFacts
+pub mod WorldFacts

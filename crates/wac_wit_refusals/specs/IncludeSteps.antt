@@ -22,6 +22,14 @@ use Rattle.wac_wit_syntax.specs.declared.tree.WorldItem.TheVariants as world_ite
 abbrev pub names_of_world : PlacedWorld → NameSource
 names_of_world p = from_world (scope_syntax p.scope) p.items.now
 
+-- an item is an `include` that is there, or it isn't
+pub record IsIncludeThere (of : WitSources) (t : WorldItem) (i : IncludeItem) : Type 0 where
+  pub is : t ≡ world_item.Include i
+  pub there : IsEnabled of i.gates
+
+abbrev pub IsNoInclude : WitSources → WorldItem → Type 0
+IsNoInclude of t = (i : IncludeItem) → t ≡ world_item.Include i → IsEnabled of i.gates → ⊥
+
 -- a path leads to a world
 pub record LeadsToPlacedWorld (of : WitSources) (w : ScopeSyntax) (path : Path) (p : PlacedWorld) : Type 0 where
   pub decl : WorldDecl

@@ -1,12 +1,14 @@
 -- What is known while interfaces that exports need are looked for.
-use Rattle.std.specs.Prelude.{◌≡◌, ℕ, Contains, IsSome, List, None, Option, Some}
+use Rattle.std.specs.Prelude.{◌≡◌, ℕ, true, Contains, IsSome, List, None, Option, Some}
 use Rattle.indexmap.specs.IndexMap.{get_by_text}
 use Rattle.wac_model.specs.Text.{Text}
 use Rattle.wac_wit_refusals.specs.Leading.{IsPlacedItem}
-use Rattle.wac_wit_refusals.specs.NeededTwice.{IsExportThere, IsExported, IsNeededAsImport, IsNeededBy, IsNotExported, NeedsOnBothSides, ident_of_extern}
+use Rattle.wac_wit_refusals.specs.NeededTwice.{GivesExport, GivesExportsAt, HasExport, IsExportThere, IsExported, IsNeededAsImport, IsNeededBy, IsNotExported, IsWithin, NeedsOnBothSides}
 use Rattle.wac_wit_refusals.specs.Needs.{LeadsByNeeds, NeedsItem}
 use Rattle.wac_wit_refusals.specs.Paths.{LeadsToItem, name_of_item}
 use Rattle.wac_wit_refusals.specs.declared.needs.Reached.{Reached}
+use Rattle.wac_wit_refusals.specs.declared.worlds.PlacedWorld.{PlacedWorld}
+use Rattle.wac_wit_refusals.specs.declared.exports.PlacedExport.{PlacedExport}
 use Rattle.wac_wit_refusals.specs.declared.exports.WorldExports.{WorldExports}
 use Rattle.wac_wit_refusals.specs.declared.judge.Judge.{Judge}
 use Rattle.wac_wit_refusals.specs.declared.led.LedTo.{LedTo}
@@ -22,24 +24,35 @@ use Rattle.wac_wit_syntax.specs.declared.tree.Path.{Path}
 use Rattle.wac_wit_syntax.specs.declared.tree.TopItem.{TopItem}
 use Rattle.wac_wit_syntax.specs.declared.tree.UseItem.{UseItem}
 use Rattle.wac_wit_syntax.specs.declared.tree.WorldItem.{WorldItem}
+use Rattle.wac_wit_refusals.specs.IncludeSteps.{LeadsToPlacedWorld, names_of_world}
+use Rattle.wac_wit_refusals.specs.SaidFound.{SaysFound}
+use Rattle.wac_wit_refusals.specs.Includes.{NameSource, from_include}
 use Rattle.wac_wit_syntax.specs.declared.tree.WorldItem.TheVariants as world_item
 
--- what needs an interface or a world: one of these, an export, some export of a world, or such by way of what isn't exported
+-- what needs an interface or a world: one of these, one of some exports, some export of a world, or such by way of what isn't
+-- exported
 pub data Needing : Type 0 where
   this_item : ScopeSyntax → TopItem → Needing
-  this_export : ScopeSyntax → ExternItem → Needing
+  one_of : List PlacedExport → Needing
   some_export : ScopeSyntax → List WorldItem → Needing
   as_import : ScopeSyntax → List WorldItem → Needing
 
+-- one of some exports needs it
+pub record IsNeededByOne (of : WitSources) (xs : List PlacedExport) (v : ScopeSyntax) (s : TopItem) : Type 0 where
+  pub export : PlacedExport
+  pub among : Contains xs export
+  pub needed : IsNeededBy of (scope_syntax export.scope) export.item.now v s
+
 -- some export of a world needs it
 pub record IsNeededBySome (of : WitSources) (w : ScopeSyntax) (is : List WorldItem) (v : ScopeSyntax) (s : TopItem) : Type 0 where
+  pub from : ScopeSyntax
   pub export : ExternItem
-  pub there : IsExportThere of is export
-  pub needed : IsNeededBy of w export v s
+  pub has : HasExport of w is from export
+  pub needed : IsNeededBy of from export v s
 
 abbrev pub IsNeededFor : WitSources → Needing → ScopeSyntax → TopItem → Type 0
 IsNeededFor of (this_item w t) v s = LeadsByNeeds of w t v s
-IsNeededFor of (this_export w x) v s = IsNeededBy of w x v s
+IsNeededFor of (one_of xs) v s = IsNeededByOne of xs v s
 IsNeededFor of (some_export w is) v s = IsNeededBySome of w is v s
 IsNeededFor of (as_import w is) v s = IsNeededAsImport of w is v s
 
@@ -106,16 +119,49 @@ ListsExports of w listed is = (t : WorldItem) → Contains is t → IsExportList
 abbrev pub KeepsListed : (Text → Option ℕ) → (Text → Option ℕ) → Type 0
 KeepsListed old new = (k : Text) → IsSome (old k) → IsSome (new k)
 
--- all exports of a world are listed, which includes no other
+-- what each of the worlds exports is listed
+abbrev pub ListsWorlds : WitSources → (Text → Option ℕ) → List PlacedWorld → Type 0
+ListsWorlds of listed ps = (p : PlacedWorld) → Contains ps p → ListsExports of (scope_syntax p.scope) listed p.items.now
+
+-- a world comes with what another one includes, or is that
+abbrev pub IsWithinWorld : WitSources → PlacedWorld → PlacedWorld → Type 0
+IsWithinWorld of w p = IsWithin of (scope_syntax w.scope) w.items.now (scope_syntax p.scope) p.items.now
+
+-- these are all the worlds that come from there
+pub data AreAllWorlds (of : WitSources) (ps : List PlacedWorld) : NameSource → Type 0 where
+  a_world_among : (p : PlacedWorld) → Contains ps p
+      → ((i : IncludeItem) → Contains p.items.now (world_item.Include i) → IsEnabled of i.gates → AreAllWorlds of ps (from_include (scope_syntax p.scope) i)) → AreAllWorlds of ps (names_of_world p)
+  an_include_among : (w : ScopeSyntax) (i : IncludeItem) (p : PlacedWorld) → LeadsToPlacedWorld of w i.path p → AreAllWorlds of ps (names_of_world p) → AreAllWorlds of ps (from_include w i)
+
+-- a world and all the worlds that come with what it includes
+pub record AreAllWithin (of : WitSources) (w : PlacedWorld) (ps : List PlacedWorld) : Type 0 where
+  pub within : (p : PlacedWorld) → Contains ps p → IsWithinWorld of w p
+  pub all : AreAllWorlds of ps (names_of_world w)
+
+-- worlds stay there as others are put behind them
+abbrev pub KeepsWorlds : List PlacedWorld → List PlacedWorld → Type 0
+KeepsWorlds old new = (p : PlacedWorld) → Contains old p → Contains new p
+
+-- they stay such as come with a world when those that come with one of them are put behind them
+abbrev pub AddsWithin : WitSources → PlacedWorld → List PlacedWorld → List PlacedWorld → Type 0
+AddsWithin of inner old new = (w : PlacedWorld) → IsWithinWorld of w inner → ((p : PlacedWorld) → Contains old p → IsWithinWorld of w p) → (p : PlacedWorld) → Contains new p → IsWithinWorld of w p
+
+-- a world was put behind others, and the worlds that come with what it includes: these are all
+pub record PutsWorlds (of : WitSources) (w : PlacedWorld) (old new : List PlacedWorld) : Type 0 where
+  pub keeps : KeepsWorlds old new
+  pub all : AreAllWorlds of new (names_of_world w)
+  pub adds : AddsWithin of w old new
+
+-- all worlds that a world comes with are known, and all that they export is listed
 pub record AreExports (of : WitSources) (e : WorldExports) : Type 0 where
-  pub listed : ListsExports of (scope_syntax e.scope) (get_by_text e.listed) e.items.now
-  pub alone : (i : IncludeItem) → Contains e.items.now (world_item.Include i) → IsEnabled of i.gates → ⊥
+  pub worlds : AreAllWithin of e.world e.worlds.items
+  pub listed : ListsWorlds of (get_by_text e.listed) e.worlds.items
 
 abbrev pub some_of : WorldExports → Needing
-some_of e = some_export (scope_syntax e.scope) e.items.now
+some_of e = some_export (scope_syntax e.world.scope) e.world.items.now
 
 abbrev pub imports_of : WorldExports → Needing
-imports_of e = as_import (scope_syntax e.scope) e.items.now
+imports_of e = as_import (scope_syntax e.world.scope) e.world.items.now
 
 abbrev pub AreImports : WitSources → Judge → WorldExports → Reached → Type 0
 AreImports of j e r = AreNeeded of j (imports_of e) r.found.items
@@ -130,27 +176,67 @@ IsUnlisted e l = (n : Text) → name_of_item l.item.now ≡ Some n → get_by_te
 
 -- what was found is exported, or isn't
 abbrev pub IsFoundExported : WitSources → WorldExports → LedTo → Type 0
-IsFoundExported of e l = IsExported of (scope_syntax e.scope) e.items.now (scope_syntax l.scope) l.item.now
+IsFoundExported of e l = IsExported of (scope_syntax e.world.scope) e.world.items.now (scope_syntax l.scope) l.item.now
 
 abbrev pub IsFoundUnexported : WitSources → WorldExports → LedTo → Type 0
-IsFoundUnexported of e l = IsNotExported of (scope_syntax e.scope) e.items.now (scope_syntax l.scope) l.item.now
+IsFoundUnexported of e l = IsNotExported of (scope_syntax l.scope) l.item.now (names_of_world e.world)
 
--- an export that is there, whose name stands at a place
-pub record IsExportStanding (of : WitSources) (is : List WorldItem) (span : Span) (x : ExternItem) : Type 0 where
-  pub there : IsExportThere of is x
-  pub is_at : (ident_of_extern x.what).span ≡ span
+-- an item of a world exports what was found
+pub record IsExportedBy (of : WitSources) (w : PlacedWorld) (l : LedTo) : Type 0 where
+  pub item : WorldItem
+  pub among : Contains w.items.now item
+  pub says : SaysFound of w.scope item true l
 
-pub record HasNeededTwice (of : WitSources) (w : ScopeSyntax) (is : List WorldItem) (span : Span) : Type 0 where
-  pub export : ExternItem
-  pub stands : IsExportStanding of is span export
-  pub twice : NeedsOnBothSides of w is export
+-- an item is an export that is there
+pub record IsTheExport (of : WitSources) (t : WorldItem) (x : ExternItem) : Type 0 where
+  pub is : t ≡ world_item.Export x
+  pub there : IsEnabled of x.gates
 
-abbrev pub NeedsFoundTwice : WitSources → WorldExports → ExternItem → Type 0
-NeedsFoundTwice of e x = NeedsOnBothSides of (scope_syntax e.scope) e.items.now x
+-- exports that an item of a world gives it
+abbrev pub AreGiven : WitSources → ScopeSyntax → WorldItem → List PlacedExport → Type 0
+AreGiven of w t xs = (x : PlacedExport) → Contains xs x → GivesExport of w t (scope_syntax x.scope) x.item.now
+
+-- exports that an `include` brings
+abbrev pub AreBrought : WitSources → ScopeSyntax → IncludeItem → List PlacedExport → Type 0
+AreBrought of w i xs = IsEnabled of i.gates → AreGiven of w (world_item.Include i) xs
+
+-- exports stay such as a world has when those that stand in a world that comes with it are put behind them
+abbrev pub AreExportsIn : WitSources → PlacedWorld → List PlacedExport → Type 0
+AreExportsIn of w xs = (x : PlacedExport) → Contains xs x → HasExport of (scope_syntax w.scope) w.items.now (scope_syntax x.scope) x.item.now
+
+abbrev pub AddsExportsOf : WitSources → PlacedWorld → List PlacedExport → List PlacedExport → Type 0
+AddsExportsOf of inner old new = (w : PlacedWorld) → IsWithinWorld of w inner → AreExportsIn of w old → AreExportsIn of w new
+
+-- what the exports of a world need is needed
+abbrev pub NeedsExports : WitSources → Judge → Needing → PlacedWorld → Type 0
+NeedsExports of j n p = (x : ExternItem) → IsExportThere of p.items.now x → NeedsWhat of j n (scope_syntax p.scope) x
+
+-- an export needs something on both sides of a world
+abbrev pub NeedsFoundTwice : WitSources → PlacedWorld → PlacedExport → Type 0
+NeedsFoundTwice of w x = NeedsOnBothSides of (scope_syntax w.scope) w.items.now (scope_syntax x.scope) x.item.now
+
+-- one of them does
+pub record NeedsSomeTwice (of : WitSources) (e : WorldExports) (xs : List PlacedExport) : Type 0 where
+  pub export : PlacedExport
+  pub among : Contains xs export
+  pub twice : NeedsFoundTwice of e.world export
+
+-- one that an item of a world gives it does
+pub record GivesNeededTwice (of : WitSources) (w : PlacedWorld) (t : WorldItem) : Type 0 where
+  pub export : PlacedExport
+  pub gives : GivesExport of (scope_syntax w.scope) t (scope_syntax export.scope) export.item.now
+  pub twice : NeedsFoundTwice of w export
+
+-- and stands at a place
+pub record HasNeededTwice (of : WitSources) (w : PlacedWorld) (span : Span) : Type 0 where
+  pub item : WorldItem
+  pub among : Contains w.items.now item
+  pub is_at : GivesExportsAt item span
+  pub gives : GivesNeededTwice of w item
 
 -- what was found is exported, if it stands where it is said to, and at its place something else was found
 pub record IsOnBothSides (of : WitSources) (j : Judge) (e : WorldExports) (r : Reached) (l : LedTo) : Type 0 where
-  pub exported : IsPlacedItem j l → IsFoundExported of e l
+  pub exported : IsPlacedItem j l → AreExports of e → IsFoundExported of e l
   pub other : LedTo
   pub among : Contains r.found.items other
   pub place : other.place ≡ l.place

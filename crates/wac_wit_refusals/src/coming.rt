@@ -13,13 +13,10 @@ use super::budget::{MAX_ITEMS, takes};
 use super::judge::Judge;
 use super::taken_names::TakenName;
 use super::type_names::local_name;
-use super::worlds::IncludedWorld;
+use super::worlds::{IncludedWorld, MAX_DEPTH};
 use std::alloc::{AllocError, Global};
 use wac_wit_scopes::ScopeItems;
 use wac_wit_syntax::{Ident, Rename, WorldItem};
-
-// How many worlds are looked at that include one another.
-const MAX_DEPTH: usize = 100;
 
 /// A name that comes into a world.
 #[derive(Clone, Copy)]

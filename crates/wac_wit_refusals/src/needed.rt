@@ -1,32 +1,29 @@
 //! What exports need.
 
-ghost use Rattle.std.specs.Prelude.{Contains, IfOk, IfSome, List, OnOk};
+ghost use Rattle.std.specs.Prelude.{IfOk, OnOk};
 ghost use Rattle.wac_wit_refusals.specs.Judging.{Judges};
-ghost use Rattle.wac_wit_refusals.specs.NeededSteps.{AddsImports, AddsNeeded, AreExports, AreImports, AreNeeded, IsFoundNeed, Needing, NeedsUse, NeedsUses, NeedsWhat, some_export, some_of, this_export};
-ghost use Rattle.wac_wit_refusals.specs.NeededTwice.{IsExportThere};
+ghost use Rattle.wac_wit_refusals.specs.NeededSteps.{AddsImports, AddsNeeded, AreExports, AreImports, AreNeeded, IsFoundNeed, Needing, NeedsExports, NeedsUse, NeedsUses, NeedsWhat, one_of, some_of};
 ghost use Rattle.wac_wit_scopes.specs.Scopes.{scope_syntax};
 ghost use Rattle.wac_wit_scopes.specs.WitSources.{WitSources};
-ghost use Rattle.wac_wit_syntax.specs.declared.tree.WorldItem.{WorldItem as ItemOfWorld};
 
-use super::exports::WorldExports;
+use super::exports::{PlacedExport, WorldExports};
 use super::judge::Judge;
 use super::led::LedTo;
 use super::needs::Reached;
+use super::worlds::PlacedWorld;
 use std::alloc::AllocError;
 use wac_wit_scopes::ScopeItems;
-use wac_wit_syntax::{Extern, ExternItem, InterfaceItem, WorldItem};
+use wac_wit_syntax::{Extern, ExternItem, InterfaceItem};
 
 impl<'j> Judge<'j> {
-    /// The interface that an export is, and all that it needs.
-    pub(crate) fn needed_by(
-        &self,
-        scope: &ScopeItems<'j>,
-        export: &ExternItem,
-    ) -> Result<Reached<'j>, AllocError>
-        ensures { IfOk result (λ r. (of : WitSources) → Judges of self.now → AreNeeded of self.now (this_export (scope_syntax scope.now) export.now) r.found.items) }
+    /// The interfaces that exports are, and all that these need.
+    pub(crate) fn needed_by(&self, exports: &[PlacedExport<'j>]) -> Result<Reached<'j>, AllocError>
+        ensures { IfOk result (λ r. (of : WitSources) → Judges of self.now → AreNeeded of self.now (one_of exports.now) r.found.items) }
     {
         let mut needed = Reached::new(self.alloc);
-        self.push_export(&mut needed, scope, export)?;
+        for export in exports {
+            self.push_export(&mut needed, &export.scope, export.item)?;
+        }
         self.push_all_needs(&mut needed)?;
         Ok(needed)
     }
@@ -47,10 +44,12 @@ impl<'j> Judge<'j> {
 
     // The interfaces that the exports of a world are, and all that these need.
     fn needed_by_some(&self, exports: &WorldExports<'j>) -> Result<Reached<'j>, AllocError>
-        ensures { IfOk result (λ r. (of : WitSources) → Judges of self.now → AreNeeded of self.now (some_of exports.now) r.found.items) }
+        ensures { IfOk result (λ r. (of : WitSources) → Judges of self.now → AreExports of exports.now → AreNeeded of self.now (some_of exports.now) r.found.items) }
     {
         let mut needed = Reached::new(self.alloc);
-        self.push_exports(&mut needed, &exports.scope, exports.items)?;
+        for world in &exports.worlds {
+            self.push_exports(&mut needed, world)?;
+        }
         self.push_all_needs(&mut needed)?;
         Ok(needed)
     }
@@ -58,27 +57,16 @@ impl<'j> Judge<'j> {
     fn push_exports(
         &self,
         needed: &mut Reached<'j>,
-        scope: &ScopeItems<'j>,
-        items: &[WorldItem],
+        world: &PlacedWorld<'j>,
     ) -> Result<(), AllocError>
-        ensures { OnOk result ((of : WitSources) → Judges of self.now → AddsNeeded of self.now (some_export (scope_syntax scope.now) items.now) needed.old needed.new) }
+        ensures { OnOk result ((of : WitSources) → Judges of self.now → (n : Needing) → NeedsExports of self.now n world.now → AddsNeeded of self.now n needed.old needed.new) }
     {
-        for item in items {
+        for item in world.items {
             if let Some(export) = self.export_there(item) {
-                self.push_export(needed, scope, export)?;
+                self.push_export(needed, &world.scope, export)?;
             }
         }
         Ok(())
-    }
-
-    /// The export that an item of a world is, if it is there.
-    pub(crate) fn export_there<'i>(&self, item: &'i WorldItem) -> Option<&'i ExternItem>
-        ensures { IfSome result (λ x. (of : WitSources) → Judges of self.now → (is : List ItemOfWorld) → Contains is item.now → IsExportThere of is x.now) }
-    {
-        match item {
-            WorldItem::Export(it) if self.is_there(&it.gates) => Some(it),
-            _ => None,
-        }
     }
 
     // Puts the interface that an export is last, or those that it uses.

@@ -1,21 +1,20 @@
 //! Interfaces that the exports of a world need as exports and as imports.
 
-ghost use Rattle.std.specs.Prelude.{◌≡◌, ℕ, Contains, IfOk, IfSome, IsTrue};
+ghost use Rattle.std.specs.Prelude.{◌≡◌, ℕ, Contains, IfOk, IsTrue};
 ghost use Rattle.wac_wit_refusals.specs.Judging.{IsKnownBody, Judges};
-ghost use Rattle.wac_wit_refusals.specs.NeededSteps.{AreExports, HasNeededTwice, IsExportStanding, IsOnBothSides, NeedsFoundTwice};
-ghost use Rattle.wac_wit_refusals.specs.NeededTwice.{IsNeededTwice, NeedsOnBothSides, ident_of_extern};
+ghost use Rattle.wac_wit_refusals.specs.NeededSteps.{AreExports, GivesNeededTwice, HasNeededTwice, IsOnBothSides, NeedsSomeTwice};
+ghost use Rattle.wac_wit_refusals.specs.NeededTwice.{GivesExportsAt, IsNeededTwice, ident_of_extern};
 ghost use Rattle.wac_wit_refusals.specs.declared.led.LedTo.{LedTo as Found};
-ghost use Rattle.wac_wit_scopes.specs.Scopes.{scope_syntax};
 ghost use Rattle.wac_wit_scopes.specs.WitSources.{WitSources};
 
 use super::bodies::{Body, PlacedBody};
-use super::exports::WorldExports;
+use super::exports::{PlacedExport, WorldExports};
 use super::judge::{Judge, is_at};
 use super::led::LedTo;
 use super::needs::{Reached, is_among};
+use super::worlds::PlacedWorld;
 use std::alloc::AllocError;
-use wac_wit_scopes::ScopeItems;
-use wac_wit_syntax::{Extern, ExternItem, Ident, Span, WorldItem};
+use wac_wit_syntax::{Extern, Ident, Span, WorldItem};
 
 impl<'j> Judge<'j> {
     /// Whether an export whose name stands at this place is or needs an interface that is exported,
@@ -36,61 +35,51 @@ impl<'j> Judge<'j> {
     {
         match placed.body {
             Body::Interface(_) => Ok(false),
-            Body::World(items) => self.has_needed_twice_in(&placed.scope, items, span),
+            Body::World(items) => self.has_needed_twice_in(
+                &PlacedWorld {
+                    scope: placed.scope,
+                    items,
+                },
+                span,
+            ),
         }
     }
 
-    fn has_needed_twice_in(
-        &self,
-        scope: &ScopeItems<'j>,
-        items: &'j [WorldItem],
-        span: Span,
-    ) -> Result<bool, AllocError>
-        ensures { IfOk result (λ is. IsTrue is → (of : WitSources) → Judges of self.now → HasNeededTwice of (scope_syntax scope.now) items.now span) }
+    fn has_needed_twice_in(&self, world: &PlacedWorld<'j>, span: Span) -> Result<bool, AllocError>
+        ensures { IfOk result (λ is. IsTrue is → (of : WitSources) → Judges of self.now → HasNeededTwice of world.now span) }
     {
-        match self.export_at(items, span) {
-            Some(export) => self.needs_twice(scope, items, export),
-            None => Ok(false),
-        }
-    }
-
-    // The export whose name stands at a place.
-    fn export_at<'i>(&self, items: &'i [WorldItem], span: Span) -> Option<&'i ExternItem>
-        ensures { IfSome result (λ x. (of : WitSources) → Judges of self.now → IsExportStanding of items.now span x.now) }
-    {
-        for item in items {
-            if let Some(export) = self.export_there(item) {
-                if is_at(ident_of(&export.what).span, span) {
-                    return Some(export);
-                }
+        for item in world.items {
+            if gives_exports_at(item, span) && self.gives_needed_twice(world, item)? {
+                return Ok(true);
             }
         }
-        None
+        Ok(false)
     }
 
-    fn needs_twice(
+    // Whether an item of a world gives it an export that needs something on both sides.
+    fn gives_needed_twice(
         &self,
-        scope: &ScopeItems<'j>,
-        items: &'j [WorldItem],
-        export: &ExternItem,
+        world: &PlacedWorld<'j>,
+        item: &'j WorldItem,
     ) -> Result<bool, AllocError>
-        ensures { IfOk result (λ is. IsTrue is → (of : WitSources) → Judges of self.now → NeedsOnBothSides of (scope_syntax scope.now) items.now export.now) }
+        ensures { IfOk result (λ is. IsTrue is → (of : WitSources) → Judges of self.now → GivesNeededTwice of world.now item.now) }
     {
-        match &self.exports_of(scope, items)? {
-            Some(exports) => self.needs_exported_twice(exports, export),
+        let given = self.exports_given(&world.scope, item)?;
+        match &self.exports_of(world)? {
+            Some(exports) => self.needs_some_twice(exports, &given),
             None => Ok(false),
         }
     }
 
-    fn needs_exported_twice(
+    fn needs_some_twice(
         &self,
         exports: &WorldExports<'j>,
-        export: &ExternItem,
+        given: &[PlacedExport<'j>],
     ) -> Result<bool, AllocError>
-        ensures { IfOk result (λ is. IsTrue is → (of : WitSources) → Judges of self.now → AreExports of exports.now → NeedsFoundTwice of exports.now export.now) }
+        ensures { IfOk result (λ is. IsTrue is → (of : WitSources) → Judges of self.now → AreExports of exports.now → NeedsSomeTwice of exports.now given.now) }
     {
         let imported = self.needed_as_imports(exports)?;
-        let needed = self.needed_by(&exports.scope, export)?;
+        let needed = self.needed_by(given)?;
         self.are_on_both_sides(exports, &imported, &needed.found)
     }
 
@@ -124,6 +113,17 @@ impl<'j> Judge<'j> {
         } else {
             Ok(false)
         }
+    }
+}
+
+// Whether the name of an export, or the last one of an `include`'s path, stands at a place.
+fn gives_exports_at(item: &WorldItem, span: Span) -> bool
+    ensures { IsTrue result → GivesExportsAt item.now span }
+{
+    match item {
+        WorldItem::Export(it) => is_at(ident_of(&it.what).span, span),
+        WorldItem::Include(it) => is_at(it.path.name.span, span),
+        _ => false,
     }
 }
 

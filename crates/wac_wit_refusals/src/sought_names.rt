@@ -9,12 +9,9 @@ ghost use Rattle.wac_wit_scopes.specs.WitSources.{WitSources, ident_text};
 use super::budget::takes;
 use super::judge::Judge;
 use super::type_names::{gives, local_name};
-use super::worlds::PlacedWorld;
+use super::worlds::{MAX_WORLDS, PlacedWorld};
 use std::alloc::AllocError;
 use wac_wit_syntax::{Extern, Ident, IncludeItem, Rename, WorldItem};
-
-// In how many worlds a name is looked for, each as often as it is included.
-const MAX_WORLDS: usize = 10_000;
 
 /// A name that is looked for in a world.
 #[derive(Clone, Copy)]

@@ -1,16 +1,24 @@
 //! Worlds that paths lead to, and that others include.
 
-ghost use Rattle.std.specs.Prelude.{IfOk, IfSome, OnOk};
+ghost use Rattle.std.specs.Prelude.{◌≡◌, IfOk, IfSome, IsTrue, None, OnOk};
 ghost use Rattle.wac_wit_refusals.specs.BroughtSteps.{AddsIncludedBy, AreIncludedWorlds, IsIncludedBy};
-ghost use Rattle.wac_wit_refusals.specs.IncludeSteps.{LeadsToPlacedWorld};
+ghost use Rattle.wac_wit_refusals.specs.IncludeSteps.{IsIncludeThere, IsNoInclude, LeadsToPlacedWorld};
 ghost use Rattle.wac_wit_refusals.specs.Judging.{Judges};
+ghost use Rattle.wac_wit_refusals.specs.NeededSteps.{AreAllWithin, PutsWorlds};
 ghost use Rattle.wac_wit_scopes.specs.Scopes.{scope_syntax};
 ghost use Rattle.wac_wit_scopes.specs.WitSources.{WitSources};
 
+use super::budget::{MAX_ITEMS, takes};
 use super::judge::Judge;
 use std::alloc::AllocError;
 use wac_wit_scopes::ScopeItems;
 use wac_wit_syntax::{IncludeItem, Path, TopItem, WorldItem};
+
+/// How many worlds are looked at that include one another.
+pub(crate) const MAX_DEPTH: usize = 100;
+
+/// How many worlds are looked at, each as often as it is included.
+pub(crate) const MAX_WORLDS: usize = 10_000;
 
 /// The items of a world, and what that stands in.
 #[derive(Clone, Copy)]
@@ -48,6 +56,66 @@ impl<'j> Judge<'j> {
                 items: &decl.items,
             })),
             _ => Ok(None),
+        }
+    }
+
+    /// The world, and the worlds that come with what it includes. Nothing is answered where a path
+    /// leads nowhere, or there are very many.
+    pub(crate) fn worlds_within(
+        &self,
+        world: &PlacedWorld<'j>,
+    ) -> Result<Option<Vec<PlacedWorld<'j>>>, AllocError>
+        ensures { IfOk result (λ o. IfSome o (λ ps. (of : WitSources) → Judges of self.now → AreAllWithin of world.now ps.items)) }
+    {
+        let mut worlds = Vec::new(self.alloc);
+        let mut left = MAX_ITEMS;
+        if self.push_within(&mut worlds, world, MAX_DEPTH, &mut left)? {
+            Ok(Some(worlds))
+        } else {
+            Ok(None)
+        }
+    }
+
+    // Puts a world last, and the worlds that come with what it includes, and says whether these are
+    // all: they are no deeper in one another than this.
+    fn push_within(
+        &self,
+        worlds: &mut Vec<PlacedWorld<'j>>,
+        world: &PlacedWorld<'j>,
+        depth: usize,
+        left: &mut usize,
+    ) -> Result<bool, AllocError>
+        ensures { IfOk result (λ is. IsTrue is → (of : WitSources) → Judges of self.now → PutsWorlds of world.now worlds.old.items worlds.new.items) }
+    {
+        if depth == 0 || worlds.len() >= MAX_WORLDS || !takes(left, world.items.len()) {
+            return Ok(false);
+        }
+        worlds.push(*world)?;
+        for item in world.items {
+            if let Some(include) = self.include_there(item) {
+                let Some(inner) = self.world_led_to(&world.scope, &include.path)? else {
+                    return Ok(false);
+                };
+                if !self.push_within(worlds, &inner, depth - 1, left)? {
+                    return Ok(false);
+                }
+            }
+        }
+        Ok(true)
+    }
+
+    /// The `include` that an item is, if it is there.
+    pub(crate) fn include_there<'i>(&self, item: &'i WorldItem) -> Option<&'i IncludeItem>
+        ensures some { IfSome result (λ i. (of : WitSources) → Judges of self.now → IsIncludeThere of item.now i.now) }
+        ensures none { result ≡ None → (of : WitSources) → Judges of self.now → IsNoInclude of item.now }
+    {
+        let WorldItem::Include(it) = item else {
+            return None;
+        };
+        if self.is_there(&it.gates) {
+            Some(it)
+        } else {
+            None
         }
     }
 
@@ -90,12 +158,9 @@ impl<'j> Judge<'j> {
     ) -> Result<Option<IncludedWorld<'j>>, AllocError>
         ensures { IfOk result (λ o. IfSome o (λ v. (of : WitSources) → Judges of self.now → IsIncludedBy of (scope_syntax scope.now) index item.now v)) }
     {
-        let WorldItem::Include(it) = item else {
+        let Some(it) = self.include_there(item) else {
             return Ok(None);
         };
-        if !self.is_there(&it.gates) {
-            return Ok(None);
-        }
         match self.world_led_to(scope, &it.path)? {
             Some(world) => Ok(Some(IncludedWorld {
                 index,

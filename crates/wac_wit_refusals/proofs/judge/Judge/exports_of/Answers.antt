@@ -1,7 +1,12 @@
+use Rattle.std.proofs.Common.{List, subst}
+use Rattle.std.proofs.lemmas.Option.{MatchOption-at_some}
+use Rattle.indexmap.specs.IndexMap.{get_by_text}
+use Rattle.wac_wit_refusals.specs.NeededSteps.{ListsWorlds}
+use Rattle.wac_wit_refusals.specs.declared.worlds.PlacedWorld.{PlacedWorld}
 use Rattle.wac_wit_refusals.proofs.judge.Judge.exports_of.Goals as goal
 
 pub returns-clause-of : goal.returns-clause-of
 returns-clause-of c = λ of judges. record {
-  listed = c.in_ok-list_items.ensures c.if-not-branch.false of judges;
-  alone = c.has_no_include.ensures c.if-not-has_no_include.false of judges;
+  worlds = MatchOption-at_some _ _ c.in-Some.worlds c.in-Some.is c.in_ok-worlds.ensures of judges;
+  listed = subst (λ (ps : List PlacedWorld). ListsWorlds of (get_by_text c.list_worlds.new.listed) ps) c.deref.ensures.value (c.in_ok-list_worlds.ensures c.if-not-branch.false of judges);
 }

@@ -16,8 +16,11 @@ returns-in-World c = IfOk-weaker c.has_needed_twice_in.result _ _ (λ b told is 
       at = subst (λ (f : ℕ). IsScopeAt of f scope) known.in_file known.scope.in_file;
       items = c.in-World.items.now;
       has = subst (λ (b : BodySyntax). HasBody of scope b) (ap body_syntax c.in-World.is) known.has;
-      export = found.export;
-      there = found.stands.there;
-      is_at = found.stands.is_at;
-      twice = found.twice;
+      item = found.item;
+      among = found.among;
+      is_at = found.is_at;
+      from = scope_syntax found.gives.export.scope;
+      export = found.gives.export.item.now;
+      gives = found.gives.gives;
+      twice = found.gives.twice;
     }) c.has_needed_twice_in.ensures

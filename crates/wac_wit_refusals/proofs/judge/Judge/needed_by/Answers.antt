@@ -1,13 +1,17 @@
-use Rattle.wac_wit_refusals.proofs.Walks.{among_none}
-use Rattle.wac_wit_refusals.proofs.NeededFacts.{needs_this}
-use Rattle.wac_wit_refusals.specs.NeededSteps.{this_export}
-use Rattle.wac_wit_scopes.specs.Scopes.{scope_syntax}
+use Rattle.wac_wit_refusals.proofs.NeededFacts.{needs_one}
+use Rattle.wac_wit_refusals.proofs.Walks.{among_at, among_none}
+use Rattle.wac_wit_refusals.specs.NeededSteps.{one_of}
 use Rattle.wac_wit_refusals.proofs.judge.Judge.needed_by.Goals as goal
 
+pub loop-export-init : goal.loop-export-init
+loop-export-init c = λ of judges l among. absurd (among_none _ l c.new-needed.ensures among)
+
+pub loop-export-preserved : goal.loop-export-preserved
+loop-export-preserved c = λ of judges.
+    let exports = c.args.exports.now in
+    let export = c.export-item.result in
+    let among = among_at exports c.loop-export.export-index export c.loop-export-test.true c.export-item.is in
+    c.in_ok-push_export.ensures of judges (one_of exports) (needs_one of c.args.self.now exports export among) (c.loop-export.invariant of judges)
+
 pub returns : goal.returns
-returns c = λ of judges.
-    let self = c.args.self.now in
-    let scope = scope_syntax c.args.scope.now in
-    let export = c.args.export.now in
-    c.in_ok-push_all_needs.ensures of judges (this_export scope export)
-    (c.in_ok-push_export.ensures of judges (this_export scope export) (needs_this of self scope export) (λ l among. absurd (among_none _ l c.new-needed.ensures among)))
+returns c = λ of judges. c.in_ok-push_all_needs.ensures of judges (one_of c.args.exports.now) (c.loop-export.invariant of judges)

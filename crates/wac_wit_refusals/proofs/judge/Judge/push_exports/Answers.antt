@@ -1,27 +1,27 @@
-use Rattle.std.proofs.Common.{sym, subst}
+use Rattle.std.proofs.Common.{Contains, sym, subst}
+use Rattle.wac_wit_syntax.specs.declared.tree.WorldItem.{WorldItem}
 use Rattle.wac_wit_refusals.proofs.Walks.{among_at}
-use Rattle.wac_wit_refusals.proofs.NeededFacts.{needs_some}
-use Rattle.wac_wit_refusals.specs.NeededSteps.{AreNeeded, some_export}
-use Rattle.wac_wit_scopes.specs.Scopes.{scope_syntax}
+use Rattle.wac_wit_refusals.specs.NeededSteps.{AreNeeded}
 use Rattle.wac_wit_refusals.specs.declared.needs.Reached.{Reached}
 use Rattle.wac_wit_refusals.proofs.judge.Judge.push_exports.Goals as goal
 use Rattle.wac_wit_refusals.proofs.judge.Judge.push_exports.Goals.{in-Some+in_ok-push_export, in_default}
 
 pub loop-item-init : goal.loop-item-init
-loop-item-init c = λ of judges all. all
+loop-item-init c = λ of judges n needs all. all
 
 pub loop-item-preserved : goal.loop-item-preserved
-loop-item-preserved c = λ of judges all.
+loop-item-preserved c = λ of judges n needs all.
     let self = c.args.self.now in
-    let scope = scope_syntax c.args.scope.now in
-    let items = c.args.items.now in
-    let before = c.loop-item.invariant of judges all in
+    let items = c.args.world.now.items.now in
+    let before = c.loop-item.invariant of judges n needs all in
     elim c.match-export_there.branch [
       | in-Some+in_ok-push_export w ↦
-          let there = w.in-Some.ensures of judges items (among_at items c.loop-item.item-index c.item-item.result c.loop-item-test.true c.item-item.is) in
-          subst (λ (r : Reached). AreNeeded of self (some_export scope items) r.found.items) (sym w.needed-is)
-          (w.in_ok-push_export.ensures of judges (some_export scope items) (needs_some of self scope items w.in-Some.export.now there) before)
-      | in_default w ↦ subst (λ (r : Reached). AreNeeded of self (some_export scope items) r.found.items) (sym w.needed-is) before
+          let export = w.in-Some.export.now in
+          let is = w.in-Some.ensures of judges in
+          let among = among_at items c.loop-item.item-index c.item-item.result c.loop-item-test.true c.item-item.is in
+          subst (λ (r : Reached). AreNeeded of self n r.found.items) (sym w.needed-is)
+          (w.in_ok-push_export.ensures of judges n (needs export (record { among = subst (λ (t : WorldItem). Contains items t) is.is among; there = is.there })) before)
+      | in_default w ↦ subst (λ (r : Reached). AreNeeded of self n r.found.items) (sym w.needed-is) before
     ]
 
 pub returns : goal.returns

@@ -7,4 +7,4 @@ use Rattle.wac_wit_refusals.proofs.judge.Judge.push_needs_of_import.Goals as goa
 pub returns-then-branch : goal.returns-then-branch
 returns-then-branch c = on_ok_weaker c.push_next.result (λ pushes of judges found exports.
     let e = c.args.exports.now in
-    pushes of judges (imports_of e) (imports_next of c.args.self.now (scope_syntax e.scope) e.items.now c.args.led.now found (c.in_ok-is_not_exported.ensures c.if-branch.true of exports))) c.push_next.ensures
+    pushes of judges (imports_of e) (imports_next of c.args.self.now (scope_syntax e.world.scope) e.world.items.now c.args.led.now found (c.in_ok-is_not_exported.ensures c.if-branch.true of exports))) c.push_next.ensures
