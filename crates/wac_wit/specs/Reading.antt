@@ -5,7 +5,8 @@ use Rattle.wac_wit.specs.Read.{AreReadPackages}
 use Rattle.wac_wit_names.specs.declared.error.WitError.{WitError}
 use Rattle.wac_wit_names.specs.declared.features.Features.{Features}
 use Rattle.wac_wit_names.specs.declared.sources.SourceFile.{SourceFile}
-use Rattle.wac_wit_refusals.specs.Reasons.{AreRefusedFor, IsNotWit}
+use Rattle.wac_wit_names.specs.declared.error.WitRefusal.{WitRefusal}
+use Rattle.wac_wit_refusals.specs.Reasons.{AllRefusedFor, AreRefusedFor, IsNotWit}
 use Rattle.wac_wit_scopes.specs.Parsed.{AreParsed}
 use Rattle.wac_wit_syntax.specs.Faults.{ArePlacesIn}
 use Rattle.wac_wit_syntax.specs.declared.error.Refusal.{Refusal}
@@ -45,6 +46,10 @@ pub record AreMisread (files : List SourceFile) (file : ℕ) (rs : List Refusal)
 abbrev pub IsMisread : List SourceFile → ℕ → SyntaxError → Type 0
 IsMisread files file (Refused rs) = AreMisread files file rs.items
 IsMisread files file Memory = Unit {0}
+
+-- of files of which this is so, the reasons of the second refusals hold where those of the first do
+abbrev pub AreStillRefused : (List SourceFile → Type 0) → List WitRefusal → List WitRefusal → Type 0
+AreStillRefused Of before after = (files : List SourceFile) (features : Features) → Of files → AllRefusedFor files features before → AllRefusedFor files features after
 
 -- where the sources are the trees of their files, each reason of the error holds
 abbrev pub IsRefusedIn : {A : Type 0} → SourceTrees → Result A WitError → Type 0

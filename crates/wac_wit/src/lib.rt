@@ -17,6 +17,7 @@ mod packages;
 mod reading;
 mod renaming;
 mod shapes;
+mod telling;
 mod typedefs;
 mod typeorder;
 mod uses;

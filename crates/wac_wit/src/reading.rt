@@ -3,12 +3,14 @@
 ghost use Rattle.std.specs.Prelude.{◌≡◌, IfErr, IfOk, IfSome, List, OnOk};
 ghost use Rattle.wac_wit_scopes.specs.Parsed.{AreParsed};
 ghost use Rattle.wac_wit.specs.Read.{AreReadPackages, AreOfTexts};
-ghost use Rattle.wac_wit.specs.Reading.{AreMisread, IsMisread, IsPairRefused, IsRefusedIn, ResolvesSources, sources_in};
+ghost use Rattle.wac_wit.specs.Reading.{AreMisread, AreStillRefused, IsMisread, IsPairRefused, IsRefusedIn, ResolvesSources, sources_in};
+ghost use Rattle.wac_wit.specs.Refusals.{TellsPairRefusals, TellsRefusals};
 ghost use Rattle.wac_wit_names.specs.declared.features.Features.{Features as FeaturesOf};
 ghost use Rattle.wac_wit_names.specs.declared.sources.SourceFile.{SourceFile as FileOf};
 ghost use Rattle.wac_wit_refusals.specs.Reasons.{AreRefusedFor, AllRefusedFor};
 
 use super::packages::{Resolved, Wit};
+use super::telling::told;
 use std::alloc::{AllocError, Global};
 use wac_component::Types;
 use wac_wit_names::{
@@ -41,7 +43,7 @@ pub enum PairError {
 /// Files of one group are one package; a package that is written inside a file is one too. All
 /// that is named has to be there. What stands under a feature that is off isn't.
 ///
-/// Where files are refused, what else is wrong in them is looked for, and up to
+/// Where files are refused, what else is wrong in them is looked for, and one to
 /// [`MAX_REFUSALS`](super::MAX_REFUSALS) refusals are answered: of the syntax of all files, and
 /// where that is right, of what they name. After a refusal the collection may have entries that
 /// nothing leads to.
@@ -53,6 +55,7 @@ pub fn read_packages(
 ) -> Result<Wit, WitError>
     ensures read { IfOk result (AreOfTexts files.now features.entry types.new) }
     ensures refused { IfErr result (AreRefusedFor files.now features.entry) }
+    ensures told { IfErr result (TellsRefusals files.now) }
 {
     let documents = documents_of(alloc, files)?;
     let sources = SourceTrees {
@@ -77,6 +80,7 @@ pub fn read_both(
     ensures old { IfOk result (λ pair. AreOfTexts old.now features.entry types.new pair.old) }
     ensures new { IfOk result (λ pair. AreOfTexts new.now features.entry types.new pair.new) }
     ensures refused { IfErr result (IsPairRefused old.now new.now features.entry) }
+    ensures told { IfErr result (TellsPairRefusals old.now new.now) }
 {
     let documents = match documents_of(alloc, old) {
         Ok(documents) => documents,
@@ -94,11 +98,12 @@ pub fn read_both(
 fn documents_of(alloc: Global, files: &[SourceFile]) -> Result<Vec<Document>, WitError>
     ensures read { IfOk result (λ documents. AreParsed files.now documents.items) }
     ensures refused { (features : FeaturesOf) → IfErr result (AreRefusedFor files.now features) }
+    ensures told { IfErr result (TellsRefusals files.now) }
 {
     let mut refusals = Vec::new(alloc);
     match parsed(alloc, files, &mut refusals) {
         Ok(Some(documents)) => Ok(documents),
-        Ok(None) => Err(WitError::Refused(refusals)),
+        Ok(None) => Err(told(files, WitError::Refused(refusals))),
         Err(_) => Err(WitError::Memory),
     }
 }
@@ -131,7 +136,7 @@ fn push_misread(
     file: usize,
     error: SyntaxError,
 ) -> Result<(), AllocError>
-    ensures { OnOk result ((files : List FileOf) (features : FeaturesOf) → IsMisread files file error → AllRefusedFor files features refusals.old.items → AllRefusedFor files features refusals.new.items) }
+    ensures { OnOk result (AreStillRefused (λ files. IsMisread files file error) refusals.old.items refusals.new.items) }
 {
     match error {
         SyntaxError::Refused(misread) => push_all(refusals, file, misread),
@@ -144,7 +149,7 @@ fn push_all(
     file: usize,
     misread: Vec<Refusal>,
 ) -> Result<(), AllocError>
-    ensures { OnOk result ((files : List FileOf) (features : FeaturesOf) → AreMisread files file misread.items → AllRefusedFor files features refusals.old.items → AllRefusedFor files features refusals.new.items) }
+    ensures { OnOk result (AreStillRefused (λ files. AreMisread files file misread.items) refusals.old.items refusals.new.items) }
 {
     for refusal in misread {
         if refusals.len() < MAX_REFUSALS {
@@ -171,6 +176,7 @@ fn error_of(fault: Fault, mut refusals: Refusals) -> WitError {
 fn read(alloc: Global, types: &mut Types, sources: &SourceTrees<'_>) -> Result<Wit, WitError>
     ensures read { IfOk result (AreReadPackages (sources_in sources.now) types.new) }
     ensures refused { IsRefusedIn sources.now result }
+    ensures told { IfErr result (TellsRefusals sources.now.files.now) }
 {
     let resolved = resolve(alloc, types, sources)?;
     check(alloc, types, &resolved)?;
@@ -185,11 +191,15 @@ fn resolve<'a>(
 ) -> Result<Resolved<'a>, WitError>
     ensures made { IfOk result (λ r. r.sources ≡ sources.now) }
     ensures refused { IsRefusedIn sources.now result }
+    ensures told { IfErr result (TellsRefusals sources.now.files.now) }
 {
     let mut refusals = Refusals::new(alloc);
     match Resolved::new(alloc, types, sources, &mut refusals) {
         Ok(resolved) => Ok(resolved),
-        Err(fault) => Err(confirmed(alloc, sources, error_of(fault, refusals))),
+        Err(fault) => Err(told(
+            sources.files,
+            confirmed(alloc, sources, error_of(fault, refusals)),
+        )),
     }
 }
 
@@ -197,6 +207,7 @@ fn resolve<'a>(
 fn check(alloc: Global, types: &Types, of: &Resolved<'_>) -> Result<(), WitError>
     ensures read { OnOk result (ResolvesSources types.now of.now) }
     ensures refused { (files : List FileOf) (features : FeaturesOf) → IfErr result (AreRefusedFor files features) }
+    ensures told { (files : List FileOf) → IfErr result (TellsRefusals files) }
 {
     match of.is_denoted(alloc, types) {
         Ok(true) => Ok(()),
@@ -215,6 +226,7 @@ fn read_pair(
     ensures old { IfOk result (λ pair. AreReadPackages (sources_in old.now) types.new pair.old) }
     ensures new { IfOk result (λ pair. AreOfTexts new.now old.now.features types.new pair.new) }
     ensures refused { AreParsed old.now.files.now old.now.documents.now → IfErr result (IsPairRefused old.now.files.now new.now old.now.features) }
+    ensures told { IfErr result (TellsPairRefusals old.now.files.now new.now) }
 {
     let resolved = match resolve(alloc, types, old) {
         Ok(resolved) => resolved,
@@ -238,6 +250,7 @@ fn read_new(
     ensures old { OnOk result (ResolvesSources types.new old.now) }
     ensures new { IfOk result (AreOfTexts new.now features.entry types.new) }
     ensures refused { (files : List FileOf) → IfErr result (IsPairRefused files new.now features.entry) }
+    ensures told { (files : List FileOf) → IfErr result (TellsPairRefusals files new.now) }
 {
     let documents = match documents_of(alloc, new) {
         Ok(documents) => documents,
@@ -261,6 +274,7 @@ fn read_beside(
     ensures old { OnOk result (ResolvesSources types.new old.now) }
     ensures new { IfOk result (AreReadPackages (sources_in new.now) types.new) }
     ensures refused { (files : List FileOf) → AreParsed new.now.files.now new.now.documents.now → IfErr result (IsPairRefused files new.now.files.now new.now.features) }
+    ensures told { (files : List FileOf) → IfErr result (TellsPairRefusals files new.now.files.now) }
 {
     let resolved = match resolve(alloc, types, new) {
         Ok(resolved) => resolved,

@@ -8,7 +8,11 @@ use Rattle.wac_types.specs.Order.{Fits}
 use Rattle.wac_types.specs.Text.{Text}
 use Rattle.wac_wit_scopes.specs.Parsed.{AreParsed}
 use Rattle.wac_wit.specs.Read.{ListsAll, SaysOneThing}
+use Rattle.wac_wit.specs.Reading.{IsPairRefused}
+use Rattle.wac_wit.specs.Refusals.{TellsPairRefusals}
 use Rattle.wac_wit.specs.declared.packages.WitPackage.{WitPackage}
+use Rattle.wac_wit.specs.declared.reading.PairError.{PairError}
+use Rattle.wac_wit.specs.declared.reading.PairError.TheVariants as pair
 use Rattle.wac_wit_names.specs.declared.features.Features.{Features}
 use Rattle.wac_wit_names.specs.declared.sources.SourceFile.{SourceFile}
 use Rattle.wac_wit_syntax.specs.declared.tree.Document.{Document}
@@ -26,6 +30,8 @@ use Rattle.wac_wit_changes.specs.declared.report.Promise.{Promise}
 use Rattle.wac_wit_changes.specs.declared.report.Promise.TheVariants.{Same}
 use Rattle.wac_wit_changes.specs.declared.report.ReportSort.TheVariants.{Interface, World}
 use Rattle.wac_wit_changes.specs.declared.texts.ComparedTexts.{ComparedTexts}
+use Rattle.wac_wit_changes.specs.declared.texts.TextsError.{TextsError}
+use Rattle.wac_wit_changes.specs.declared.texts.TextsError.TheVariants as why
 
 -- a package of this one's name and version has an interface of this name in what is read, and its text denotes the tree
 pub record DenotesInterface (of : WitSources) (p : WitPackage) (name : Text) (tree : ItemTree) : Type 0 where
@@ -103,3 +109,14 @@ pub record ComparesTexts (old new : List SourceFile) (features : Features) (t : 
   pub old_clear : SaysOneThing (sources_of old old_trees features)
   pub new_clear : SaysOneThing (sources_of new new_trees features)
   pub each : AllZip (IsTextReportOn (sources_of old old_trees features) (sources_of new new_trees features) t.new.packages.items) t.old.packages.items t.reports.items
+
+-- old files or new ones aren't read: each reason that is named holds of them, and the refusals are listed
+pub record AreNotRead (old new : List SourceFile) (features : Features) (error : PairError) : Type 0 where
+  pub reasons : IsPairRefused old new features error
+  pub told : TellsPairRefusals old new error
+
+-- why texts aren't compared: so, where one of the two isn't read
+abbrev pub AreNotCompared : List SourceFile → List SourceFile → Features → TextsError → Type 0
+AreNotCompared old new features (why.Old e) = AreNotRead old new features (pair.Old e)
+AreNotCompared old new features (why.New e) = AreNotRead old new features (pair.New e)
+AreNotCompared old new features (why.Entry e) = Unit {0}

@@ -1,8 +1,8 @@
 //! Compares the packages of texts.
 
-ghost use Rattle.std.specs.Prelude.{IfOk};
+ghost use Rattle.std.specs.Prelude.{IfErr, IfOk};
 ghost use Rattle.wac_wit.specs.Read.{AreOfTexts};
-ghost use Rattle.wac_wit_changes.specs.Texts.{ComparesTexts};
+ghost use Rattle.wac_wit_changes.specs.Texts.{AreNotCompared, ComparesTexts};
 ghost use Rattle.wac_wit_names.specs.declared.features.Features.{Features};
 
 use super::packages::{Read, compare};
@@ -36,15 +36,6 @@ pub enum TextsError {
     Entry(EntryError),
 }
 
-impl From<PairError> for TextsError {
-    fn from(error: PairError) -> TextsError {
-        match error {
-            PairError::Old(error) => TextsError::Old(error),
-            PairError::New(error) => TextsError::New(error),
-        }
-    }
-}
-
 /// Reads old texts and new ones, and says of each interface and each world of the old packages
 /// whether the new ones serve whoever was built against it, as [`compare`] does.
 pub fn compare_texts(
@@ -53,12 +44,14 @@ pub fn compare_texts(
     new: &[SourceFile],
     features: Features<'_>,
 ) -> Result<ComparedTexts, TextsError>
-    ensures { IfOk result (ComparesTexts old.now new.now features.entry) }
+    ensures compared { IfOk result (ComparesTexts old.now new.now features.entry) }
+    ensures refused { IfErr result (AreNotCompared old.now new.now features.entry) }
 {
     let mut types = Types::new(alloc, 1);
     match read_both(alloc, &mut types, old, new, features) {
         Ok(pair) => compare_pair(alloc, types, pair, old, new),
-        Err(error) => Err(TextsError::from(error)),
+        Err(PairError::Old(error)) => Err(TextsError::Old(error)),
+        Err(PairError::New(error)) => Err(TextsError::New(error)),
     }
 }
 
@@ -70,7 +63,8 @@ fn compare_pair(
     old: &[SourceFile],
     new: &[SourceFile],
 ) -> Result<ComparedTexts, TextsError>
-    ensures { (features : Features) → AreOfTexts old.now features types pair.old → AreOfTexts new.now features types pair.new → IfOk result (ComparesTexts old.now new.now features) }
+    ensures compared { (features : Features) → AreOfTexts old.now features types pair.old → AreOfTexts new.now features types pair.new → IfOk result (ComparesTexts old.now new.now features) }
+    ensures refused { (features : Features) → IfErr result (AreNotCompared old.now new.now features) }
 {
     let WitPair {
         old: before,

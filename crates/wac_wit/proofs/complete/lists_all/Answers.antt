@@ -1,4 +1,4 @@
-use Rattle.std.proofs.Common.{Contains, List, subst}
+use Rattle.std.proofs.Common.{List, subst}
 use Rattle.std.proofs.lemmas.Result.{IfOk-weaker}
 use Rattle.wac_wit_validation.specs.declared.listing.PackageListing.{PackageListing}
 use Rattle.wac_wit_validation.specs.Listing.{AreAllListed}

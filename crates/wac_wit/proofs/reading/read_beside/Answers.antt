@@ -8,3 +8,12 @@ returns-in-Err-check-clause-refused c = λ files parsed. c.in-Err-check.ensures.
 
 pub returns-in-Err-check-2-clause-refused : goal.returns-in-Err-check-2-clause-refused
 returns-in-Err-check-2-clause-refused c = λ files parsed. c.in-Err-check-2.ensures.refused c.args.new.now.files.now c.args.new.now.features
+
+pub returns-in-Err-clause-told : goal.returns-in-Err-clause-told
+returns-in-Err-clause-told c = λ files. c.in-Err.ensures.told
+
+pub returns-in-Err-check-clause-told : goal.returns-in-Err-check-clause-told
+returns-in-Err-check-clause-told c = λ files. c.in-Err-check.ensures.told files
+
+pub returns-in-Err-check-2-clause-told : goal.returns-in-Err-check-2-clause-told
+returns-in-Err-check-2-clause-told c = λ files. c.in-Err-check-2.ensures.told c.args.new.now.files.now

@@ -8,3 +8,9 @@ returns-clause-old c = told_of c.read_pair.result _ _ c.read_pair.ensures.old (Î
 
 pub returns-in-Err-clause-refused : goal.returns-in-Err-clause-refused
 returns-in-Err-clause-refused c = c.in-Err.ensures.refused c.args.features
+
+pub returns-in-Err-clause-told : goal.returns-in-Err-clause-told
+returns-in-Err-clause-told c = c.in-Err.ensures.told
+
+pub returns-clause-told : goal.returns-clause-told
+returns-clause-told c = c.read_pair.ensures.told

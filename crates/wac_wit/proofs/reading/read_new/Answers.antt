@@ -11,3 +11,9 @@ returns-in-Err-clause-refused c = λ files. c.in-Err.ensures.refused c.args.feat
 
 pub returns-clause-refused : goal.returns-clause-refused
 returns-clause-refused c = λ files. c.read_beside.ensures.refused files (subst (AreParsed c.args.new.now) (sym c.deref.ensures.value) c.in-Ok.ensures.read)
+
+pub returns-in-Err-clause-told : goal.returns-in-Err-clause-told
+returns-in-Err-clause-told c = λ files. c.in-Err.ensures.told
+
+pub returns-clause-told : goal.returns-clause-told
+returns-clause-told c = λ files. c.read_beside.ensures.told files

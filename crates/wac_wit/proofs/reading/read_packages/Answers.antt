@@ -1,6 +1,7 @@
 use Rattle.std.proofs.Common.{subst, sym}
 use Rattle.wac_wit_refusals.specs.Reasons.{AreRefusedFor}
 use Rattle.wac_wit_scopes.specs.Parsed.{AreParsed}
+use Rattle.wac_wit.specs.Refusals.{TellsRefusals}
 use Rattle.wac_wit.proofs.Listing.{err_told, told_of}
 use Rattle.wac_wit.proofs.reading.read_packages.Goals as goal
 
@@ -12,3 +13,6 @@ returns-clause-refused c = c.read.ensures.refused (subst (AreParsed c.args.files
 
 pub returns-in_err-documents-clause-refused : goal.returns-in_err-documents-clause-refused
 returns-in_err-documents-clause-refused c = err_told c.from_residual.result c.in_err-documents.field-0.0 (AreRefusedFor c.args.files.now c.args.features) c.from_residual.ensures (c.in_err-documents.ensures.refused c.args.features)
+
+pub returns-in_err-documents-clause-told : goal.returns-in_err-documents-clause-told
+returns-in_err-documents-clause-told c = err_told c.from_residual.result c.in_err-documents.field-0.0 (TellsRefusals c.args.files.now) c.from_residual.ensures c.in_err-documents.ensures.told
