@@ -40,7 +40,8 @@ pub(crate) struct Builder<'b> {
     pub(crate) needs: Vec<usize>,
     /// The defined types that were made, in order.
     pub(crate) defined: Vec<DefinedTypeId>,
-    /// Whether no import and no export was refused, nor an `include`.
+    /// Whether no import and no export was refused, nor an `include`, nor anything of a world that
+    /// is included.
     pub(crate) is_whole: bool,
     /// The place of the last `include` that was refused since it brings a name that is there.
     told_twice: Option<Span>,

@@ -183,6 +183,10 @@ impl Builder<'_> {
         let Some(node) = all.both_sides(thing) else {
             return Ok(());
         };
+        if !self.is_whole {
+            // what was refused may export it
+            return Err(Fault::Known);
+        }
         let Some(of) = all.written.get(index) else {
             return Err(Fault::Missing);
         };

@@ -21,6 +21,9 @@ impl<'b> Builder<'b> {
             return Ok(());
         }
         let world = self.included_world(item)?;
+        if !world.is_whole {
+            self.is_whole = false;
+        }
         self.check_renames(item, world)?;
         let mut renaming = Renaming::new(self.alloc, item)?;
         self.rename_types(&mut renaming, world)?;

@@ -212,7 +212,7 @@ impl Drop for WorldExterns {
 pub(crate) struct MadeWorld {
     pub(crate) id: WorldId,
     pub(crate) sides: WorldExterns,
-    /// Whether nothing of it was refused.
+    /// Whether nothing of it was refused, nor of the worlds that it includes.
     pub(crate) is_whole: bool,
     /// The types among the imports.
     pub(crate) names: TypeNames,
