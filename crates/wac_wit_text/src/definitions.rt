@@ -1,23 +1,24 @@
 //! Writes types with names, and functions.
 
+use super::methods::{Method, Methods};
 use super::printer::{DEPTH, Printer};
 use indexmap::{IndexMap, IndexSet};
 use std::alloc::AllocError;
 use wac_component::{
-    DefinedType, DefinedTypeId, FuncType, FuncTypeId, ItemKind, ResourceId, Type, ValueType,
+    DefinedType, DefinedTypeId, FuncType, FuncTypeId, ResourceId, Type, ValueType,
 };
 use wac_wit_entries::{defined_type, func_type, root_of};
 
 impl Printer<'_> {
-    /// Writes the definition of a type. The functions of a resource are among these items.
+    /// Writes the definition of a type. The functions of a resource are among these.
     pub(crate) fn put_definition(
         &mut self,
         name: &str,
         ty: &Type,
-        items: &IndexMap<String, ItemKind>,
+        methods: &Methods<'_>,
     ) -> Result<(), AllocError> {
         match ty {
-            Type::Resource(id) => self.put_resource_definition(name, *id, items),
+            Type::Resource(id) => self.put_resource_definition(name, *id, methods),
             Type::Value(ValueType::Defined(id)) => self.put_defined(name, *id),
             Type::Value(of) => self.put_alias(name, *of),
             Type::Func(_) | Type::Interface(_) | Type::World(_) | Type::Module(_) => Ok(()),
@@ -145,7 +146,7 @@ impl Printer<'_> {
         &mut self,
         name: &str,
         id: ResourceId,
-        items: &IndexMap<String, ItemKind>,
+        methods: &Methods<'_>,
     ) -> Result<(), AllocError> {
         let source = root_of(self.types, id);
         if source != id && self.scope.resources.get(&source).is_some() {
@@ -153,8 +154,8 @@ impl Printer<'_> {
             return self.note_resource(name, id);
         }
         self.note_resource(name, id)?;
-        if has_methods(name, items) {
-            return self.put_methods(name, id, items);
+        if let Some(places) = methods.of(name) {
+            return self.put_methods(name, id, methods, places);
         }
         self.begin()?;
         self.put("resource ")?;
@@ -177,41 +178,33 @@ impl Printer<'_> {
         &mut self,
         name: &str,
         id: ResourceId,
-        items: &IndexMap<String, ItemKind>,
+        methods: &Methods<'_>,
+        places: &[usize],
     ) -> Result<(), AllocError> {
         self.open_named("resource ", name)?;
-        for (full, item) in items {
-            if let ItemKind::Func(func) = item {
-                self.put_method(name, id, full, *func)?;
+        for place in places {
+            if let Some(method) = methods.at(*place) {
+                self.put_method(id, &method)?;
             }
         }
         self.close()
     }
 
-    // Writes a function, if it is one of a resource.
-    fn put_method(
-        &mut self,
-        resource: &str,
-        id: ResourceId,
-        full: &str,
-        func: FuncTypeId,
-    ) -> Result<(), AllocError> {
-        let Some((kind, name)) = method_of(full, resource) else {
-            return Ok(());
-        };
-        let Some(of) = func_type(self.types, func) else {
+    // Writes a function of a resource.
+    fn put_method(&mut self, id: ResourceId, method: &Method<'_>) -> Result<(), AllocError> {
+        let Some(of) = func_type(self.types, method.func) else {
             return Ok(());
         };
         self.begin()?;
-        match kind {
+        match method.kind {
             "constructor" => self.put_constructor(id, of),
             "static" => {
-                self.put_name(name)?;
+                self.put_name(method.name)?;
                 self.put(": static ")?;
                 self.put_signature(of, 0)
             }
             _ => {
-                self.put_name(name)?;
+                self.put_name(method.name)?;
                 self.put(": ")?;
                 self.put_signature(of, 1)
             }
@@ -266,28 +259,5 @@ impl Printer<'_> {
             self.put_type(ty, DEPTH)?;
         }
         self.put(";\n")
-    }
-}
-
-// Whether functions of a resource are among items.
-fn has_methods(resource: &str, items: &IndexMap<String, ItemKind>) -> bool {
-    items.keys().any(|name| method_of(name, resource).is_some())
-}
-
-// The sort and the name of a function of a resource, as of `[method]r.f`.
-fn method_of<'n>(full: &'n str, resource: &str) -> Option<(&'n str, &'n str)> {
-    let (kind, rest) = full.strip_prefix('[')?.split_once(']')?;
-    if kind == "constructor" {
-        return if rest == resource {
-            Some((kind, rest))
-        } else {
-            None
-        };
-    }
-    let (of, name) = rest.split_once('.')?;
-    if of == resource {
-        Some((kind, name))
-    } else {
-        None
     }
 }

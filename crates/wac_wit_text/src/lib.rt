@@ -7,6 +7,7 @@
 #![tactic(auto)]
 
 mod definitions;
+mod methods;
 mod printer;
 mod writing;
 

@@ -1,5 +1,6 @@
 //! Writes interfaces and worlds, and what a package begins with.
 
+use super::methods::Methods;
 use super::printer::{Printer, TypeScope};
 use indexmap::IndexMap;
 use std::alloc::AllocError;
@@ -84,11 +85,12 @@ impl<'t> Printer<'t> {
         if open.is_some() {
             self.put("};\n")?;
         }
+        let methods = Methods::among(self.alloc, items)?;
         for (name, item) in items {
             if let ItemKind::Type(ty) = item
                 && uses.get(name.as_str()).is_none()
             {
-                self.put_definition(name, ty, items)?;
+                self.put_definition(name, ty, &methods)?;
             }
         }
         Ok(())
