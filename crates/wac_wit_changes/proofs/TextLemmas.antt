@@ -75,7 +75,7 @@ module _ (c d : Collection) (grows : Extends c d) where
 
   -- so is a world
   world_still : (of : WitSources) (p : WitPackage) (n : Text) (id : Id) → IsWorldOf of c (string_bytes p.name) (option_map string_bytes p.version) n id → DenotesWorld of p n (item_tree d (Component id))
-  world_still of p n id w = record { written = w.written; is = w.is; is_tree = subst (IsWorldTree of w.written) (sym (grows.trees (Component id) (w.stands, tt))) w.tree }
+  world_still of p n id w = record { written = w.written; is = w.is; is_tree = subst (IsWorldTree of w.written) (sym (grows.trees (Component id) (w.stands, tt))) w.tree; one = w.one }
 
   module _ (olds news : WitSources) (old new : WitPackage) (e : String Global × Id) (item : ComparedItem) (olds_read : IsReadPackage olds c old) (news_read : IsReadPackage news c new) where
     -- where the new package has an interface of the name

@@ -18,6 +18,7 @@ use Rattle.wac_wit_names.specs.declared.sources.SourceFile.{SourceFile}
 use Rattle.wac_wit_syntax.specs.declared.tree.Document.{Document}
 use Rattle.wac_wit_syntax.specs.declared.tree.InterfaceDecl.{InterfaceDecl}
 use Rattle.wac_wit_validation.specs.Interfaces.{IsInterfaceTree}
+use Rattle.wac_wit_validation.specs.OneWorld.{HasOneExtern}
 use Rattle.wac_wit_validation.specs.Placed.{PlacedWorld}
 use Rattle.wac_wit_validation.specs.Validated.{IsWorldNamed, package_text}
 use Rattle.wac_wit_scopes.specs.WitSources.{HasInterface, ScopeSyntax, WitSources, sources_of}
@@ -57,11 +58,13 @@ pub record IsTextItem (olds news : WitSources) (old new : WitPackage) (name : St
   pub denoted : DenotesInterface olds old (string_bytes name) tree
   pub verdict : IsTextVerdict news new (string_bytes name) tree item
 
--- a package of this one's name and version has a world of this name in what is read, and its text denotes the tree
+-- a package of this one's name and version has a world of this name in what is read, and its text denotes the tree, where each
+-- name stands for one item
 pub record DenotesWorld (of : WitSources) (p : WitPackage) (name : Text) (tree : ItemTree) : Type 0 where
   pub written : PlacedWorld
   pub is : IsWorldNamed of (string_bytes p.name) (option_map string_bytes p.version) name written
   pub is_tree : IsWorldTree of written tree
+  pub one : HasOneExtern of written
 
 -- what the item says of an old world of this name, whose text denotes the tree
 pub data IsWorldVerdict (news : WitSources) (new : WitPackage) (p : Promise) (name : Text) (tree : ItemTree) (item : ComparedItem) : Type 0 where

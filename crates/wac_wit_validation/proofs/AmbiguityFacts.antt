@@ -17,13 +17,13 @@ use Rattle.wac_wit_syntax.specs.declared.tree.TopUse.{TopUse}
 use Rattle.wac_wit_scopes.proofs.PathFacts.{no_value}
 use Rattle.wac_wit_validation.specs.Ambiguity.{GiveNamesOnce, KeepsNoted, HasFreeUses, IsFreeUse, NotesItems, item_identifier, item_use_name, use_name}
 use Rattle.wac_wit_scopes.specs.Scopes.{HasScope, scope_syntax}
-use Rattle.wac_wit_validation.specs.Placed.{IsUnambiguous}
+use Rattle.wac_wit_validation.specs.Placed.{HaveOwnIdentifiers, IsUnambiguous}
 use Rattle.wac_wit_scopes.specs.WitSources.{HaveOneName, IsNamedPackage, IsOnlyVersion, IsPackageOf, IsScopeOf, PackageId, PathLeadsTo, ScopeSyntax, WitSources, by_use, directly, exactly, ident_text, interface_identifier, package_id, alone}
 use Rattle.wac_wit_scopes.specs.declared.scopes.ScopeItems.{ScopeItems}
 use Rattle.wac_wit_validation.specs.declared.validator.ItemPlace.{ItemPlace}
 
 -- an item that was noted where nothing was noted before
-module _ (before after : Text → Option ItemPlace) (k : Text) (p : ItemPlace) (updates : (q : Text) → after q ≡ cond (bytes_eq k q) (Some p) (before q)) where
+module _ {A : Type 0} (before after : Text → Option A) (k : Text) (p : A) (updates : (q : Text) → after q ≡ cond (bytes_eq k q) (Some p) (before q)) where
   at_key : (q : Text) (b : Bool) → bytes_eq k q ≡ b → after q ≡ cond b (Some p) (before q)
   at_key q b is = updates q ∙ ap (λ c. cond c (Some p) (before q)) is
 
@@ -48,10 +48,10 @@ none_copied o b none is = ap option_copied (none_told o b none is)
 pub noted_under : {E : Type 0} (r : Result Bool E) (noted : Text → Option ItemPlace) (p : ItemPlace) (o : Option Text) (key : Text) → o ≡ Some key → IfOk r (λ is. IsTrue is → noted key ≡ Some p) → IfOk r (λ is. IsTrue is → (k : Text) → o ≡ Some k → noted k ≡ Some p)
 noted_under r noted p o key is = IfOk-weaker r _ _ (λ b h yes k at. subst (λ (q : Text). noted q ≡ Some p) (same_Some key k (sym is ∙ at)) (h yes))
 
-pub KeepsNoted-none : (a : Text → Option ItemPlace) → KeepsNoted a a
+pub KeepsNoted-none : {A : Type 0} (a : Text → Option A) → KeepsNoted a a
 KeepsNoted-none a k p h = h
 
-pub KeepsNoted-then : (a b c : Text → Option ItemPlace) → KeepsNoted a b → KeepsNoted b c → KeepsNoted a c
+pub KeepsNoted-then : {A : Type 0} (a b c : Text → Option A) → KeepsNoted a b → KeepsNoted b c → KeepsNoted a c
 KeepsNoted-then a b c f g k p h = g k p (f k p h)
 
 -- the items before an index are noted
@@ -221,3 +221,10 @@ unambiguous of ws all d = record {
       let decls : i.decl ≡ j.decl = let h = both.1 in cc in
       λ k. record { scope = both.0 k; decl = decls k };
 }
+
+-- so no two interfaces have one identifier
+pub own_identifiers : (of : WitSources) (ws : List ScopeItems) → ((w : ScopeSyntax) → IsScopeOf of w → HasScope ws w) → GiveNamesOnce ws → HaveOwnIdentifiers of
+own_identifiers of ws all d i j n m a b same =
+    let both = one_item ws d i.scope j.scope (top.Interface i.decl) (top.Interface j.decl) (interface_identifier i.scope.package (ident_text i.decl.name)) (all i.scope a.scope) (all j.scope b.scope) a.item b.item refl (ap Some (sym same)) in
+    let decls : i.decl ≡ j.decl = let h = both.1 in cc in
+    λ k. record { scope = both.0 k; decl = decls k }

@@ -53,6 +53,9 @@ knows_kept of v w features scopes types knows found = record {
   found = λ f among. elim (found f among) [ inl old ↦ found_kept of v w scopes types f (knows.found f old) | inr new ↦ found_kept of v w scopes types f new ];
   unambiguous = knows.unambiguous;
   one_meaning = knows.one_meaning;
+  given_once = knows.given_once;
+  one_item = knows.one_item;
+  identified = knows.identified;
 }
 
 -- what stands at a place is one of them

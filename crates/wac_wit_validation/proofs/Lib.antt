@@ -19,3 +19,6 @@ pub mod OriginFacts
 pub mod WorldOrigins
 pub mod LawFacts
 pub mod OneExport
+pub mod GivenFacts
+pub mod Resettled
+pub mod OneWorld

@@ -20,79 +20,58 @@ use Rattle.wac_wit_validation.specs.Ambiguity.{KeepsNoted}
 use Rattle.wac_wit_scopes.specs.Scopes.{HasScope}
 use Rattle.wac_wit_validation.specs.Denoted.{Setting, funcs_in, interface_setting, types_in}
 use Rattle.wac_wit_validation.specs.Functions.{method_name}
-use Rattle.wac_wit_validation.specs.Once.{HasFeatures, InsideGivesOnce, ItemsGiveOnce, NotesInner, NotesMethod}
+use Rattle.wac_wit_validation.proofs.GivenFacts.{GivesNewName-kept, GivesTypeItem-kept, GivesUseItem-kept}
+use Rattle.wac_wit_validation.specs.GivenNames.{GivesNewName, HasFeatures}
+use Rattle.wac_wit_validation.specs.Once.{GivesInnerAt, InsideGivesOnce, ItemsGiveOnce}
 use Rattle.wac_wit_validation.specs.OneMeaning.{AllGiveOnce, GivesOnce, GivesType, GivesUse}
 use Rattle.wac_wit_scopes.specs.WitSources.{HasInterface, IsEnabled, IsScopeOf, ScopeSyntax, WitSources, given_name, ident_text}
 use Rattle.wac_wit_scopes.specs.declared.scopes.ScopeItems.{ScopeItems}
-use Rattle.wac_wit_validation.specs.declared.validator.ItemPlace.{ItemPlace}
+use Rattle.wac_wit_validation.specs.declared.given.NamePlace.{NamePlace}
 
 pub IfOk-both : {X Y : Type 0} (r : Result X Y) (P Q R : X → Type 0) → ((x : X) → P x → Q x → R x) → IfOk r P → IfOk r Q → IfOk r R
 IfOk-both (Ok x) P Q R f p q = f x p q
 IfOk-both (Err e) P Q R f p q = tt
 
--- a name that a `use` gives is noted
-abbrev pub NotesRename : (Text → Option ItemPlace) → ℕ → ℕ → Rename → Type 0
-NotesRename given i j r = given (given_name r.name r.alias) ≡ Some (record { scope = i; item = j })
+pub GivesInnerAt-kept : (of : WitSources) (a b : Text → Option NamePlace) → KeepsNoted a b → (i : ℕ) (t : InterfaceItem) → GivesInnerAt of a i t → GivesInnerAt of b i t
+GivesInnerAt-kept of a b keeps i (inside.Use u) h = GivesUseItem-kept a b keeps of (λ n. Some n) (record { layer = 0; item = i; part = 0 }) u h
+GivesInnerAt-kept of a b keeps i (inside.Type t) h = GivesTypeItem-kept a b keeps of (λ n. Some n) (record { layer = 0; item = i; part = 0 }) t h
+GivesInnerAt-kept of a b keeps i (inside.Func f) h = λ there. GivesNewName-kept a b keeps (λ n. Some n) (ident_text f.name) (record { layer = 0; item = i; part = 0 }) (h there)
 
-pub NotesRename-kept : (a b : Text → Option ItemPlace) (i : ℕ) → KeepsNoted a b → (j : ℕ) (r : Rename) → NotesRename a i j r → NotesRename b i j r
-NotesRename-kept a b i keeps j r h = keeps (given_name r.name r.alias) _ h
-
-pub NotesInner-kept : (of : WitSources) (a b : Text → Option ItemPlace) → KeepsNoted a b → (i : ℕ) (t : InterfaceItem) → NotesInner of a i t → NotesInner of b i t
-NotesInner-kept of a b keeps i (inside.Use u) h = λ there j r at. keeps (given_name r.name r.alias) _ (h there j r at)
-NotesInner-kept of a b keeps i (inside.Type t) h = λ there. record {
-  own = keeps (ident_text t.name) _ (h there).own;
-  funcs = λ ms is j m at on. keeps (method_name m.kind (ident_text t.name) (ident_text m.name)) _ ((h there).funcs ms is j m at on);
-}
-NotesInner-kept of a b keeps i (inside.Func f) h = λ there. keeps (ident_text f.name) _ (h there)
-
--- what is noted for each sort of item
-pub NotesInner-type : (of : WitSources) (given : Text → Option ItemPlace) (i : ℕ) (x : InterfaceItem) (t : TypeItem) → x ≡ inside.Type t → NotesInner of given i (inside.Type t) → NotesInner of given i x
-NotesInner-type of given i x t is h = subst (NotesInner of given i) (sym is) h
-
-pub NotesInner-use : (of : WitSources) (given : Text → Option ItemPlace) (i : ℕ) (x : InterfaceItem) (u : UseItem) → x ≡ inside.Use u → NotesInner of given i (inside.Use u) → NotesInner of given i x
-NotesInner-use of given i x u is h = subst (NotesInner of given i) (sym is) h
-
-pub NotesInner-func : (of : WitSources) (given : Text → Option ItemPlace) (i : ℕ) (x : InterfaceItem) (f : FuncItem) → x ≡ inside.Func f → NotesInner of given i (inside.Func f) → NotesInner of given i x
-NotesInner-func of given i x f is h = subst (NotesInner of given i) (sym is) h
-
--- a resource's function is noted with one more than its index
-abbrev pub NotesMethodAt : WitSources → (Text → Option ItemPlace) → ℕ → Text → ℕ → Method → Type 0
-NotesMethodAt of given i r j m = NotesMethod of given r (record { scope = i; item = j + 1 }) m
-
-pub NotesMethodAt-kept : (of : WitSources) (a b : Text → Option ItemPlace) (i : ℕ) (r : Text) → KeepsNoted a b → (j : ℕ) (m : Method) → NotesMethodAt of a i r j m → NotesMethodAt of b i r j m
-NotesMethodAt-kept of a b i r keeps j m h = λ on. keeps (method_name m.kind r (ident_text m.name)) _ (h on)
+-- a name that stays
+given_itself : (given : Text → Option NamePlace) (n m : Text) (p : NamePlace) → n ≡ m → GivesNewName given (λ k. Some k) n p → given m ≡ Some p
+given_itself given n m p named h = ap given (sym named ∙ same_Some n h.becomes h.is) ∙ h.given_at.at
 
 -- names that are noted are given once
 module _ (of : WitSources) (w : ScopeSyntax) (is : List InterfaceItem) (all : InsideGivesOnce of is) where
   abbrev setting : Setting
   setting = interface_setting of w is
 
-  pub type_place : (n : Text) (t : TypeItem) → GivesType setting n t → (i : ℕ) × (slice_get is i ≡ Some (inside.Type t)) × (all.given n ≡ Some (record { scope = i; item = 0 }))
+  pub type_place : (n : Text) (t : TypeItem) → GivesType setting n t → (i : ℕ) × (slice_get is i ≡ Some (inside.Type t)) × (all.given n ≡ Some (record { layer = 0; item = i; part = 0 }))
   type_place n t h =
       let among = offered_items of w is (inside.Type t) h.among in
       let at = slice_get-among is (inside.Type t) among in
-      (among.0, at, subst (λ (k : Text). all.given k ≡ Some (record { scope = among.0; item = 0 })) h.named (all.notes among.0 (inside.Type t) at h.there).own)
+      (among.0, at, given_itself all.given (ident_text t.name) n _ h.named (all.gives among.0 (inside.Type t) at h.there).own)
 
-  pub use_place : (n : Text) (u : UseItem) (r : Rename) → GivesUse setting n u r → (i : ℕ) × (slice_get is i ≡ Some (inside.Use u)) × (j : ℕ) × (slice_get u.names.items j ≡ Some r) × (all.given n ≡ Some (record { scope = i; item = j }))
+  pub use_place : (n : Text) (u : UseItem) (r : Rename) → GivesUse setting n u r → (i : ℕ) × (slice_get is i ≡ Some (inside.Use u)) × (j : ℕ) × (slice_get u.names.items j ≡ Some r) × (all.given n ≡ Some (record { layer = 0; item = i; part = j }))
   use_place n u r h =
       let among = offered_items of w is (inside.Use u) h.among in
       let at = slice_get-among is (inside.Use u) among in
       let within = slice_get-among u.names.items r h.within in
-      (among.0, at, h.within.0, within, subst (λ (k : Text). all.given k ≡ Some (record { scope = among.0; item = h.within.0 })) h.named (all.notes among.0 (inside.Use u) at h.there h.within.0 r within))
+      (among.0, at, h.within.0, within, given_itself all.given (given_name r.name r.alias) n _ h.named (all.gives among.0 (inside.Use u) at h.there h.within.0 r within))
 
-  pub func_place : (f : FuncItem) → Contains (funcs_in is) f → IsEnabled of f.gates → (i : ℕ) × (slice_get is i ≡ Some (inside.Func f)) × (all.given (ident_text f.name) ≡ Some (record { scope = i; item = 0 }))
+  pub func_place : (f : FuncItem) → Contains (funcs_in is) f → IsEnabled of f.gates → (i : ℕ) × (slice_get is i ≡ Some (inside.Func f)) × (all.given (ident_text f.name) ≡ Some (record { layer = 0; item = i; part = 0 }))
   func_place f f_in on =
       let among = offered_items of w is (inside.Func f) f_in in
       let at = slice_get-among is (inside.Func f) among in
-      (among.0, at, all.notes among.0 (inside.Func f) at on)
+      (among.0, at, given_itself all.given (ident_text f.name) (ident_text f.name) _ refl (all.gives among.0 (inside.Func f) at on))
 
   pub method_place : (t : TypeItem) (ms : Vec Method Global) (m : Method) → Contains (types_in is) t → IsEnabled of t.gates → t.def ≡ def.Resource ms → Contains ms.items m → IsEnabled of m.gates
-      → (i : ℕ) × (slice_get is i ≡ Some (inside.Type t)) × (j : ℕ) × (slice_get ms.items j ≡ Some m) × (all.given (method_name m.kind (ident_text t.name) (ident_text m.name)) ≡ Some (record { scope = i; item = j + 1 }))
+      → (i : ℕ) × (slice_get is i ≡ Some (inside.Type t)) × (j : ℕ) × (slice_get ms.items j ≡ Some m) × (all.given (method_name m.kind (ident_text t.name) (ident_text m.name)) ≡ Some (record { layer = 0; item = i; part = j + 1 }))
   method_place t ms m t_in t_on is_resource m_in m_on =
       let among = offered_items of w is (inside.Type t) t_in in
       let at = slice_get-among is (inside.Type t) among in
       let within = slice_get-among ms.items m m_in in
-      (among.0, at, m_in.0, within, (all.notes among.0 (inside.Type t) at t_on).funcs ms is_resource m_in.0 m within m_on)
+      (among.0, at, m_in.0, within, ((all.gives among.0 (inside.Type t) at t_on).funcs ms is_resource (ident_text t.name) refl m_in.0 m within m_on).at)
 
   one_type : (t x : TypeItem) → inside.Type t ≡ inside.Type x → t ≡ x
   one_type t x e = cc
@@ -103,24 +82,24 @@ module _ (of : WitSources) (w : ScopeSyntax) (is : List InterfaceItem) (all : In
   one_sort : (t : TypeItem) (u : UseItem) → inside.Type t ≡ inside.Use u → ⊥
   one_sort t u e = absurd (cc)
 
-  once_inside : GivesOnce setting
+  pub once_inside : GivesOnce setting
   once_inside = record {
     types = λ n t x a b.
         let p = type_place n t a in
         let q = type_place n x b in
         let place = same_Some _ _ (sym p.2 ∙ q.2) in
-        one_type t x (same_Some _ _ (sym p.1 ∙ ap (λ (o : ItemPlace). slice_get is o.scope) place ∙ q.1));
+        one_type t x (same_Some _ _ (sym p.1 ∙ ap (λ (o : NamePlace). slice_get is o.item) place ∙ q.1));
     uses = λ n u v r s a b.
         let p = use_place n u r a in
         let q = use_place n v s b in
         let place = same_Some _ _ (sym p.4 ∙ q.4) in
-        let same = one_use u v (same_Some _ _ (sym p.1 ∙ ap (λ (o : ItemPlace). slice_get is o.scope) place ∙ q.1)) in
-        (same, same_Some _ _ (sym p.3 ∙ (λ k. slice_get (same k).names.items (place k).item) ∙ q.3));
+        let same = one_use u v (same_Some _ _ (sym p.1 ∙ ap (λ (o : NamePlace). slice_get is o.item) place ∙ q.1)) in
+        (same, same_Some _ _ (sym p.3 ∙ (λ k. slice_get (same k).names.items (place k).part) ∙ q.3));
     apart = λ n t u r a b.
         let p = type_place n t a in
         let q = use_place n u r b in
         let place = same_Some _ _ (sym p.2 ∙ q.4) in
-        one_sort t u (same_Some _ _ (sym p.1 ∙ ap (λ (o : ItemPlace). slice_get is o.scope) place ∙ q.1));
+        one_sort t u (same_Some _ _ (sym p.1 ∙ ap (λ (o : NamePlace). slice_get is o.item) place ∙ q.1));
   }
 
 -- where all scopes are among those whose interfaces give names once, all do

@@ -23,7 +23,7 @@ use Rattle.wac_wit_validation.specs.Interfaces.{HasExportOf, a_func, a_method, a
 use Rattle.wac_wit_validation.specs.Once.{InsideGivesOnce}
 use Rattle.wac_wit_validation.specs.OneMeaning.{AllGiveOnce, ExportsStandForOne}
 use Rattle.wac_wit_validation.specs.Placed.{IsUnambiguous}
-use Rattle.wac_wit_validation.specs.declared.validator.ItemPlace.{ItemPlace}
+use Rattle.wac_wit_validation.specs.declared.given.NamePlace.{NamePlace}
 
 -- what is exported under a name, by its sort
 record TypeExport (s : Setting) (n : Text) (x : ItemTree) : Type 0 where
@@ -72,14 +72,14 @@ module _ (of : WitSources) (w : ScopeSyntax) (is : List InterfaceItem) (all : In
 
   -- the place that is noted for a name, and what stands there
   record PlaceOf (n : Text) (i j : ℕ) (e : InterfaceItem) : Type 0 where
-    noted : all.given n ≡ Some (record { scope = i; item = j })
+    noted : all.given n ≡ Some (record { layer = 0; item = i; part = j })
     at : slice_get is i ≡ Some e
 
   same_item : (n : Text) (i j k l : ℕ) (e f : InterfaceItem) → PlaceOf n i j e → PlaceOf n k l f → e ≡ f
-  same_item n i j k l e f p q = same_Some e f (sym p.at ∙ ap (λ (o : ItemPlace). slice_get is o.scope) (same_Some _ _ (sym p.noted ∙ q.noted)) ∙ q.at)
+  same_item n i j k l e f p q = same_Some e f (sym p.at ∙ ap (λ (o : NamePlace). slice_get is o.item) (same_Some _ _ (sym p.noted ∙ q.noted)) ∙ q.at)
 
   same_index : (n : Text) (i j k l : ℕ) (e f : InterfaceItem) → PlaceOf n i j e → PlaceOf n k l f → j ≡ l
-  same_index n i j k l e f p q = ap (λ (o : ItemPlace). o.item) (same_Some _ _ (sym p.noted ∙ q.noted))
+  same_index n i j k l e f p q = ap (λ (o : NamePlace). o.part) (same_Some _ _ (sym p.noted ∙ q.noted))
 
   data TypePlace (n : Text) : Type 0 where
     by_type : (t : TypeItem) (i : ℕ) → PlaceOf n i 0 (inside.Type t) → TypePlace n
@@ -90,7 +90,7 @@ module _ (of : WitSources) (w : ScopeSyntax) (is : List InterfaceItem) (all : In
   place_of_type n m (used u r d among there within named leads has h) = let p = use_place of w is all n u r (record { among = among; there = there; within = within; named = named }) in by_use u p.0 p.2 (record { noted = p.4; at = p.1 })
 
   place_of_func : (n : Text) (x : ItemTree) (f : FuncExport own n x) → (i : ℕ) × PlaceOf n i 0 (inside.Func f.written)
-  place_of_func n x f = let p = func_place of w is all f.written f.among f.there in (p.0, record { noted = subst (λ (k : Text). all.given k ≡ Some (record { scope = p.0; item = 0 })) f.named p.2; at = p.1 })
+  place_of_func n x f = let p = func_place of w is all f.written f.among f.there in (p.0, record { noted = subst (λ (k : Text). all.given k ≡ Some (record { layer = 0; item = p.0; part = 0 })) f.named p.2; at = p.1 })
 
   record MethodPlace (n : Text) (f : FuncTree) (m : MethodOf own n f) : Type 0 where
     scope : ℕ
@@ -101,7 +101,7 @@ module _ (of : WitSources) (w : ScopeSyntax) (is : List InterfaceItem) (all : In
   place_of_method : (n : Text) (f : FuncTree) (m : MethodOf own n f) → MethodPlace n f m
   place_of_method n f m =
       let p = method_place of w is all m.resource m.methods m.method m.among m.there m.is_resource m.within m.on in
-      record { scope = p.0; index = p.2; place = record { noted = subst (λ (k : Text). all.given k ≡ Some (record { scope = p.0; item = p.2 + 1 })) m.named p.4; at = p.1 }; at = p.3 }
+      record { scope = p.0; index = p.2; place = record { noted = subst (λ (k : Text). all.given k ≡ Some (record { layer = 0; item = p.0; part = p.2 + 1 })) m.named p.4; at = p.1 }; at = p.3 }
 
   no_type_func : (n : Text) (x : ItemTree) (f : FuncExport own n x) → TypePlace n → ⊥
   no_type_func n x f (by_type t i p) = let q = place_of_func n x f in let e = same_item n i 0 q.0 0 (inside.Type t) (inside.Func f.written) p q.1 in absurd (cc)

@@ -8,6 +8,7 @@ use Rattle.wac_model.specs.ValueTree.{FuncTree, ValueTree, borrow, enum, fixed_s
 use Rattle.wac_wit_syntax.specs.declared.positions.Span.{Span}
 use Rattle.wac_wit_syntax.specs.declared.tree.Case.{Case}
 use Rattle.wac_wit_syntax.specs.declared.tree.Field.{Field}
+use Rattle.wac_wit_syntax.specs.declared.tree.FuncItem.{FuncItem}
 use Rattle.wac_wit_syntax.specs.declared.tree.Ident.{Ident}
 use Rattle.wac_wit_syntax.specs.declared.tree.InterfaceDecl.{InterfaceDecl}
 use Rattle.wac_wit_syntax.specs.declared.tree.Rename.{Rename}
@@ -24,7 +25,7 @@ use Rattle.wac_wit_validation.specs.Denoted.{Denoted, value_type, resource_type,
 use Rattle.wac_wit_validation.specs.Functions.{IsFuncOf, IsReturned, returns, returns_nothing, with_names}
 use Rattle.wac_wit_validation.specs.OneMeaning.{AllGiveOnce, GivesOnce, GivesUse, HaveOneMeaning}
 use Rattle.wac_wit_validation.specs.Placed.{IsUnambiguous, PlacedInterface}
-use Rattle.wac_wit_scopes.specs.WitSources.{HasInterface, PathLeadsTo, ScopeSyntax, WitSources, ident_text}
+use Rattle.wac_wit_scopes.specs.WitSources.{HasInterface, IsScopeOf, PathLeadsTo, ScopeSyntax, WitSources, ident_text}
 
 value_type-same : (v w : ValueTree) → value_type v ≡ value_type w → v ≡ w
 value_type-same v w e = cc
@@ -177,6 +178,14 @@ cases_of s _ _ _ no_cases = (refl, refl)
 cases_of s _ _ _ (bare {ns = ns} {vs = vs} n hs) = inl (record { is_names = ns; is_trees = vs; has = n; rest = hs; names = refl; trees = refl })
 cases_of s _ _ _ (with_type {ns = ns} {v = v} {vs = vs} t is h hs) = inr (record { type_of = t; tree = v; is_names = ns; is_trees = vs; has = is; value = h; rest = hs; names = refl; trees = refl })
 
+abbrev ReturnedOf : Setting → Option TypeExpr → Option ValueTree → Type 0
+ReturnedOf s None y = y ≡ None
+ReturnedOf s (Some t) y = (v : ValueTree) × IsValue s t v × (y ≡ Some v)
+
+returned_of : (s : Setting) (o : Option TypeExpr) (y : Option ValueTree) → IsReturned s o y → ReturnedOf s o y
+returned_of s _ _ returns_nothing = refl
+returned_of s _ _ (returns {v = v} h) = (v, h, refl)
+
 module _ (Ok : Setting → Type 0) (once : (s : Setting) → Ok s → GivesOnce s)
     (leads : (s : Setting) → Ok s → (n : Text) (u : UseItem) (r : Rename) → GivesUse s n u r → (v x : ScopeSyntax) (i j : Text) (d e : InterfaceDecl) → PathLeadsTo s.sources s.scope u.path v i → HasInterface s.sources v i d
     → PathLeadsTo s.sources s.scope u.path x j → HasInterface s.sources x j e → (v ≡ x) × (d ≡ e))
@@ -272,13 +281,19 @@ module _ (Ok : Setting → Type 0) (once : (s : Setting) → Ok s → GivesOnce 
           ((λ z. (ident_text c.name, true) ∷ rest.0 z) ∙ sym k.names, (λ z. x z ∷ rest.1 z) ∙ sym k.trees)
     ]
 
-abbrev ReturnedOf : Setting → Option TypeExpr → Option ValueTree → Type 0
-ReturnedOf s None y = y ≡ None
-ReturnedOf s (Some t) y = (v : ValueTree) × IsValue s t v × (y ≡ Some v)
+  one_returned : (s : Setting) (o : Option TypeExpr) (x y : Option ValueTree) → Ok s → IsReturned s o x → IsReturned s o y → x ≡ y
+  one_returned s _ _ y ok returns_nothing g = sym (returned_of s None y g)
+  one_returned s _ _ y ok (returns {t = t} {v = v} h) g = let k = returned_of s (Some t) y g in ap (λ (x : ValueTree). Some x) (one_value s t v k.0 ok h k.1) ∙ sym k.2
 
-returned_of : (s : Setting) (o : Option TypeExpr) (y : Option ValueTree) → IsReturned s o y → ReturnedOf s o y
-returned_of s _ _ returns_nothing = refl
-returned_of s _ _ (returns {v = v} h) = (v, h, refl)
+  -- a signature denotes one function
+  pub one_signature : (s : Setting) (sig : Signature) (before : List (Text × ValueTree)) (f : Option ValueTree → Option ValueTree) (x y : FuncTree) → Ok s → IsFuncOf s sig before f x → IsFuncOf s sig before f y → x ≡ y
+  one_signature s sig before f x y ok h g =
+      let params = one_fields s sig.params.items h.params g.params ok h.are_params g.are_params in
+      let returned = one_returned s sig.returns h.returns g.returns ok h.are_returns g.are_returns in
+      let named = h.named ∙ ap (λ (ps : List ValueTree). before ++ with_names (field_names sig.params.items) ps) params ∙ sym g.named in
+      let given = h.given ∙ ap f returned ∙ sym g.given in
+      let async = h.is_async ∙ sym g.is_async in
+      λ z. record { params = named z; «result» = given z; is_async = async z }
 
 -- an interface's setting
 record IsInside (of : WitSources) (s : Setting) : Type 0 where
@@ -305,25 +320,43 @@ module _ (of : WitSources) (paths : IsUnambiguous of) (once : AllGiveOnce of) wh
       let sources : s.sources ≡ of = ap (λ (k : Setting). k.sources) (sym h.is) in
       record { scope = v; name = i; decl = d; has = subst (λ (o : WitSources). HasInterface o v i d) sources has; is = ap (λ (o : WitSources). interface_setting o v d.items.items) (sym sources) }
 
-  one_returned : (s : Setting) (o : Option TypeExpr) (x y : Option ValueTree) → IsInside of s → IsReturned s o x → IsReturned s o y → x ≡ y
-  one_returned s _ _ y h returns_nothing g = sym (returned_of s None y g)
-  one_returned s _ _ y h (returns {t = t} {v = v} r) g =
-      let k = returned_of s (Some t) y g in
-      ap (λ (x : ValueTree). Some x) (one_value (IsInside of) inside_once inside_leads inside_closed s t v k.0 h r k.1) ∙ sym k.2
-
-  -- a signature denotes one function
+  -- a signature in an interface denotes one function
   pub one_func : (w : ScopeSyntax) (i : Text) (d : InterfaceDecl) → HasInterface of w i d → (sig : Signature) (before : List (Text × ValueTree)) (f : Option ValueTree → Option ValueTree) (x y : FuncTree)
       → IsFuncOf (interface_setting of w d.items.items) sig before f x → IsFuncOf (interface_setting of w d.items.items) sig before f y → x ≡ y
-  one_func w i d has sig before f x y h g =
-      let s = interface_setting of w d.items.items in
-      let ok : IsInside of s = record { scope = w; name = i; decl = d; has = has; is = refl } in
-      let params = one_fields (IsInside of) inside_once inside_leads inside_closed s sig.params.items h.params g.params ok h.are_params g.are_params in
-      let returned = one_returned s sig.returns h.returns g.returns ok h.are_returns g.are_returns in
-      let named = h.named ∙ ap (λ (ps : List ValueTree). before ++ with_names (field_names sig.params.items) ps) params ∙ sym g.named in
-      let given = h.given ∙ ap f returned ∙ sym g.given in
-      let async = h.is_async ∙ sym g.is_async in
-      λ z. record { params = named z; «result» = given z; is_async = async z }
+  one_func w i d has sig before f x y h g = one_signature (IsInside of) inside_once inside_leads inside_closed (interface_setting of w d.items.items) sig before f x y (record { scope = w; name = i; decl = d; has = has; is = refl }) h g
 
   -- where no path is ambiguous, and each interface gives each name of a type once, names stand for one thing
   pub one_meaning : HaveOneMeaning of
   one_meaning w i d has n m k h g = one_name (IsInside of) inside_once inside_leads inside_closed (interface_setting of w d.items.items) n m k (record { scope = w; name = i; decl = d; has = has; is = refl }) h g
+
+-- another setting of the same files, which gives each name of a type once
+module _ (of : WitSources) (paths : IsUnambiguous of) (once : AllGiveOnce of) (w : ScopeSyntax) (us : List UseItem) (ts : List TypeItem) (fs : List FuncItem) (rss : List (List Rename)) where
+  abbrev pub own_setting : Setting
+  own_setting = record { sources = of; scope = w; uses = us; types = ts; funcs = fs; renames = rss }
+
+  module _ (is_scope : IsScopeOf of w) (gives : GivesOnce own_setting) where
+    abbrev IsWithin : Setting → Type 0
+    IsWithin s = IsInside of s ⊎ (own_setting ≡ s)
+
+    within_once : (s : Setting) → IsWithin s → GivesOnce s
+    within_once s (inl h) = inside_once of paths once s h
+    within_once s (inr is) = subst GivesOnce is gives
+
+    within_leads : (s : Setting) → IsWithin s → (n : Text) (u : UseItem) (r : Rename) → GivesUse s n u r → (v x : ScopeSyntax) (i j : Text) (d e : InterfaceDecl) → PathLeadsTo s.sources s.scope u.path v i → HasInterface s.sources v i d
+        → PathLeadsTo s.sources s.scope u.path x j → HasInterface s.sources x j e → (v ≡ x) × (d ≡ e)
+    within_leads s (inl h) n u r g v x i j d e = inside_leads of paths once s h n u r g v x i j d e
+    within_leads s (inr is) n u r g v x i j d e = subst (λ (k : Setting). PathLeadsTo k.sources k.scope u.path v i → HasInterface k.sources v i d → PathLeadsTo k.sources k.scope u.path x j → HasInterface k.sources x j e → (v ≡ x) × (d ≡ e)) is
+        (λ to has also have.
+        let one = paths.interfaces w u.path (record { scope = v; decl = d }) (record { scope = x; decl = e }) is_scope (record { name = i; leads = to; has = has }) (record { name = j; leads = also; has = have }) in
+        (ap (λ (p : PlacedInterface). p.scope) one, ap (λ (p : PlacedInterface). p.decl) one))
+
+    within_closed : (s : Setting) → IsWithin s → (n : Text) (u : UseItem) (r : Rename) → GivesUse s n u r → (v : ScopeSyntax) (i : Text) (d : InterfaceDecl) → PathLeadsTo s.sources s.scope u.path v i → HasInterface s.sources v i d
+        → IsWithin (interface_setting s.sources v d.items.items)
+    within_closed s (inl h) n u r g v i d to has = inl (inside_closed of paths once s h n u r g v i d to has)
+    within_closed s (inr is) n u r g v i d to has = inl (record { scope = v; name = i; decl = d; has = subst (λ (k : Setting). HasInterface k.sources v i d) (sym is) has; is = ap (λ (k : Setting). interface_setting k.sources v d.items.items) is })
+
+    pub one_own_name : (n : Text) (m k : Denoted) → NamesType own_setting n m → NamesType own_setting n k → m ≡ k
+    one_own_name n m k h g = one_name IsWithin within_once within_leads within_closed own_setting n m k (inr refl) h g
+
+    pub one_own_func : (sig : Signature) (before : List (Text × ValueTree)) (f : Option ValueTree → Option ValueTree) (x y : FuncTree) → IsFuncOf own_setting sig before f x → IsFuncOf own_setting sig before f y → x ≡ y
+    one_own_func sig before f x y h g = one_signature IsWithin within_once within_leads within_closed own_setting sig before f x y (inr refl) h g

@@ -228,6 +228,7 @@ module _ (of : WitSources) (v x : Validator) (scopes : v.scopes.items ≡ x.scop
       layers = AreLayersOf-kept h.written f.layers.items h.layers;
       uses = rw (← types) h.uses;
       owners = rw (← types) h.owners;
+      one = h.one;
       tree = rw (← types) h.tree;
     }
 

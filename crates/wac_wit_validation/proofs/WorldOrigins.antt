@@ -20,6 +20,7 @@ use Rattle.wac_wit_validation.specs.Checking.{HasOrigin, Offers}
 use Rattle.wac_wit_validation.specs.Denoted.{Denoted, NamesType, Setting, renamed_by, resource_type, value_type}
 use Rattle.wac_wit_validation.specs.Interfaces.{IsInterfaceTree, named_tree}
 use Rattle.wac_wit_validation.specs.OriginClauses.{HasUseRoot, TellsItem, TellsWorld, TellsWorldItem}
+use Rattle.wac_wit_validation.specs.OneWorld.{HasOneExtern}
 use Rattle.wac_wit_validation.specs.Origins.{AreOwnersOf, AreWorldUsesOf, IsWorldOriginOf, use_at}
 use Rattle.wac_wit_validation.specs.Placed.{PlacedWorld}
 use Rattle.wac_wit_validation.specs.Reading.{type_meaning}
@@ -141,8 +142,8 @@ module _ (of : WitSources) (v : Validator) (w : PlacedWorld) (ls : List Layer) (
 
 -- a world both sides of whose entry are as its text says, and of which it is said where its types come from
 pub world_validated : (of : WitSources) (v : Validator) (f : FoundWorld) (e : WorldContent) (w : PlacedWorld) → IsWorldAt of v f.place w → IsEntryOf v.types.now f.id e → AreWorldSides of v w e f.marks → AreLayersOf of v w f.layers.items
-    → AreWorldUsesOf of v.types.now w e.uses → AreOwnersOf v.types.now e.uses e.imports → IsValidatedWorld of v f
-world_validated of v f e w at entry sides layers uses owners = record {
+    → AreWorldUsesOf of v.types.now w e.uses → AreOwnersOf v.types.now e.uses e.imports → HasOneExtern of w → IsValidatedWorld of v f
+world_validated of v f e w at entry sides layers uses owners one = record {
   written = w;
   at = at;
   stands = entry.stands;
@@ -150,6 +151,7 @@ world_validated of v f e w at entry sides layers uses owners = record {
   layers = layers;
   uses = λ content found. subst (λ (d : WorldContent). AreWorldUsesOf of v.types.now w d.uses) (same content found) uses;
   owners = λ content found. subst (λ (d : WorldContent). AreOwnersOf v.types.now d.uses d.imports) (same content found) owners;
+  one = one;
   tree = tree_of_world of v w f.id e entry sides.imports.items sides.exports.items;
 }
   where
@@ -158,10 +160,10 @@ world_validated of v f e w at entry sides layers uses owners = record {
 
 -- so it is, where that is known of what it was before other things became known
 pub world_added : (of : WitSources) (v x : Validator) → StaysAs v x → (f : FoundWorld) (text : WorldText) (w : PlacedWorld) → IsTextAt v text of w → text.place ≡ f.place → IsEntryOf v.types.now f.id (text_content text) → AreLayersOf of v w f.layers.items
-    → (IsTextAt x text of w → AreLayersOf of x w f.layers.items → AreWorldSides of x w (text_content text) f.marks) → TellsWorld x f.layers.items (text_content text) → IsValidatedWorld of x f
-world_added of v x stays f text w at same entry layers sides tells =
+    → (IsTextAt x text of w → AreLayersOf of x w f.layers.items → AreWorldSides of x w (text_content text) f.marks) → TellsWorld x f.layers.items (text_content text) → HasOneExtern of w → IsValidatedWorld of x f
+world_added of v x stays f text w at same entry layers sides tells one =
     let now = IsTextAt-kept v x stays text of w at in
     let kept = AreLayersOf-kept of v x (sym stays.scopes) w f.layers.items layers in
     let both = sides now kept in
     world_validated of x f (text_content text) w (subst (λ (p : ItemPlace). IsWorldAt of x p w) same now.written) (subst (λ (c : Collection). IsEntryOf c f.id (text_content text)) (sym stays.types) entry) both kept
-    (are_world_uses of x w f.layers.items (text_content text) now.at.knows kept tells both.imports.items) tells.owners
+    (are_world_uses of x w f.layers.items (text_content text) now.at.knows kept tells both.imports.items) tells.owners one

@@ -24,8 +24,8 @@ item_use_name (top.Interface d) = None
 item_use_name (top.World d) = None
 
 -- what was noted stays
-abbrev pub KeepsNoted : (Text → Option ItemPlace) → (Text → Option ItemPlace) → Type 0
-KeepsNoted old new = (k : Text) (p : ItemPlace) → old k ≡ Some p → new k ≡ Some p
+abbrev pub KeepsNoted : {A : Type 0} → (Text → Option A) → (Text → Option A) → Type 0
+KeepsNoted {A} old new = (k : Text) (p : A) → old k ≡ Some p → new k ≡ Some p
 
 -- each of a scope's items that has a key is noted under it
 abbrev pub NotesItems : (Text → Option ItemPlace) → (TopItem → Option Text) → ℕ → List TopItem → Type 0

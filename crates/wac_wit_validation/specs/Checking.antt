@@ -14,13 +14,13 @@ use Rattle.wac_component.specs.declared.items.ItemKind.TheVariants.{Func, Instan
 use Rattle.wac_component.specs.declared.items.Type.{«Type» as TypeOf}
 use Rattle.wac_wit_names.specs.Features.{has_feature}
 use Rattle.wac_wit_validation.specs.Origins.{AreOwnersOf, AreUsesOf, ComesFrom, placed_setting, use_at}
-use Rattle.wac_wit_validation.specs.Placed.{IsUnambiguous, PlacedInterface, placed_identifier}
+use Rattle.wac_wit_validation.specs.Placed.{HaveOwnIdentifiers, IsUnambiguous, PlacedInterface, placed_identifier}
 use Rattle.wac_wit_scopes.specs.Scopes.{HasScope, IsKnownScope, scope_syntax}
 use Rattle.wac_wit_scopes.specs.WitSources.{WitSources, ScopeSyntax, IsScopeOf, IsEnabled, HasInterface, PathLeadsTo, ident_text, given_name, interface_identifier, package_id}
 use Rattle.wac_wit_validation.specs.Denoted.{Denoted, Setting, NamesType, interface_setting, type_name}
 use Rattle.wac_wit_validation.specs.Functions.{IsMethodOf, HasMethod, method_name}
 use Rattle.wac_wit_validation.specs.Interfaces.{HasExportOf, IsInterfaceTree}
-use Rattle.wac_wit_validation.specs.OneMeaning.{HaveOneMeaning}
+use Rattle.wac_wit_validation.specs.OneMeaning.{AllGiveOnce, ExportsStandForOne, HaveOneMeaning}
 use Rattle.wac_wit_validation.specs.Reading.{Renames, StandForTypes, TypesAreNamed, IsItemNamed}
 use Rattle.wac_wit_validation.specs.declared.progress.ExportMarks.{ExportMarks}
 use Rattle.wac_wit_validation.specs.declared.names.NamedTypes.{NamedTypes}
@@ -142,6 +142,9 @@ pub record Knows (of : WitSources) (v : Validator) : Type 0 where
   pub all_scopes : (w : ScopeSyntax) → IsScopeOf of w → HasScope v.scopes.items w
   pub found : (f : FoundInterface) → Contains v.found.items f → IsValidated of v f
   pub one_meaning : HaveOneMeaning of
+  pub given_once : AllGiveOnce of
+  pub one_item : ExportsStandForOne of
+  pub identified : HaveOwnIdentifiers of
 
 -- a path leads to an interface that was found
 pub record LeadsToFound (v : Validator) (s : Setting) (path : Path) (f : FoundInterface) : Type 0 where

@@ -1,6 +1,7 @@
--- Laws of what texts denote: an interface denotes one tree, and no tree that mistakes its text in one of these ways.
-use Rattle.std.specs.Prelude.{◌≡◌, List, [], ◌∷◌, Contains, Some, IsSome, string_bytes}
-use Rattle.wac_model.specs.ItemTree.{Items, composite, interface, item, item_at, no_items, world}
+-- Laws of what texts denote: an interface or a world denotes one tree, and no tree that mistakes its text in one of these ways.
+use Rattle.std.specs.Prelude.{◌≡◌, List, [], ◌∷◌, Contains, Option, Some, None, IsSome, string_bytes}
+use Rattle.wac_model.specs.ItemTree.{ItemTree, Items, composite, interface, item, item_at, no_items, world}
+use Rattle.wac_model.specs.Order.{Fits}
 use Rattle.wac_model.specs.Text.{Text}
 use Rattle.wac_model.specs.ValueTree.{FuncTree, ValueTree, borrow, no_parts, node, own}
 use Rattle.wac_component.specs.declared.worlds.ExternKind.TheVariants.{Import, Export}
@@ -21,6 +22,7 @@ use Rattle.wac_wit_validation.specs.Denoted.{Denoted, IsValue, NamesType, Settin
 use Rattle.wac_wit_validation.specs.Functions.{IsFuncOf}
 use Rattle.wac_wit_validation.specs.Interfaces.{IsInterfaceTree}
 use Rattle.wac_wit_validation.specs.OneMeaning.{ExportsStandForOne}
+use Rattle.wac_wit_validation.specs.OneWorld.{HasOneExtern, IsOneItem}
 use Rattle.wac_wit_validation.specs.Placed.{PlacedWorld}
 use Rattle.wac_wit_validation.specs.Worlds.{IsWorldTree, SaysExtern, SaysInclude, world_setting}
 
@@ -54,3 +56,21 @@ pub record IncludedStandRenamed : Type 0 where
 abbrev pub InterfacesHaveOneTree : Type 0
 InterfacesHaveOneTree = (of : WitSources) (w : ScopeSyntax) (i : Text) (d : InterfaceDecl) (es fs : Items) (n : Text) → ExportsStandForOne of → HasInterface of w i d
     → IsInterfaceTree of w d.items.items (composite item interface no_items es) → IsInterfaceTree of w d.items.items (composite item interface no_items fs) → item_at es n ≡ item_at fs n
+
+-- there is nothing in both places, or one item
+abbrev pub AreOneAt : WitSources → Option ItemTree → Option ItemTree → Type 0
+AreOneAt of None None = Unit {0}
+AreOneAt of None (Some y) = ⊥
+AreOneAt of (Some x) None = ⊥
+AreOneAt of (Some x) (Some y) = IsOneItem of x y
+
+-- where its names stand for one item, the trees that a world denotes have the same imports and exports
+abbrev pub WorldsHaveOneTree : Type 0
+WorldsHaveOneTree = (of : WitSources) (w : PlacedWorld) (is es js fs : Items) (n : Text) → HasOneExtern of w
+    → IsWorldTree of w (composite item world is es) → IsWorldTree of w (composite item world js fs) → AreOneAt of (item_at is n) (item_at js n) × AreOneAt of (item_at es n) (item_at fs n)
+
+-- so each of the trees that an interface or a world denotes fits where another one is asked for
+pub record TreesOfOneTextFit : Type 0 where
+  pub interfaces : (of : WitSources) (w : ScopeSyntax) (i : Text) (d : InterfaceDecl) (x y : ItemTree) → ExportsStandForOne of → HasInterface of w i d
+      → IsInterfaceTree of w d.items.items x → IsInterfaceTree of w d.items.items y → Fits x y
+  pub worlds : (of : WitSources) (w : PlacedWorld) (x y : ItemTree) → HasOneExtern of w → IsWorldTree of w x → IsWorldTree of w y → Fits x y

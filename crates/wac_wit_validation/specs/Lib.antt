@@ -13,5 +13,8 @@ pub mod Validated
 pub mod Listing
 pub mod Ambiguity
 pub mod OneMeaning
+pub mod OneWorld
+pub mod GivenNames
 pub mod Once
+pub mod WorldOnce
 pub mod Laws

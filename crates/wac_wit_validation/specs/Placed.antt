@@ -43,3 +43,7 @@ pub record LeadsToWorld (of : WitSources) (w : ScopeSyntax) (p : Path) (v : Plac
 pub record IsUnambiguous (of : WitSources) : Type 0 where
   pub interfaces : (w : ScopeSyntax) (p : Path) (i j : PlacedInterface) → IsScopeOf of w → LeadsToInterface of w p i → LeadsToInterface of w p j → i ≡ j
   pub worlds : (w : ScopeSyntax) (p : Path) (v x : PlacedWorld) → IsScopeOf of w → LeadsToWorld of w p v → LeadsToWorld of w p x → v ≡ x
+
+-- no two interfaces have one identifier
+abbrev pub HaveOwnIdentifiers : WitSources → Type 0
+HaveOwnIdentifiers of = (i j : PlacedInterface) (n m : Text) → HasInterface of i.scope n i.decl → HasInterface of j.scope m j.decl → placed_identifier i ≡ placed_identifier j → i ≡ j

@@ -9,6 +9,7 @@ use Rattle.wac_component.specs.declared.items.ItemKind.TheVariants.{Component, I
 use Rattle.wac_wit_syntax.specs.declared.tree.InterfaceDecl.{InterfaceDecl}
 use Rattle.wac_wit_validation.specs.Denoted.{interface_setting}
 use Rattle.wac_wit_validation.specs.Interfaces.{IsInterfaceTree}
+use Rattle.wac_wit_validation.specs.OneWorld.{HasOneExtern}
 use Rattle.wac_wit_validation.specs.Origins.{AreOwnersOf, AreUsesOf, AreWorldUsesOf}
 use Rattle.wac_wit_validation.specs.Placed.{HasWorld, PlacedWorld}
 use Rattle.wac_wit_validation.specs.Worlds.{IsWorldTree}
@@ -42,13 +43,15 @@ pub record IsWorldNamed (of : WitSources) («package» : Text) (version : Option
   pub of_version : w.scope.package.version ≡ version
 
 -- the entry is that of the world of this name, in a package of this name and version: it has the world's identifier, its tree
--- is what the world's text denotes, and it says of the types that it imports where they come from
+-- is what the world's text denotes, where each name stands for one item, and it says of the types that it imports where they
+-- come from
 pub record IsWorldOf (of : WitSources) (c : Collection) («package» : Text) (version : Option Text) (name : Text) (id : Id) : Type 0 where
   pub written : PlacedWorld
   pub is : IsWorldNamed of «package» version name written
   pub stands : Stands c (world_key id)
   pub identified : (content : WorldContent) → slice_get c.worlds id.index ≡ Some content → content.id ≡ Some (interface_identifier written.scope.package name)
   pub tree : IsWorldTree of written (item_tree c (Component id))
+  pub one : HasOneExtern of written
   pub uses : (content : WorldContent) → slice_get c.worlds id.index ≡ Some content → AreWorldUsesOf of c written content.uses
   pub owners : (content : WorldContent) → slice_get c.worlds id.index ≡ Some content → AreOwnersOf c content.uses content.imports
 

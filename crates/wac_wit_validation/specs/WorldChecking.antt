@@ -27,6 +27,7 @@ use Rattle.wac_wit_scopes.specs.Scopes.{scope_syntax}
 use Rattle.wac_wit_validation.specs.Denoted.{Denoted, NamesType, Setting, renamed_by, uses_in}
 use Rattle.wac_wit_validation.specs.Functions.{HasMethod}
 use Rattle.wac_wit_syntax.specs.declared.tree.Rename.{Rename}
+use Rattle.wac_wit_validation.specs.OneWorld.{HasOneExtern}
 use Rattle.wac_wit_validation.specs.Origins.{AreOwnersOf, AreWorldUsesOf}
 use Rattle.wac_wit_validation.specs.Placed.{LeadsToInterface, LeadsToWorld, PlacedInterface, PlacedWorld, placed_identifier}
 use Rattle.wac_wit_validation.specs.Reading.{AreNamesBy, Renames, StandForTypes, IsComposed}
@@ -174,6 +175,7 @@ pub record IsValidatedWorld (of : WitSources) (v : Validator) (f : FoundWorld) :
   pub layers : AreLayersOf of v written f.layers.items
   pub uses : (content : WorldContent) → slice_get v.types.now.worlds f.id.index ≡ Some content → AreWorldUsesOf of v.types.now written content.uses
   pub owners : (content : WorldContent) → slice_get v.types.now.worlds f.id.index ≡ Some content → AreOwnersOf v.types.now content.uses content.imports
+  pub one : HasOneExtern of written
   pub tree : IsWorldTree of written (item_tree v.types.now (Component f.id))
 
 -- what is known of worlds, and of interfaces, is so of what is read

@@ -217,8 +217,8 @@ pub(crate) fn has_any(renames: &[Rename]) -> bool
     !renames.is_empty()
 }
 
-// Whether a name isn't the identifier of an interface.
-fn is_plain(name: &str) -> bool
+/// Whether a name isn't the identifier of an interface.
+pub(crate) fn is_plain(name: &str) -> bool
     ensures { IsTrue result → (i : PlacedInterface) → name.now ≢ placed_identifier i }
 {
     !name.contains("/")

@@ -1,11 +1,26 @@
 //! Laws of what texts denote. Each is the contract of a function that does nothing.
 
-ghost use Rattle.wac_wit_validation.specs.Laws.{HandlesStandAsWritten, IncludedStandRenamed, InterfacesHaveOneTree, PathsLeadToTheirVersion, UsedTypesAreExported};
+ghost use Rattle.wac_wit_validation.specs.Laws.{HandlesStandAsWritten, IncludedStandRenamed, InterfacesHaveOneTree, PathsLeadToTheirVersion, TreesOfOneTextFit};
+ghost use Rattle.wac_wit_validation.specs.Laws.{UsedTypesAreExported, WorldsHaveOneTree};
 
 /// Where what is read says one thing, an interface denotes one tree, but for the order of its exports:
 /// two trees that it denotes have the same item under each name.
 pub fn interfaces_have_one_tree()
     ensures { InterfacesHaveOneTree }
+{}
+
+/// Where its names stand for one item, as they do in each world that was taken in, a world denotes
+/// one tree, but for the order of its imports and exports: two trees that it denotes have one item
+/// under each name, or none. Instances of one interface are one item here, in whichever order its
+/// exports stand.
+pub fn worlds_have_one_tree()
+    ensures { WorldsHaveOneTree }
+{}
+
+/// So each of the trees that an interface or a world denotes fits where another one is asked for, and
+/// whatever fits where one is asked for, or where one fits, does with each.
+pub fn trees_of_one_text_fit()
+    ensures { TreesOfOneTextFit }
 {}
 
 /// What a text borrows is denoted by a borrowed handle alone, and what it owns by an owned one: so

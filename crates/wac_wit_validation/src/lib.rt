@@ -5,6 +5,7 @@ mod ambiguity;
 mod checks;
 mod externs;
 mod functions;
+mod given;
 mod imports;
 mod includes;
 mod interfaces;
@@ -25,6 +26,7 @@ mod typedefs;
 mod validator;
 mod values;
 mod worlds;
+mod worlds_once;
 
 pub use listing::PackageListing;
 pub use validator::Validator;

@@ -21,14 +21,17 @@ use super::own::own_types;
 use super::progress::ExportMarks;
 use super::texts::{is_identifier_of, is_package_text, is_version_text, is_word};
 use super::validator::{FoundWorld, ItemPlace, Validator, WorldText};
+use super::worlds_once::layers_give_once;
 use indexmap::IndexMap;
 use std::alloc::AllocError;
 use wac_component::{ExternKind, InterfaceId, ItemKind, Type, World, WorldId};
 use wac_wit_syntax::WorldItem;
 
 impl<'v> Validator<'v> {
-    /// Takes in a world, if its entry is as it is written: the one at an index of the catalog. The
-    /// interfaces that it uses and the worlds that it includes have to be taken in before.
+    /// Takes in a world, if its entry is as it is written, and if it gives each name of an import,
+    /// and each of an export, once, with the worlds that come into it: the one at an index of the
+    /// catalog. The interfaces that it uses and the worlds that it includes have to be taken in
+    /// before.
     pub fn add_world(&mut self, node: usize, id: WorldId) -> Result<bool, AllocError>
         ensures types { self.new.types.now ≡ self.old.types.now }
         ensures knows { (of : WitSources) → KnowsWorlds of self.old → KnowsWorlds of self.new }
@@ -55,6 +58,9 @@ impl<'v> Validator<'v> {
         let Some(layers) = self.layers_of(&text)? else {
             return Ok(false);
         };
+        if !layers_give_once(self.alloc, &self.features, &layers)? {
+            return Ok(false);
+        }
         let Some(marks) = self.world_marks(&text, &layers)? else {
             return Ok(false);
         };

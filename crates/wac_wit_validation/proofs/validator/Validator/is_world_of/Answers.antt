@@ -33,6 +33,7 @@ returns c = λ same of knows.
           let here = subst (λ (k : Id). slice_get v.types.now.worlds k.index ≡ Some content) c.in-Some.ensures.id at in
           ap (λ (e : WorldContent). e.id) (same_Some content (world_content c.index.result.now) (sym here ∙ c.index.ensures.entry)) ∙ c.is_identifier_of.ensures same ∙ ap (λ (x : PlacedWorld). Some (interface_identifier x.scope.package name)) (sym one);
       tree = valid.tree;
+      one = valid.one;
       uses = valid.uses;
       owners = valid.owners;
     })
