@@ -13,10 +13,10 @@ ghost use Rattle.wac_wit_syntax.specs.declared.tree.TopItem.TheVariants as top;
 
 use super::judge::{Judge, is_at};
 use super::led::name_of;
-use super::naming::{is_named, is_one_name, is_package, is_package_of};
+use super::naming::{is_named, is_package_of};
 use super::paths::{PlacedPath, Sought};
 use std::alloc::AllocError;
-use wac_wit_scopes::{ScopeItems, used_name};
+use wac_wit_scopes::{ScopeItems, have_one_name, is_same_package, used_name};
 use wac_wit_syntax::{Ident, PackageName, Path, Span, TopItem};
 
 impl Judge<'_> {
@@ -105,7 +105,7 @@ impl Judge<'_> {
         ensures { IsTrue result → (w : Scopes) → Contains self.now.scopes.items w → package_id «package».now ≡ package_id w.package.now → LacksMember w.items.now (ident_text name.now) }
     {
         for scope in &self.scopes {
-            if is_package(package, scope.package) && !lacks(scope.items, name) {
+            if is_same_package(package, scope.package) && !lacks(scope.items, name) {
                 return false;
             }
         }
@@ -117,7 +117,7 @@ impl Judge<'_> {
         ensures { IsTrue result → (w : Scopes) → Contains self.now.scopes.items w → HaveOneName (package_id w.package.now) (package_id «package».now) → LacksMember w.items.now (ident_text name.now) }
     {
         for scope in &self.scopes {
-            if is_one_name(scope.package, package) && !lacks(scope.items, name) {
+            if have_one_name(scope.package, package) && !lacks(scope.items, name) {
                 return false;
             }
         }

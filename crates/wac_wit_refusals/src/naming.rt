@@ -1,15 +1,15 @@
 //! Names of packages, and which packages they name.
 
-ghost use Rattle.std.specs.Prelude.{◌≡◌, ◌↔◌, Contains, IsTrue};
+ghost use Rattle.std.specs.Prelude.{◌≡◌, Contains, IsTrue};
 ghost use Rattle.wac_wit_refusals.specs.Judging.{Judges};
 ghost use Rattle.wac_wit_refusals.specs.Leading.{HasOtherVersion};
 ghost use Rattle.wac_wit_scopes.specs.Scopes.{IsKnownScope, scope_syntax};
-ghost use Rattle.wac_wit_scopes.specs.WitSources.{HaveOneName, IsNamedPackage, IsOnlyVersion, IsPackageOf, IsScopeOf, ScopeSyntax, WitSources, package_id, version_text};
+ghost use Rattle.wac_wit_scopes.specs.WitSources.{HaveOneName, IsNamedPackage, IsOnlyVersion, IsPackageOf, IsScopeOf, ScopeSyntax, WitSources, package_id};
 ghost use Rattle.wac_wit_scopes.specs.declared.scopes.ScopeItems.{ScopeItems as Scopes};
 
 use super::judge::Judge;
-use wac_wit_scopes::ScopeItems;
-use wac_wit_syntax::{Gate, PackageName};
+use wac_wit_scopes::{ScopeItems, have_one_name, is_same_package};
+use wac_wit_syntax::PackageName;
 
 impl Judge<'_> {
     /// Whether a name of a package names none that is there.
@@ -32,7 +32,7 @@ impl Judge<'_> {
         ensures { IsTrue result → (of : WitSources) → Judges of self.now → (w : ScopeSyntax) → IsScopeOf of w → HaveOneName w.package (package_id named.now) → IsOnlyVersion of w.package → ⊥ }
     {
         for scope in &self.scopes {
-            if is_one_name(scope.package, named) {
+            if have_one_name(scope.package, named) {
                 return self.has_other(scope.package);
             }
         }
@@ -44,7 +44,7 @@ impl Judge<'_> {
         ensures { IsTrue result → (of : WitSources) → Judges of self.now → HasOtherVersion of (package_id «package».now) }
     {
         for scope in &self.scopes {
-            if is_one_name(scope.package, package) && !is_package(scope.package, package) {
+            if have_one_name(scope.package, package) && !is_same_package(scope.package, package) {
                 return true;
             }
         }
@@ -56,7 +56,7 @@ impl Judge<'_> {
         ensures { IsTrue result → (w : Scopes) → Contains self.now.scopes.items w → package_id named.now ≡ package_id w.package.now → ⊥ }
     {
         for scope in &self.scopes {
-            if is_package(named, scope.package) {
+            if is_same_package(named, scope.package) {
                 return false;
             }
         }
@@ -74,7 +74,7 @@ pub(crate) fn is_package_of(
 {
     match package {
         Some(named) => is_named(named, to),
-        None => is_package(to.package, from.package),
+        None => is_same_package(to.package, from.package),
     }
 }
 
@@ -82,30 +82,6 @@ pub(crate) fn is_package_of(
 pub(crate) fn is_named(named: &PackageName, to: &ScopeItems<'_>) -> bool
     ensures { IsTrue result → (of : WitSources) → IsKnownScope of to.now → IsNamedPackage of named.now (scope_syntax to.now).package }
 {
-    is_package(named, to.package)
-        || named.version.is_none() && to.is_alone && is_one_name(to.package, named)
-}
-
-/// Whether two names are of one package.
-pub(crate) fn is_package(left: &PackageName, right: &PackageName) -> bool
-    ensures { IsTrue result ↔ package_id left.now ≡ package_id right.now }
-{
-    is_one_name(left, right) && is_version(&left.version, &right.version)
-}
-
-/// Whether two names are of one package, but for its version.
-pub(crate) fn is_one_name(left: &PackageName, right: &PackageName) -> bool
-    ensures { IsTrue result ↔ HaveOneName (package_id left.now) (package_id right.now) }
-{
-    left.namespace.name == right.namespace.name && left.name.name == right.name.name
-}
-
-fn is_version(left: &Option<Gate>, right: &Option<Gate>) -> bool
-    ensures { IsTrue result ↔ version_text left.now ≡ version_text right.now }
-{
-    match (left, right) {
-        (Some(left), Some(right)) => left.text == right.text,
-        (None, None) => true,
-        _ => false,
-    }
+    is_same_package(named, to.package)
+        || named.version.is_none() && to.is_alone && have_one_name(to.package, named)
 }

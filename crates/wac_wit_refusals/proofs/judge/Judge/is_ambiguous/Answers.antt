@@ -11,14 +11,14 @@ use Rattle.wac_wit_refusals.proofs.judge.Judge.is_ambiguous.Goals as goal
 pub loop-scope-preserved : goal.loop-scope-preserved
 loop-scope-preserved c =
     let P : ScopeItems → Type 0 = λ w. HaveOneName (package_id w.package.now) (package_id c.args.named.now) → ⊥ in
-    All-next c.deref-scope-items.result.now c.loop-scope.scope-index P P c.scope-item.result c.loop-scope-test.true c.scope-item.is (λ t h. h) c.loop-scope.invariant (not_so _ c.is_one_name.result c.if-is_one_name.false c.is_one_name.ensures)
+    All-next c.deref-scope-items.result.now c.loop-scope.scope-index P P c.scope-item.result c.loop-scope-test.true c.scope-item.is (λ t h. h) c.loop-scope.invariant (not_so _ c.have_one_name.result c.if-have_one_name.false c.have_one_name.ensures)
 
-pub returns-then-is_one_name : goal.returns-then-is_one_name
-returns-then-is_one_name c = λ is of judges w there same only.
+pub returns-then-have_one_name : goal.returns-then-have_one_name
+returns-then-have_one_name c = λ is of judges w there same only.
     let scope = c.scope-item.result in
     let self = c.args.self.now in
     let known = known_scope of self judges scope (among_of self.scopes.items c.deref-scope-items.result.now c.loop-scope.scope-index scope c.deref-scope-items.ensures.value c.loop-scope-test.true c.scope-item.is) in
-    two_versions of w (scope_syntax scope) (package_id c.args.named.now) only known.is_scope (c.is_one_name.ensures.0 c.if-is_one_name.true) same (c.has_other.ensures is of judges)
+    two_versions of w (scope_syntax scope) (package_id c.args.named.now) only known.is_scope (c.have_one_name.ensures.0 c.if-have_one_name.true) same (c.has_other.ensures is of judges)
 
 pub returns : goal.returns
 returns c = λ is of judges w there same only. each_scope of c.args.self.now judges (λ (v : ScopeSyntax). HaveOneName v.package (package_id c.args.named.now) → ⊥) (λ v among.

@@ -5,15 +5,15 @@ use Rattle.wac_wit_scopes.proofs.ScopeFacts.{All-end, All-next}
 use Rattle.wac_wit_refusals.specs.Leading.{LacksMember}
 use Rattle.wac_wit_refusals.proofs.Walks.{not_so}
 use Rattle.wac_wit_refusals.proofs.judge.Judge.is_lacking.Goals as goal
-use Rattle.wac_wit_refusals.proofs.judge.Judge.is_lacking.Goals.{else-is_package-via-then-is_package+else-not-lacks, else-is_package-via-else-is_package}
+use Rattle.wac_wit_refusals.proofs.judge.Judge.is_lacking.Goals.{else-is_same_package-via-then-is_same_package+else-not-lacks, else-is_same_package-via-else-is_same_package}
 
 pub loop-scope-preserved : goal.loop-scope-preserved
 loop-scope-preserved c =
     let P : ScopeItems → Type 0 = λ w. package_id c.args.package.now ≡ package_id w.package.now → LacksMember w.items.now (ident_text c.args.name.now) in
     All-next c.deref-scope-items.result.now c.loop-scope.scope-index P P c.scope-item.result c.loop-scope-test.true c.scope-item.is (λ t h. h) c.loop-scope.invariant
-    (λ same. elim c.else-is_package.branch [
-      | else-is_package-via-then-is_package+else-not-lacks w ↦ w.lacks.ensures w.if-not-lacks.false
-      | else-is_package-via-else-is_package w ↦ absurd (not_so _ c.is_package.result w.if-is_package.false c.is_package.ensures same)
+    (λ same. elim c.else-is_same_package.branch [
+      | else-is_same_package-via-then-is_same_package+else-not-lacks w ↦ w.lacks.ensures w.if-not-lacks.false
+      | else-is_same_package-via-else-is_same_package w ↦ absurd (not_so _ c.is_same_package.result w.if-is_same_package.false c.is_same_package.ensures same)
     ])
 
 pub returns : goal.returns
