@@ -94,10 +94,10 @@ fn note_name(
 }
 
 /// Notes what a key stands for, and says whether it stood for nothing.
-pub(crate) fn note(
-    noted: &mut IndexMap<String, ItemPlace>,
+pub(crate) fn note<P: Copy>(
+    noted: &mut IndexMap<String, P>,
     key: String,
-    place: ItemPlace,
+    place: P,
 ) -> Result<bool, AllocError>
     ensures grows { IfOk result (λ is. IsTrue is → KeepsNoted (get_by_text noted.old) (get_by_text noted.new)) }
     ensures notes { IfOk result (λ is. IsTrue is → get_by_text noted.new (string_bytes key) ≡ Some place) }

@@ -8,6 +8,7 @@ ghost use Rattle.wac_wit_validation.specs.GivenNames.{GivesFuncs, GivesMethodAt,
 ghost use Rattle.wac_wit_validation.specs.GivenNames.{HoldsWith, IsGivenAt};
 ghost use Rattle.wac_wit_validation.specs.Reading.{name_by};
 
+use super::ambiguity::note;
 use super::includes::is_plain;
 use super::interfaces::local_name;
 use super::layers::NewNames;
@@ -176,7 +177,7 @@ fn give(given: &mut GivenNames, name: String, place: NamePlace) -> Result<bool, 
     if !is_plain(&name) {
         return Ok(false);
     }
-    Ok(given.insert(name, place)?.is_none())
+    note(given, name, place)
 }
 
 /// Whether an item is there.

@@ -6,6 +6,7 @@ ghost use Rattle.wac_wit_validation.specs.Checking.{AreNamesAt, IsSettingAt, Kno
 ghost use Rattle.wac_wit_validation.specs.Denoted.{Setting};
 ghost use Rattle.wac_wit_scopes.specs.WitSources.{IsEnabled, WitSources};
 
+use super::given::is_enabled;
 use super::layers::Layer;
 use super::marks::WorldMarks;
 use super::names::NamedTypes;
@@ -116,10 +117,7 @@ impl<'v> Validator<'v> {
     pub(crate) fn is_there(&self, gates: &Gates) -> bool
         ensures { (of : WitSources) → Knows of self.now → IsTrue result ↔ IsEnabled of gates.now }
     {
-        match &gates.unstable {
-            Some(feature) => self.features.has(&feature.text),
-            None => true,
-        }
+        is_enabled(&self.features, gates)
     }
 
     /// The names of an interface that was found to be as it is written, if a path leads to one: of

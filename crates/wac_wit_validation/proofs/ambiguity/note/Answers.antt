@@ -5,7 +5,7 @@ use Rattle.wac_wit_validation.proofs.AmbiguityFacts.{KeepsNoted-new, none_told, 
 use Rattle.wac_wit_validation.proofs.ambiguity.note.Goals as goal
 
 pub returns-clause-grows : goal.returns-clause-grows
-returns-clause-grows c = λ is.
+returns-clause-grows o c = λ is.
     let old = c.args.noted.now in
     let new = c.insert.new.self in
     let key = string_bytes c.args.key in
@@ -13,7 +13,7 @@ returns-clause-grows c = λ is.
     (sym c.in_ok-insert.ensures.old ∙ none_told c.in_ok-insert.field-0 c.is_none.result c.is_none.ensures is)
 
 pub returns-clause-notes : goal.returns-clause-notes
-returns-clause-notes c = λ is.
+returns-clause-notes o c = λ is.
     let old = c.args.noted.now in
     let new = c.insert.new.self in
     let key = string_bytes c.args.key in
