@@ -1,70 +1,44 @@
 -- Differences: their faults hold of the two that differ in them.
-use Rattle.std.proofs.Common.{◌≡◌, ◌≢◌, inl, inr, IsTrue, ℕ, List, map, length, Bool, true, false, not, Option, Some, is_some, slice_get, string_bytes, String, Global, Bor, refl, ap, ap₂, sym, subst, subst₂, ◌∙◌, arith}
+use Rattle.std.proofs.Common.{◌≡◌, ◌≢◌, inl, inr, IsTrue, ℕ, List, map, length, Bool, true, false, not, Option, Some, is_some, slice_get, string_bytes, String, Global, Bor, refl, ap, ap₂, sym, subst, subst₂, ◌∙◌}
+use Rattle.std.specs.Prelude.{◌↔◌}
 use Rattle.std.specs.String.{string_eq}
 use Rattle.wac_model.specs.Text.{Text}
 use Rattle.wac_model.specs.Desc.{value_desc}
 use Rattle.wac_model.specs.ValueTree.{ValueTree, ValueTrees, FuncTree, node, parts_of, primitive, borrow, own, tuple, list, fixed_size_list, map_of, option, result_of, variant, record_of, flags, enum, stream, future}
-use Rattle.wac_model.specs.ItemTree.{Kind, leaf, func, resource}
+use Rattle.wac_model.specs.ItemTree.{Kind, leaf, func}
 use Rattle.wac_component.specs.Id.{Id}
 use Rattle.wac_component.specs.Collection.{Collection}
 use Rattle.wac_component.specs.Content.{names, types_of}
 use Rattle.wac_component.specs.Tree.{value_tree, IsCompound, IsResolved}
 use Rattle.wac_component.specs.declared.items.ValueType.{ValueType}
 use Rattle.wac_component.specs.declared.items.ValueType.TheVariants.{Primitive, Borrow, Own, Defined}
+use Rattle.wac_mismatch.specs.Difference.{AreNamesOf, DifferIn, IsFaultOf}
 use Rattle.wac_mismatch.specs.Holds.{HoldsOfSides, HoldsOfValues, IsCount, IsKindFault, IsOfFunc, IsOfNames, IsResource}
-use Rattle.wac_mismatch.specs.Place.{Side, SideFits, value_side, item_side, by_check, expected_of, found_of}
+use Rattle.wac_mismatch.specs.Place.{value_side, item_side, by_check, expected_of, found_of}
 use Rattle.wac_mismatch.specs.declared.check.SubtypeCheck.{SubtypeCheck}
 use Rattle.wac_mismatch.specs.declared.check.SubtypeCheck.TheVariants.{Covariant, Contravariant}
 use Rattle.wac_mismatch.specs.declared.fault.CountOf.{CountOf}
 use Rattle.wac_mismatch.specs.declared.fault.CountOf.TheVariants as count_of
-use Rattle.wac_mismatch.specs.declared.fault.NameOf.{NameOf}
 use Rattle.wac_mismatch.specs.declared.fault.NameOf.TheVariants as name_of
 use Rattle.wac_mismatch.specs.declared.fault.ResultPart.TheVariants as result_part
 use Rattle.wac_mismatch.specs.declared.fault.Fault.{Fault}
 use Rattle.wac_mismatch.specs.declared.fault.Fault.TheVariants as fault
-use Rattle.wac_mismatch.proofs.FaultLemmas.{holds_refutes}
 use Rattle.wac_checker.specs.Content.{composed_side, result_side, variant_side}
 use Rattle.wac_checker.specs.Items.{AreOtherKinds, case_number}
-use Rattle.wac_checker.specs.Listing.{AreLeavesApart, AreNamesOf, AreOtherLeaves, AreRoots, DifferIn, IsFaultOf, IsReal, IsTold}
-use Rattle.wac_checker.specs.declared.parts.Difference.{Difference}
-use Rattle.wac_checker.specs.declared.parts.Difference.TheVariants as difference
-use Rattle.wac_checker.specs.declared.parts.Named.{Named}
-use Rattle.wac_checker.specs.declared.parts.Named.TheVariants as named
+use Rattle.wac_checker.specs.Listing.{AreLeavesApart, AreOtherLeaves, AreRoots}
+use Rattle.wac_mismatch.specs.declared.difference.Difference.{Difference}
+use Rattle.wac_mismatch.specs.declared.difference.Difference.TheVariants as difference
 use Rattle.wac_checker.proofs.NameLemmas.{same_text, other_text}
 use Rattle.wac_checker.proofs.ValueLemmas.{part_count-parts_of, tuple_counts}
 use Rattle.wac_checker.proofs.CaseLemmas.{marks, marks_names, entry_at, case_refuse, names_of_variants, variants_disagree}
 use Rattle.wac_checker.proofs.FuncLemmas.{params_of, name_at, param_refuse, funcs_disagree}
 use Rattle.wac_checker.proofs.PartLemmas.{ok_disagrees, err_disagrees}
-use Rattle.wac_checker.proofs.ItemLemmas.{resources_disagree}
-
--- ---- each difference but one is a fault
-
-some_fault : (x : Difference) → IsReal x → (f : Fault) × IsFaultOf Covariant x f
-some_fault (difference.Kinds a b) real = (fault.Kind b a, (refl, refl))
-some_fault (difference.Resources a b) real = (fault.Resource b.now a.now, (refl, refl))
-some_fault (difference.Async a b) real = (fault.Async b, refl)
-some_fault (difference.ParamCount a b) real = (fault.ParamCount b a, refl)
-some_fault (difference.ParamName i a b) real = (fault.ParamName i b.now a.now, (refl, refl, refl))
-some_fault (difference.FuncResult a b) real = (fault.FuncResult b, refl)
-some_fault difference.FixedSize real = (fault.FixedSize, refl)
-some_fault (difference.ResultPart p a b) real = (fault.ResultPart p b, refl)
-some_fault (difference.Payload a b) real = (fault.Payload b, refl)
-some_fault (difference.Count o a b) real = (fault.Count o b a, refl)
-some_fault (difference.Name o i a b) real = (fault.Name o i b.now a.now, (refl, refl, refl, refl))
-some_fault (difference.CaseType n a b) real = (fault.CaseType n.now b, (refl, refl))
-some_fault (difference.MissingExport h k n) real = (fault.MissingExport h k n.now Covariant, (refl, refl, refl, refl))
-some_fault (difference.MissingImport k n) real = (fault.MissingImport k n.now Covariant, (refl, refl, refl))
-some_fault difference.Modules real = elim real [ ]
-
--- two that differ don't fit
-pub differ_refutes : (x : Difference) (s t : Side) → IsReal x → DifferIn x s t → SideFits s t → ⊥
-differ_refutes x s t real differ fits = let f = some_fault x real in holds_refutes f.0 Covariant s t (differ Covariant f.0 f.1) fits
 
 -- ---- names
 
-pub told_names : (x y : String Global) (n m : Text) (b : Bool) (t : Named) → string_bytes x ≡ n → string_bytes y ≡ m → b ≡ string_eq x y → (IsTrue b → t ≡ named.Fits) → (b ≡ false → t ≡ named.Differs) → IsTold (n ≡ m) t
-told_names x y n m true t l r e fits differs = rw (fits refl) (sym l ∙ same_text x y (not true) (ap not e) refl ∙ r)
-told_names x y n m false t l r e fits differs = rw (differs refl) (λ same. absurd (other_text x y (not false) (ap not e) refl (l ∙ same ∙ sym r)))
+pub one_name : (x y : String Global) (n m : Text) (b : Bool) → string_bytes x ≡ n → string_bytes y ≡ m → b ≡ string_eq x y → IsTrue b ↔ (n ≡ m)
+one_name x y n m true l r e = (λ yes. sym l ∙ same_text x y (not true) (ap not e) refl ∙ r, λ same. refl)
+one_name x y n m false l r e = (λ yes. absurd (cc (yes)), λ same. absurd (other_text x y (not false) (ap not e) refl (l ∙ same ∙ sym r)))
 
 resource_at : (f : Fault) (x y : Text) → x ≢ y → AreNamesOf f x y → IsResource f x y
 resource_at (fault.Resource e g) x y ne h = (ne, h.0, h.1)
@@ -77,24 +51,6 @@ resource_by Contravariant f x y ne h = resource_at f x y ne h
 roots_by : (x : Difference) (c : SubtypeCheck) (f : Fault) (n m : Text) → n ≢ m → AreRoots x n m → IsFaultOf c x f → by_check c (IsResource f) n m
 roots_by (difference.Resources a b) c f n m ne roots is = resource_by c f n m ne (subst₂ (λ (x y : Text). AreNamesOf f (expected_of c x y) (found_of c x y)) roots.0 roots.1 is)
 roots_by _ c f n m ne roots is = elim roots [ ]
-
-borrow_by : (c : SubtypeCheck) (f : Fault) (n m : Text) (ts us : ValueTrees) → by_check c (IsResource f) n m → by_check c (HoldsOfSides f) (value_side (node (borrow n) ts)) (value_side (node (borrow m) us))
-borrow_by Covariant f n m ts us h = h
-borrow_by Contravariant f n m ts us h = h
-
-own_by : (c : SubtypeCheck) (f : Fault) (n m : Text) (ts us : ValueTrees) → by_check c (IsResource f) n m → by_check c (HoldsOfSides f) (value_side (node (own n) ts)) (value_side (node (own m) us))
-own_by Covariant f n m ts us h = h
-own_by Contravariant f n m ts us h = h
-
--- two handles, and two resources
-pub borrows_differ : (x : Difference) (n m : Text) (ts us : ValueTrees) → n ≢ m → AreRoots x n m → DifferIn x (value_side (node (borrow n) ts)) (value_side (node (borrow m) us))
-borrows_differ x n m ts us ne roots c f is = inl (borrow_by c f n m ts us (roots_by x c f n m ne roots is))
-
-pub owns_differ : (x : Difference) (n m : Text) (ts us : ValueTrees) → n ≢ m → AreRoots x n m → DifferIn x (value_side (node (own n) ts)) (value_side (node (own m) us))
-owns_differ x n m ts us ne roots c f is = inl (own_by c f n m ts us (roots_by x c f n m ne roots is))
-
-pub resources_differ : (x : Difference) (k : Kind) (n m : Text) → n ≢ m → AreRoots x n m → DifferIn x (item_side (leaf k (resource n))) (item_side (leaf k (resource m)))
-resources_differ x k n m ne roots c f is = inl (resources_disagree c f k n m (roots_by x c f n m ne roots is))
 
 -- ---- kinds
 
@@ -119,10 +75,6 @@ kinds_hold f s t ne h = h
 kinds_by : (c : SubtypeCheck) (f : Fault) (s t : ValueTree) → AreOtherKinds s t → IsKindFault f (expected_of c (value_desc s) (value_desc t)) (found_of c (value_desc s) (value_desc t)) → by_check c (HoldsOfSides f) (value_side s) (value_side t)
 kinds_by Covariant f s t ne h = kinds_hold f t s (λ e. ne (sym e)) h
 kinds_by Contravariant f s t ne h = kinds_hold f s t ne h
-
--- value types of different cases
-pub kinds_differ : (a b : Bor (List ℕ)) (s t : ValueTree) → a.now ≡ value_desc s → b.now ≡ value_desc t → AreOtherKinds s t → DifferIn (difference.Kinds a b) (value_side s) (value_side t)
-kinds_differ a b s t l r ne c f is = inl (kinds_by c f s t ne (subst₂ (λ (x y : Text). IsKindFault f (expected_of c x y) (found_of c x y)) l r is))
 
 -- leaves of one case that aren't handles of one sort
 leaves_hold : (f : Fault) (s t : ValueTree) → ((n m : Text) (ts us : ValueTrees) → s ≡ node (borrow n) ts → t ≡ node (borrow m) us → ⊥) → ((n m : Text) (ts us : ValueTrees) → s ≡ node (own n) ts → t ≡ node (own m) us → ⊥) → AreOtherLeaves s t → IsKindFault f (value_desc s) (value_desc t) → HoldsOfValues f s t
@@ -171,48 +123,12 @@ not_own c (Borrow x) res nw n ts e = absurd (cc)
 not_own c (Own x) res nw n ts e = nw x refl
 not_own c (Defined x) res nw n ts e = subst IsCompound e res.1
 
--- a compound type is of another case than a leaf
-compound_case : (t : ValueTree) → IsCompound t → (case_number t ≢ 0) × (case_number t ≢ 1) × (case_number t ≢ 2)
-compound_case (node (primitive p) ts) h = elim h [ ]
-compound_case (node (borrow p) ts) h = elim h [ ]
-compound_case (node (own p) ts) h = elim h [ ]
-compound_case (node tuple ts) h = ((λ e. absurd (omega (arith, e))), (λ e. absurd (omega (arith, e))), (λ e. absurd (omega (arith, e))))
-compound_case (node list ts) h = ((λ e. absurd (omega (arith, e))), (λ e. absurd (omega (arith, e))), (λ e. absurd (omega (arith, e))))
-compound_case (node (fixed_size_list n) ts) h = ((λ e. absurd (omega (arith, e))), (λ e. absurd (omega (arith, e))), (λ e. absurd (omega (arith, e))))
-compound_case (node map_of ts) h = ((λ e. absurd (omega (arith, e))), (λ e. absurd (omega (arith, e))), (λ e. absurd (omega (arith, e))))
-compound_case (node option ts) h = ((λ e. absurd (omega (arith, e))), (λ e. absurd (omega (arith, e))), (λ e. absurd (omega (arith, e))))
-compound_case (node (result_of o x) ts) h = ((λ e. absurd (omega (arith, e))), (λ e. absurd (omega (arith, e))), (λ e. absurd (omega (arith, e))))
-compound_case (node (variant xs) ts) h = ((λ e. absurd (omega (arith, e))), (λ e. absurd (omega (arith, e))), (λ e. absurd (omega (arith, e))))
-compound_case (node (record_of xs) ts) h = ((λ e. absurd (omega (arith, e))), (λ e. absurd (omega (arith, e))), (λ e. absurd (omega (arith, e))))
-compound_case (node (flags xs) ts) h = ((λ e. absurd (omega (arith, e))), (λ e. absurd (omega (arith, e))), (λ e. absurd (omega (arith, e))))
-compound_case (node (enum xs) ts) h = ((λ e. absurd (omega (arith, e))), (λ e. absurd (omega (arith, e))), (λ e. absurd (omega (arith, e))))
-compound_case (node (stream p) ts) h = ((λ e. absurd (omega (arith, e))), (λ e. absurd (omega (arith, e))), (λ e. absurd (omega (arith, e))))
-compound_case (node (future p) ts) h = ((λ e. absurd (omega (arith, e))), (λ e. absurd (omega (arith, e))), (λ e. absurd (omega (arith, e))))
-
 -- two value types that are no aliases and of different cases
 abbrev pub value_case : ValueType → ℕ
 value_case (Primitive p) = 0
 value_case (Borrow x) = 1
 value_case (Own x) = 2
 value_case (Defined x) = 3
-
-pub cases_apart : (c d : Collection) (v w : ValueType) → IsResolved c v → IsResolved d w → value_case v ≢ value_case w → AreOtherKinds (value_tree c v) (value_tree d w)
-cases_apart c d (Primitive p) (Primitive q) l r ne = absurd (ne refl)
-cases_apart c d (Borrow p) (Borrow q) l r ne = absurd (ne refl)
-cases_apart c d (Own p) (Own q) l r ne = absurd (ne refl)
-cases_apart c d (Defined p) (Defined q) l r ne = absurd (ne refl)
-cases_apart c d (Primitive p) (Defined q) l r ne = λ e. (compound_case (value_tree d (Defined q)) r.1).0 (sym e)
-cases_apart c d (Borrow p) (Defined q) l r ne = λ e. (compound_case (value_tree d (Defined q)) r.1).1 (sym e)
-cases_apart c d (Own p) (Defined q) l r ne = λ e. (compound_case (value_tree d (Defined q)) r.1).2 (sym e)
-cases_apart c d (Defined p) (Primitive q) l r ne = λ e. (compound_case (value_tree c (Defined p)) l.1).0 e
-cases_apart c d (Defined p) (Borrow q) l r ne = λ e. (compound_case (value_tree c (Defined p)) l.1).1 e
-cases_apart c d (Defined p) (Own q) l r ne = λ e. (compound_case (value_tree c (Defined p)) l.1).2 e
-cases_apart c d (Primitive p) (Borrow q) l r ne = λ e. absurd (omega (arith, e))
-cases_apart c d (Primitive p) (Own q) l r ne = λ e. absurd (omega (arith, e))
-cases_apart c d (Borrow p) (Primitive q) l r ne = λ e. absurd (omega (arith, e))
-cases_apart c d (Borrow p) (Own q) l r ne = λ e. absurd (omega (arith, e))
-cases_apart c d (Own p) (Primitive q) l r ne = λ e. absurd (omega (arith, e))
-cases_apart c d (Own p) (Borrow q) l r ne = λ e. absurd (omega (arith, e))
 
 -- ---- counts and names
 
@@ -222,18 +138,6 @@ count_by o Contravariant f m n ne is = rw is (refl, ne, refl, refl)
 
 pub tuples_differ : (c d : Collection) (vs ws : List ValueType) → length vs ≢ length ws → DifferIn (difference.Count count_of.Tuple (length vs) (length ws)) (composed_side c tuple vs) (composed_side d tuple ws)
 tuples_differ c d vs ws ne k f is = inl (tuple_counts k f (parts_of (map (value_tree c) vs)) (parts_of (map (value_tree d) ws)) (length vs) (length ws) (part_count-parts_of (value_tree c) vs) (part_count-parts_of (value_tree d) ws) (count_by count_of.Tuple k f (length vs) (length ws) ne is))
-
-names_count : (o : CountOf) (n : NameOf) (c : SubtypeCheck) (f : Fault) (xs ys : List Text) → length xs ≢ length ys → f ≡ fault.Count o (expected_of c (length xs) (length ys)) (found_of c (length xs) (length ys)) → by_check c (IsOfNames o n f) xs ys
-names_count o n Covariant f xs ys ne is = rw is (refl, (λ e. ne (sym e)), refl, refl)
-names_count o n Contravariant f xs ys ne is = rw is (refl, ne, refl, refl)
-
--- two lists of names of different lengths
-pub counts_by : (o : CountOf) (n : NameOf) (c : SubtypeCheck) (f : Fault) (xs ys : List Text) (k l : ℕ) → k ≡ length xs → l ≡ length ys → k ≢ l → IsFaultOf c (difference.Count o k l) f → by_check c (IsOfNames o n f) xs ys
-counts_by o n c f xs ys k l kx ly ne is = names_count o n c f xs ys (λ e. ne (kx ∙ e ∙ sym ly)) (is ∙ ap₂ (λ (x y : ℕ). fault.Count o (expected_of c x y) (found_of c x y)) kx ly)
-
-pub records_by : (c d : Collection) (es fs : List (String Global × ValueType)) (k : SubtypeCheck) (f : Fault) → by_check k (IsOfNames count_of.Record name_of.Record f) (names es) (names fs) → by_check k (HoldsOfSides f) (composed_side c (record_of (names es)) (types_of es)) (composed_side d (record_of (names fs)) (types_of fs))
-records_by c d es fs Covariant f h = h
-records_by c d es fs Contravariant f h = h
 
 pub variants_by : (c d : Collection) (es fs : List (String Global × Option ValueType)) (k : SubtypeCheck) (f : Fault) → by_check k (IsOfNames count_of.Variant name_of.Variant f) (names es) (names fs) → by_check k (HoldsOfSides f) (variant_side c es) (variant_side d fs)
 variants_by c d es fs k f h = variants_disagree k f c d es fs (names_of_variants k f (marks es) (marks fs) (names es) (names fs) (marks_names es) (marks_names fs) h)

@@ -26,7 +26,7 @@ use Rattle.wac_mismatch.specs.Steps.{IsExport, IsImportOf}
 use Rattle.wac_mismatch.specs.declared.check.SubtypeCheck.{SubtypeCheck}
 use Rattle.wac_mismatch.specs.declared.frame.Frame.{Frame}
 use Rattle.wac_checker.specs.Parts.{listed, IsServedAt, IsExportFrame, IsImportFrame}
-use Rattle.wac_checker.specs.Pairs.{AreItemsCompared, AreNamed, AreOfItems, AreSwapped, IsPlace, IsExternPart, IsEntriesPart, EntriesFit, IsBelow, HasPart, PartFits, PartsFit, import_count, Entries, Interfaces, Worlds, Finding, End, Same, Below, EntriesPath, IsFrameOf}
+use Rattle.wac_checker.specs.Pairs.{AreNamed, AreOfItems, AreSwapped, IsPlace, IsExternPart, IsEntriesPart, EntriesFit, IsBelow, HasPart, PartFits, PartsFit, import_count, Entries, Interfaces, Worlds, Finding, End, Same, Below, EntriesPath, IsFrameOf}
 use Rattle.wac_checker.proofs.PartLemmas.{pair_of}
 use Rattle.wac_checker.proofs.ExternLemmas.{tree_named, leads_to_export, leads_to_import, extern_lower, named_lower}
 
@@ -71,11 +71,6 @@ all_served es ts h n = by_found (item_at ts n) refl
     by_found (Some t) e = let at = found_listed ts n t e in h at.0 (slice_get_within (listed ts) at.0 (n, t) at.1) n t at.1
 
 -- ---- what is found at a place
-
-pub extern_found : (check : SubtypeCheck) (c d : Collection) (es ts : Externs) (i : ℕ) (n : Text) (x y : ItemKind) (p : Finding) → IsPlace ts i → AreNamed es ts i n x y → AreItemsCompared check c d x y p → IsExternPart check c d es ts i p
-extern_found check c d es ts i n x y End place' are h = elim h [ ]
-extern_found check c d es ts i n x y Same place' are h = (place', (n, x, y, are, h))
-extern_found check c d es ts i n x y (Below q) place' are h = (place', h.0, (n, x, y, are, h.1))
 
 module _ (c d : Collection) (es ts : Externs) (i : ℕ) (n : Text) (x y : ItemKind) (are : AreNamed es ts i n x y) where
   served_here : Fits (item_tree c x) (item_tree d y) → IsServedAt (items_of (item_tree c) es) (items_of (item_tree d) ts) i

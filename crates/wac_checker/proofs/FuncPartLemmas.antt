@@ -2,9 +2,7 @@
 use Rattle.std.proofs.Common.{◌≡◌, ◌<◌, ◌+◌, ◌^◌, ℕ, List, [], ◌∷◌, length, map, Option, Some, None, slice_get, string_bytes, String, Global, refl, ap, sym, subst, ◌∙◌, arith}
 use Rattle.std.specs.Str.{bytes_eq}
 use Rattle.std.specs.Map.{lookup}
-use Rattle.std.specs.Prelude.{Result, IfOk, Ok, Err}
 use Rattle.std.specs.Option.{option_map}
-use Rattle.std.specs.declared.alloc.AllocError.{AllocError}
 use Rattle.std.proofs.lemmas.List.{length-map}
 use Rattle.std.proofs.Common.{length-append}
 use Rattle.wac_model.specs.Text.{Text}
@@ -18,7 +16,7 @@ use Rattle.wac_component.specs.Tree.{value_tree, func_content_tree}
 use Rattle.wac_component.proofs.Lists.{slice_get-append, slice_get-last, slice_get-map}
 use Rattle.wac_mismatch.specs.Place.{item_side}
 use Rattle.wac_mismatch.specs.Steps.{IsParameter}
-use Rattle.wac_mismatch.specs.declared.frame.Frame.{Frame}
+use Rattle.wac_mismatch.specs.declared.frame.Frame.TheVariants as frame
 use Rattle.wac_checker.specs.Parts.{func_parts, IsIndex, SamePart, SameBefore, AreAt, IsFrameAt}
 use Rattle.wac_checker.proofs.ListLemmas.{same_list}
 use Rattle.wac_checker.proofs.FuncLemmas.{params_of, param_at, name_at, length-params, leads_to_param}
@@ -91,6 +89,5 @@ funcs_same x y i k a l b same =
     λ j. item_side (leaf k (func (record { params = params j; «result» = results j; is_async = a j })))
 
 -- the frame to a parameter
-pub param_frame_at : (c : Collection) (f : FuncType) (t : FuncTree) (i : ℕ) (r : Result Frame AllocError) → t ≡ func_content_tree c (func_content f) → i < length f.params.entries → IfOk r (λ g. (n : Text) × (slice_get (names f.params.entries) i ≡ Some n) × IsParameter n g) → (k : Kind) → IfOk r (IsFrameAt (item_side (leaf k (func t))) i)
-param_frame_at c f t i (Ok g) e b h k = rw e ((λ _. (h.0, name_at c f.params.entries i h.0 h.1, h.2)), (λ past. absurd (omega (arith, length-params c f.params.entries))))
-param_frame_at c f t i (Err e') e b h k = tt
+pub param_frame_at : (c : Collection) (f : FuncType) (t : FuncTree) (i : ℕ) (n : String Global) → t ≡ func_content_tree c (func_content f) → i < length f.params.entries → slice_get (names f.params.entries) i ≡ Some (string_bytes n) → (k : Kind) → IsFrameAt (item_side (leaf k (func t))) i (frame.Parameter n)
+param_frame_at c f t i n e b at k = rw e ((λ _. (string_bytes n, name_at c f.params.entries i (string_bytes n) at, refl)), (λ past. absurd (omega (arith, length-params c f.params.entries))))

@@ -1,6 +1,5 @@
 -- What is left to compare of two items.
-use Rattle.std.proofs.lemmas.Grind.{common_steps}
-use Rattle.std.proofs.Common.{◌≡◌, ◌==◌, ◌&&◌, Bool, true, ap, sym, ◌∙◌, arith}
+use Rattle.std.proofs.Common.{◌≡◌, ap, sym, ◌∙◌, arith}
 use Rattle.wac_model.specs.CoreTree.{ModuleTree}
 use Rattle.wac_model.specs.ValueTree.{ValueTree}
 use Rattle.wac_model.specs.ItemTree.{Kind, Leaf, Shape, Items, leaf, core_module, composite, value, item, type_item}
@@ -15,7 +14,7 @@ use Rattle.wac_component.specs.declared.items.ItemKind.TheVariants.{«Type» as 
 use Rattle.wac_component.specs.declared.items.ValueType.{ValueType}
 use Rattle.wac_component.specs.declared.items.ValueType.TheVariants.{Defined}
 use Rattle.wac_component.specs.declared.items.Type.TheVariants.{Func as TypeFunc, Interface as TypeInterface, World as TypeWorld, Module as TypeModule}
-use Rattle.wac_checker.specs.Pairs.{AreOf, AreOfItems, Entries, DefinedTypes, Funcs, Interfaces, Worlds, Modules}
+use Rattle.wac_checker.specs.Pairs.{AreOf, AreOfItems, Entries, DefinedTypes, Funcs, Interfaces, Worlds, Modules, id_in}
 use Rattle.wac_checker.proofs.ItemLemmas.{equal_leaves, values_path}
 
 -- ---- items that are those of entries
@@ -58,17 +57,15 @@ types_of_modules c d a b h k = record { stand = (h, k, tt); left_lower = omega a
 
 -- ---- what is left of two items
 
+-- an id that stands in a collection is that of its index there
+pub id_here : (c : Collection) (a : Id) → a.number ≡ c.number → id_in c a.index ≡ a
+id_here c a e = λ i. record { number = sym e i; index = a.index }
+
 -- one item of one collection fits itself
 pub one_fits : (c d : Collection) (x y : ItemKind) (j k : Key) → (c.number ≡ d.number → c ≡ d) → Stands c j → Stands d k → x ≡ y → j ≡ k → Fits (item_tree c x) (item_tree d y)
 one_fits c d x y j k one h m same keys =
     let numbers : c.number ≡ d.number = sym h.0 ∙ ap (λ (q : Key). q.id.number) keys ∙ m.0 in
     rw (one numbers, same) (Fits-refl (item_tree d y))
-
-pub ids_same : (a b : Id) (t : Bool) → t ≡ (a.number == b.number && a.index == b.index) → t ≡ true → a ≡ b
-ids_same a b t e h =
-    let numbers : a.number ≡ b.number = grind (arith, common_steps) in
-    let indices : a.index ≡ b.index = grind (arith, common_steps) in
-    λ i. record { number = numbers i; index = indices i }
 
 value_one : (s t : ValueTree) → value s ≡ value t → s ≡ t
 value_one s t h = cc

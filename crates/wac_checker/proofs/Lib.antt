@@ -12,7 +12,6 @@ pub mod CoreLemmas
 pub mod CacheGrowth
 pub mod PartLemmas
 pub mod PairLemmas
-pub mod PairedLemmas
 pub mod FuncPartLemmas
 pub mod CountLemmas
 pub mod ItemPartLemmas

@@ -1,6 +1,7 @@
 -- What is listed of two sides and of two entries, one part after another.
-use Rattle.std.proofs.Common.{◌≡◌, ◌≢◌, ◌≤◌, ◌<◌, ◌+◌, ◌^◌, ◌==◌, ◌&&◌, ◌⊎◌, inl, inr, ℕ, List, [], ◌∷◌, Bool, true, false, Option, Some, None, is_some, slice_get, refl, ap, sym, subst, subst₂, ◌∙◌, arith}
-use Rattle.std.specs.Prelude.{Contains}
+use Rattle.std.proofs.Common.{◌≡◌, ◌≢◌, ◌≤◌, ◌<◌, ◌+◌, ◌^◌, ◌==◌, ◌&&◌, ◌⊎◌, inl, inr, ℕ, List, [], ◌∷◌, Bool, true, false, Option, Some, None, Ok, Err, is_some, slice_get, refl, ap, sym, subst, subst₂, ◌∙◌, arith}
+use Rattle.std.proofs.lemmas.Grind.{common_steps}
+use Rattle.std.specs.Prelude.{Contains, IsErrAnd}
 use Rattle.std.specs.Option.{option_to_list}
 use Rattle.std.proofs.lemmas.Option.{slice_get_within}
 use Rattle.std.proofs.lemmas.List.Elements.{Contains-append_left, Contains-push, Contains-push_cases}
@@ -15,30 +16,28 @@ use Rattle.wac_component.specs.Tree.{value_tree, content_tree, func_tree, func_c
 use Rattle.wac_component.specs.declared.items.ValueType.{ValueType}
 use Rattle.wac_component.specs.declared.items.ValueType.TheVariants.{Defined}
 use Rattle.wac_mismatch.specs.Place.{Side, value_side, item_side, place, absent, by_check, expected_of}
+use Rattle.wac_mismatch.specs.Difference.{DifferIn}
 use Rattle.wac_mismatch.specs.Holds.{HoldsOfSides}
 use Rattle.wac_mismatch.specs.declared.fault.Fault.TheVariants as fault
 use Rattle.wac_checker.specs.Content.{composed_side, payload_side}
 use Rattle.wac_component.proofs.Members.{keys_height-member}
-use Rattle.wac_checker.specs.declared.parts.Difference.TheVariants as difference
+use Rattle.wac_mismatch.specs.declared.difference.Difference.TheVariants as difference
 use Rattle.wac_mismatch.specs.declared.check.SubtypeCheck.{SubtypeCheck}
 use Rattle.wac_mismatch.specs.declared.check.SubtypeCheck.TheVariants.{Covariant, Contravariant}
 use Rattle.wac_mismatch.specs.declared.fault.Fault.{Fault}
 use Rattle.wac_checker.specs.Parts.{AreAt, IsIndex, SamePart, SameBefore, side_parts}
 use Rattle.wac_checker.specs.Pairs.{AreOf, Entries, DefinedTypes, Funcs, Interfaces, Worlds, Modules, Below, EntriesFit, HaveAt, IsFitting, entries_by, entries_of, flag_of, id_in, left_of, right_of}
-use Rattle.wac_checker.specs.Listing.{AllFitBy, AreComposed, AreLeavesApart, AreMembersOf, AreNamedUnless, ArePartsOf, AreValuesNamed, DifferAtIn, DifferIn, IsLastTurn, IsMemberOf, IsNamed, IsPut, IsSideTurn, IsTurn, IsTurnTo, func_side, members_height}
-use Rattle.wac_checker.specs.declared.parts.Difference.{Difference}
+use Rattle.wac_checker.specs.Listing.{AllFitBy, AreComposed, AreEntriesNamed, AreMembersOf, AreNamedUnless, ArePartsOf, AreValuesNamed, DifferAtIn, IsLastTurn, IsMemberOf, IsNamed, IsPut, IsSideTurn, IsTurn, IsTurnTo, Named, Turn, func_side, members_height}
+use Rattle.wac_mismatch.specs.declared.difference.Difference.{Difference}
 use Rattle.wac_checker.specs.declared.parts.EntryPair.{EntryPair}
-use Rattle.wac_checker.specs.declared.parts.Named.{Named}
-use Rattle.wac_checker.specs.declared.parts.Named.TheVariants as named
 use Rattle.wac_checker.specs.declared.parts.PairPart.{PairPart}
 use Rattle.wac_checker.specs.declared.parts.PairSort.{PairSort}
 use Rattle.wac_checker.specs.declared.parts.PairSort.TheVariants as sort
-use Rattle.wac_checker.specs.declared.parts.Turn.{Turn}
-use Rattle.wac_checker.specs.declared.parts.Turn.TheVariants as turn
+use Rattle.wac_checker.specs.declared.parts.Halt.{Halt}
+use Rattle.wac_checker.specs.declared.parts.Halt.TheVariants as halt
 use Rattle.wac_checker.proofs.CountLemmas.{last_or_before}
-use Rattle.wac_checker.proofs.DifferenceLemmas.{differ_refutes, leaves_not_one}
-use Rattle.wac_checker.proofs.ItemPartLemmas.{ids_same}
-use Rattle.wac_checker.proofs.PairedLemmas.{id_here}
+use Rattle.wac_mismatch.proofs.DifferenceLemmas.{differ_refutes}
+use Rattle.wac_checker.proofs.ItemPartLemmas.{id_here}
 use Rattle.wac_checker.proofs.PairLemmas.{entries_of_defined, entries_of_func, leaf_one, parts_one, trees_one}
 use Rattle.wac_checker.proofs.ItemLemmas.{equal_leaves}
 use Rattle.wac_checker.proofs.PartLemmas.{have_below, one_tree, part_of_values}
@@ -77,22 +76,48 @@ put_cases i p ms ns (inr h) q m = Contains-push_cases ms (record { pair = p; ind
 pub resolved_here : (c : Collection) (d : Id) (e : DefinedContent) → slice_get c.defined d.index ≡ Some e → value_tree c (Defined d) ≡ content_tree (value_tree c) e → ((of : ValueType) → e ≢ alias_of of) → IsCompound (content_tree (value_tree c) e) → IsResolved c (Defined d)
 resolved_here c d e entry tree none compound = ((λ of is. (let both : Some e ≡ Some (alias_of of) = sym entry ∙ is in let one : e ≡ alias_of of = cc in none of one)), rw tree compound)
 
--- two defined types are one, or they are named
-pub values_put : (l r : Collection) (w : Bool) (i : ℕ) (a b : ValueType) (x y : Id) (t : Bool) (p : EntryPair) (ms ns : List PairPart) (k : Named) → (l.number ≡ r.number → l ≡ r) → Stands l (defined_key x) → Stands r (defined_key y) → IsResolved l (Defined x) → IsResolved r (Defined y) → value_tree l (Defined x) ≡ value_tree l a → value_tree r (Defined y) ≡ value_tree r b → height l (defined_key x) ≤ keys_height l (value_keys a) → height r (defined_key y) ≤ keys_height r (value_keys b)
-    → t ≡ (x.number == y.number && x.index == y.index) → p ≡ record { left = x.index; right = y.index; sort = sort.Defined; swapped = w } → AreNamedUnless t i p ms ns k → AreValuesNamed l r w i a b ms ns k
-values_put l r w i a b x y t p ms ns named.Fits one h k resx resy left right left_lower right_lower test is named' = elim named' [
-  | inl same ↦ inl (
-    same.1,
-    (
-        let ids : x ≡ y = ids_same x y t test same.0 in
-        let numbers : l.number ≡ r.number = sym h.0 ∙ ap (λ (j : Id). j.number) ids ∙ k.0 in
-        let trees : value_tree l (Defined x) ≡ value_tree r (Defined y) = rw (one numbers, ids) refl in
-        sym left ∙ trees ∙ right),
-  )
-  | inr put ↦ inr (p, ap (λ (q : EntryPair). q.swapped) is, rw is (subst₂ (λ (u v : Id). AreOf l r a b (DefinedTypes u v)) (sym (id_here l x h.0)) (sym (id_here r y k.0)) (sym left, sym right, (h, k, (resx, resy)), left_lower, right_lower)), put)
+-- two entries are one, or they are named
+pub entries_put : (l r : Collection) (i a b : ℕ) (t : Bool) (p : EntryPair) (ms ns : List PairPart) (k : Named) → (l.number ≡ r.number → l ≡ r) → t ≡ (l.number == r.number && a == b) → p.left ≡ a → p.right ≡ b → AreNamedUnless t i p ms ns k → AreEntriesNamed l r i p ms ns k
+entries_put l r i a b t p ms ns (Ok true) one test left right h = elim h [
+  | inl same ↦ inl (one (let both = test_true t (l.number == r.number && a == b) test same.0 in grind (arith, common_steps)), left ∙ (let both = test_true t (l.number == r.number && a == b) test same.0 in grind (arith, common_steps)) ∙ sym right, same.1)
+  | inr put ↦ inr put
 ]
-values_put l r w i a b x y t p ms ns named.Differs one h k resx resy left right left_lower right_lower test is named' = elim named' [ ]
-values_put l r w i a b x y t p ms ns named.Memory one h k resx resy left right left_lower right_lower test is named' = tt
+  where
+    test_true : (s u : Bool) → s ≡ u → s ≡ true → u ≡ true
+    test_true s u e h = sym e ∙ h
+entries_put l r i a b t p ms ns (Ok false) one test left right h = elim h [ ]
+entries_put l r i a b t p ms ns (Err e) one test left right h = tt
+
+-- ids of one index in one collection are one
+pub ids_one : (l r : Collection) (x y : Id) → x.number ≡ l.number → y.number ≡ r.number → l ≡ r → x.index ≡ y.index → x ≡ y
+ids_one l r x y left right same index =
+    let numbers : x.number ≡ y.number = left ∙ ap (λ (c : Collection). c.number) same ∙ sym right in
+    λ i. record { number = numbers i; index = index i }
+
+-- two defined types are one, or they are named
+pub values_put : (l r : Collection) (w : Bool) (i : ℕ) (x y : Id) (ms ns : List PairPart) (k : Named) → Stands l (defined_key x) → Stands r (defined_key y) → IsResolved l (Defined x) → IsResolved r (Defined y) → AreEntriesNamed l r i (record { left = x.index; right = y.index; sort = sort.Defined; swapped = w }) ms ns k → AreValuesNamed l r w i (Defined x) (Defined y) ms ns k
+values_put l r w i x y ms ns (Ok true) h k resx resy named' = elim named' [
+  | inl same ↦ inl (same.2, (let ids : x ≡ y = ids_one l r x y h.0 k.0 same.0 same.1 in rw (same.0, ids) refl))
+  | inr put ↦ inr (record { left = x.index; right = y.index; sort = sort.Defined; swapped = w }, refl, subst₂ (λ (u v : Id). AreOf l r (Defined x) (Defined y) (DefinedTypes u v)) (sym (id_here l x h.0)) (sym (id_here r y k.0)) (refl, refl, (h, k, (resx, resy)), omega arith, omega arith), put)
+]
+values_put l r w i x y ms ns (Ok false) h k resx resy named' = elim named' [ ]
+values_put l r w i x y ms ns (Err e) h k resx resy named' = tt
+
+-- what is said of the types that two are aliases of is said of them
+pub values_as : (l r : Collection) (w : Bool) (i : ℕ) (v u x y : ValueType) (ms ns : List PairPart) (k : Named) → value_tree l v ≡ value_tree l x → value_tree r u ≡ value_tree r y → keys_height l (value_keys v) ≤ keys_height l (value_keys x) → keys_height r (value_keys u) ≤ keys_height r (value_keys y) → AreValuesNamed l r w i v u ms ns k → AreValuesNamed l r w i x y ms ns k
+values_as l r w i v u x y ms ns (Ok true) left right left_lower right_lower h = elim h [
+  | inl one ↦ inl (one.0, sym left ∙ one.1 ∙ right)
+  | inr put ↦ inr (put.0, put.1, of_as (entries_of l r put.0) put.2, put.3)
+]
+  where
+    of_as : (e : Entries) → AreOf l r v u e → AreOf l r x y e
+    of_as (DefinedTypes a b) of = (sym left ∙ of.0, sym right ∙ of.1, of.2, omega (arith, of.3), omega (arith, of.4))
+    of_as (Funcs a b) of = elim of [ ]
+    of_as (Interfaces a b) of = elim of [ ]
+    of_as (Worlds a b) of = elim of [ ]
+    of_as (Modules a b) of = elim of [ ]
+values_as l r w i v u x y ms ns (Ok false) left right left_lower right_lower h = rw (← left, ← right) h
+values_as l r w i v u x y ms ns (Err e) left right left_lower right_lower h = tt
 
 -- ---- members of two sides
 
@@ -100,18 +125,40 @@ pub none_listed : (l r : Collection) (w : Bool) (s t : Side) (m n : ℕ) (ms : L
 none_listed l r w s t m n ms e q c = let none = subst (λ (xs : List PairPart). Contains xs q) e c in absurd (omega (arith, none.1))
 
 -- nothing is listed yet
-pub turn_from : (l r : Collection) (w : Bool) (s t : Side) (m n : ℕ) (ms : List PairPart) → ms ≡ [] → IsTurnTo l r w s t m n 0 ms turn.End
+pub turn_from : (l r : Collection) (w : Bool) (s t : Side) (m n : ℕ) (ms : List PairPart) → ms ≡ [] → IsTurnTo l r w s t m n 0 ms (Ok tt)
 turn_from l r w s t m n ms e = (none_listed l r w s t m n ms e, λ all j b. absurd (omega (arith, b)))
 
 -- all is listed
 pub turn_done : (l r : Collection) (w : Bool) (s t : Side) (m n i : ℕ) (ms : List PairPart) (k : Turn) → IsTurnTo l r w s t m n i ms k → (SameBefore s t i → s ≡ t) → IsSideTurn l r w s t m n ms k
-turn_done l r w s t m n i ms turn.End h done = (h.0, λ all. done (h.1 all))
-turn_done l r w s t m n i ms (turn.Apart x) h done = h
-turn_done l r w s t m n i ms (turn.PartApart j b x) h done = h
-turn_done l r w s t m n i ms turn.Memory h done = tt
+turn_done l r w s t m n i ms (Ok u) h done = (h.0, λ all. done (h.1 all))
+turn_done l r w s t m n i ms (Err (halt.Apart x)) h done = h
+turn_done l r w s t m n i ms (Err (halt.PartApart j b x)) h done = h
+turn_done l r w s t m n i ms (Err halt.Modules) h done = h
+turn_done l r w s t m n i ms (Err halt.Memory) h done = tt
+
+-- a turn that isn't the end is that of all
+pub turn_other : (l r : Collection) (w : Bool) (s t : Side) (m n i : ℕ) (ms : List PairPart) (k : Turn) → (k ≡ Ok tt → ⊥) → IsTurnTo l r w s t m n i ms k → IsSideTurn l r w s t m n ms k
+turn_other l r w s t m n i ms (Ok u) other h = absurd (other refl)
+turn_other l r w s t m n i ms (Err (halt.Apart x)) other h = h
+turn_other l r w s t m n i ms (Err (halt.PartApart j b x)) other h = h
+turn_other l r w s t m n i ms (Err halt.Modules) other h = h
+turn_other l r w s t m n i ms (Err halt.Memory) other h = tt
+
+-- and is that up to any place
+pub turn_at : (l r : Collection) (w : Bool) (s t : Side) (m n i j : ℕ) (ms : List PairPart) (k : Turn) → (k ≡ Ok tt → ⊥) → IsTurnTo l r w s t m n i ms k → IsTurnTo l r w s t m n j ms k
+turn_at l r w s t m n i j ms (Ok u) other h = absurd (other refl)
+turn_at l r w s t m n i j ms (Err e) other h = h
+
+-- what `?` returns is what was found
+pub halted : (r k : Turn) (e : Halt) → IsErrAnd r (λ x. x ≡ e) → k ≡ Err e → r ≡ k
+halted (Ok u) k e h is = elim h [ ]
+halted (Err x) k e h is = ap Err h ∙ sym is
+
+pub not_whole : (k : Turn) (e : Halt) → k ≡ Err e → k ≡ Ok tt → ⊥
+not_whole k e is whole = absurd (cc (is, whole))
 
 -- a part that is the same needs no pair
-pub turn_same : (l r : Collection) (w : Bool) (s t : Side) (m n i : ℕ) (ms : List PairPart) → SamePart s t i → IsTurnTo l r w s t m n i ms turn.End → IsTurnTo l r w s t m n (i + 1) ms turn.End
+pub turn_same : (l r : Collection) (w : Bool) (s t : Side) (m n i : ℕ) (ms : List PairPart) → SamePart s t i → IsTurnTo l r w s t m n i ms (Ok tt) → IsTurnTo l r w s t m n (i + 1) ms (Ok tt)
 turn_same l r w s t m n i ms here h = (h.0, λ all j b. elim (last_or_before j i (omega (arith, b))) [ inl e ↦ subst (λ (k : ℕ). SamePart s t k) (sym e) here | inr before ↦ h.1 all j before ])
 
 module _ (l r : Collection) (w : Bool) (s t : Side) (m n i : ℕ) (v x : ValueType) (ms ns : List PairPart)
@@ -130,7 +177,7 @@ module _ (l r : Collection) (w : Bool) (s t : Side) (m n i : ℕ) (v x : ValueTy
   same_part h = at.1 ∙ ap (λ (u : ValueTree). Some (at.0, Some u)) h ∙ sym at.2
 
   -- one more part is named
-  pub turn_next : AreValuesNamed l r w i v x ms ns named.Fits → IsTurnTo l r w s t m n i ms turn.End → IsTurnTo l r w s t m n (i + 1) ns turn.End
+  turn_next : AreValuesNamed l r w i v x ms ns (Ok true) → IsTurnTo l r w s t m n i ms (Ok tt) → IsTurnTo l r w s t m n (i + 1) ns (Ok tt)
   turn_next named' h = elim named' [
     | inl same ↦ rw same.0 (turn_same l r w s t m n i ms (same_part same.1) h)
     | inr put ↦ (
@@ -152,16 +199,13 @@ module _ (l r : Collection) (w : Bool) (s t : Side) (m n i : ℕ) (v x : ValueTy
   index_here : IsIndex s i
   index_here = (slice_get_within (side_parts s) i (at.0, Some (value_tree l v)) at.1, room)
 
-  -- the part differs
-  pub turn_apart : (d : Difference) → ns ≡ ms → AreLeavesApart (value_tree l v) (value_tree r x) → DifferIn d (value_side (value_tree l v)) (value_side (value_tree r x)) → IsTurnTo l r w s t m n i ms turn.End → IsSideTurn l r w s t m n ns (turn.PartApart i false d)
-  turn_apart d same apart differ h = let here = part_apart d differ (leaves_not_one (value_tree l v) (value_tree r x) apart) in rw same (h.0, refl, index_here, here.0, here.1)
-
   -- the last parts
-  pub turn_last : (k : Turn) → IsLastTurn l r w i v x ms ns k → IsTurnTo l r w s t m n i ms turn.End → IsTurnTo l r w s t m n (i + 1) ns k
-  turn_last turn.End last h = turn_next last h
-  turn_last (turn.Apart d) last h = elim last [ ]
-  turn_last (turn.PartApart j b d) last h = let here = part_apart d last.3 last.4 in rw (last.0, last.1, last.2) (h.0, refl, index_here, here.0, here.1)
-  turn_last turn.Memory last h = tt
+  pub turn_last : (k : Turn) → IsLastTurn l r w i v x ms ns k → IsTurnTo l r w s t m n i ms (Ok tt) → IsTurnTo l r w s t m n (i + 1) ns k
+  turn_last (Ok u) last h = turn_next last h
+  turn_last (Err (halt.Apart d)) last h = elim last [ ]
+  turn_last (Err (halt.PartApart j b d)) last h = let here = part_apart d last.3 last.4 in rw (last.0, last.1, last.2) (h.0, refl, index_here, here.0, here.1)
+  turn_last (Err halt.Modules) last h = elim last [ ]
+  turn_last (Err halt.Memory) last h = tt
 
 -- ---- of two defined types
 
@@ -176,15 +220,16 @@ module _ (l r : Collection) (w : Bool) (a b : Id) (e f : DefinedContent) (ms : L
       (false, here.1 ∙ flag_same w, part.0, part.1)
 
   pub defined_turn : (k : Turn) → IsSideTurn l r w (value_side (content_tree (value_tree l) e)) (value_side (content_tree (value_tree r) f)) (keys_height l (defined_keys e) + 1) (keys_height r (defined_keys f) + 1) ms k → IsTurn l r w (DefinedTypes a b) ms k
-  defined_turn turn.End h = (defined_parts h.0, λ all k. left_tree ∙ trees_one (content_tree (value_tree l) e) (content_tree (value_tree r) f) (h.1 all) ∙ sym right_tree)
-  defined_turn (turn.Apart x) h = (defined_parts h.0, (λ c f is k. rw (left_tree, right_tree) (h.2 c f is)), (λ fit. differ_refutes x (value_side (content_tree (value_tree l) e)) (value_side (content_tree (value_tree r) f)) h.1 h.2 (sym left_tree ∙ fit item ∙ right_tree)))
-  defined_turn (turn.PartApart i s x) h = (
+  defined_turn (Ok u) h = (defined_parts h.0, λ all k. left_tree ∙ trees_one (content_tree (value_tree l) e) (content_tree (value_tree r) f) (h.1 all) ∙ sym right_tree)
+  defined_turn (Err (halt.Apart x)) h = (defined_parts h.0, (λ c f is k. rw (left_tree, right_tree) (h.1 c f is)), (λ fit. differ_refutes x (value_side (content_tree (value_tree l) e)) (value_side (content_tree (value_tree r) f)) h.1 (sym left_tree ∙ fit item ∙ right_tree)))
+  defined_turn (Err (halt.PartApart i s x)) h = (
     defined_parts h.0,
     rw left_tree h.2,
     (λ c f g is fault k. rw (left_tree, right_tree) (h.3 c f g (rw left_tree at is) (rw h.1 at fault))),
     (λ fit. h.4 (ap value_side (sym left_tree ∙ fit item ∙ right_tree))),
   )
-  defined_turn turn.Memory h = tt
+  defined_turn (Err halt.Modules) h = elim h [ ]
+  defined_turn (Err halt.Memory) h = tt
 
 -- ---- of two functions
 
@@ -203,15 +248,16 @@ module _ (l r : Collection) (w : Bool) (a b : Id) (e f : FuncContent) (ms : List
   one_func fit k = let same = leaf_fits (rw (left_tree, right_tree) at (fit k)) in ap (λ (x : Leaf). item_side (leaf k x)) same
 
   pub func_turn : (k : Turn) → ((j : Kind) → IsSideTurn l r w (func_side j l e) (func_side j r f) (keys_height l (func_keys e) + 1) (keys_height r (func_keys f) + 1) ms k) → IsTurn l r w (Funcs a b) ms k
-  func_turn turn.End h = (func_parts (λ j. (h j).0), λ all j. rw (left_tree, right_tree) (equal_leaves j (func (func_content_tree l e)) (func (func_content_tree r f)) (leaf_one j (func (func_content_tree l e)) (func (func_content_tree r f)) ((h j).1 all))))
-  func_turn (turn.Apart x) h = (func_parts (λ j. (h j).0), (λ c g is j. rw (left_tree, right_tree) ((h j).2 c g is)), (λ fit. differ_refutes x (func_side item l e) (func_side item r f) (h item).1 (h item).2 (rw (left_tree, right_tree) at (fit item))))
-  func_turn (turn.PartApart i s x) h = (
+  func_turn (Ok u) h = (func_parts (λ j. (h j).0), λ all j. rw (left_tree, right_tree) (equal_leaves j (func (func_content_tree l e)) (func (func_content_tree r f)) (leaf_one j (func (func_content_tree l e)) (func (func_content_tree r f)) ((h j).1 all))))
+  func_turn (Err (halt.Apart x)) h = (func_parts (λ j. (h j).0), (λ c g is j. rw (left_tree, right_tree) ((h j).1 c g is)), (λ fit. differ_refutes x (func_side item l e) (func_side item r f) (h item).1 (rw (left_tree, right_tree) at (fit item))))
+  func_turn (Err (halt.PartApart i s x)) h = (
     func_parts (λ j. (h j).0),
     rw left_tree (h item).2,
     (λ c g y is fault j. rw (left_tree, right_tree) ((h j).3 c g y (rw left_tree at is) (rw (h item).1 at fault))),
     (λ fit. (h item).4 (one_func fit item)),
   )
-  func_turn turn.Memory h = tt
+  func_turn (Err halt.Modules) h = absurd (h item)
+  func_turn (Err halt.Memory) h = tt
 
 -- ---- of value types with one part
 
@@ -252,13 +298,13 @@ payload_by l r Covariant (Some v) None f ne is = rw is refl
 payload_by l r Contravariant (Some v) None f ne is = rw is refl
 
 module _ (l r : Collection) (w : Bool) (ms : List PairPart) (none : ms ≡ []) where
-  pub stream_apart : (o p : Option ValueType) → is_some o ≢ is_some p → AreComposed l r w (stream (is_some o)) (option_to_list o) (stream (is_some p)) (option_to_list p) ms (turn.PartApart 0 false (difference.Payload (is_some o) (is_some p)))
+  pub stream_apart : (o p : Option ValueType) → is_some o ≢ is_some p → AreComposed l r w (stream (is_some o)) (option_to_list o) (stream (is_some p)) (option_to_list p) ms (Err (halt.PartApart 0 false (difference.Payload (is_some o) (is_some p))))
   stream_apart None None ne = absurd (ne refl)
   stream_apart (Some v) (Some x) ne = absurd (ne refl)
   stream_apart None (Some x) ne = (none_listed l r w (composed_side l (stream false) []) (composed_side r (stream true) (x ∷ [])) (members_height l []) (members_height r (x ∷ [])) ms none, refl, (omega arith, omega arith), (λ c f g is fault. (place c absent (value_side (value_tree r x)), rw is (record { alike = tt; same_check = refl; left = refl; right = refl }), inl (payload_by l r c None (Some x) g ne fault))), (λ e. absurd (cc (e))))
   stream_apart (Some v) None ne = (none_listed l r w (composed_side l (stream true) (v ∷ [])) (composed_side r (stream false) []) (members_height l (v ∷ [])) (members_height r []) ms none, refl, (omega arith, omega arith), (λ c f g is fault. (place c (value_side (value_tree l v)) absent, rw is (record { alike = tt; same_check = refl; left = refl; right = refl }), inl (payload_by l r c (Some v) None g ne fault))), (λ e. absurd (cc (e))))
 
-  pub future_apart : (o p : Option ValueType) → is_some o ≢ is_some p → AreComposed l r w (future (is_some o)) (option_to_list o) (future (is_some p)) (option_to_list p) ms (turn.PartApart 0 false (difference.Payload (is_some o) (is_some p)))
+  pub future_apart : (o p : Option ValueType) → is_some o ≢ is_some p → AreComposed l r w (future (is_some o)) (option_to_list o) (future (is_some p)) (option_to_list p) ms (Err (halt.PartApart 0 false (difference.Payload (is_some o) (is_some p))))
   future_apart None None ne = absurd (ne refl)
   future_apart (Some v) (Some x) ne = absurd (ne refl)
   future_apart None (Some x) ne = (none_listed l r w (composed_side l (future false) []) (composed_side r (future true) (x ∷ [])) (members_height l []) (members_height r (x ∷ [])) ms none, refl, (omega arith, omega arith), (λ c f g is fault. (place c absent (value_side (value_tree r x)), rw is (record { alike = tt; same_check = refl; left = refl; right = refl }), inl (payload_by l r c None (Some x) g ne fault))), (λ e. absurd (cc (e))))

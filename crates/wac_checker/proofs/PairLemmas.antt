@@ -1,8 +1,5 @@
 -- Pairs: when two are one, and what is found of their parts.
 use Rattle.std.proofs.Common.{◌≡◌, ℕ, Bool, true, false, Option, Some, slice_get, refl, ap, sym, subst, ◌∙◌, arith, ◌≢◌}
-use Rattle.std.specs.Prelude.{Result, MatchResult, IfOk, Ok, Err}
-use Rattle.std.specs.declared.alloc.AllocError.{AllocError}
-use Rattle.wac_mismatch.specs.declared.frame.Frame.{Frame}
 use Rattle.wac_mismatch.specs.declared.error.SubtypeError.TheVariants.{Mismatch, Memory}
 use Rattle.wac_model.specs.Text.{Text}
 use Rattle.wac_model.specs.ValueTree.{ValueTree}
@@ -16,7 +13,6 @@ use Rattle.wac_component.specs.Tree.{value_tree, func_tree}
 use Rattle.wac_component.specs.declared.items.ValueType.TheVariants.{Defined}
 use Rattle.wac_mismatch.specs.Place.{Side, SideFits, item_side, value_side, place, turned}
 use Rattle.wac_mismatch.specs.Path.{Explains, Refutes}
-use Rattle.wac_mismatch.specs.Steps.{IsUnder}
 use Rattle.wac_mismatch.proofs.PathLemmas.{explains_refutes}
 use Rattle.wac_mismatch.specs.declared.check.SubtypeCheck.{SubtypeCheck}
 use Rattle.wac_mismatch.specs.declared.check.SubtypeCheck.TheVariants.{Covariant, Contravariant}
@@ -103,12 +99,6 @@ below_pair c d p i q h = by_cases p.entries q.entries p.swapped q.swapped h
     by_cases e f false true h = record { stand = h.stand; lower = h.lower; enough = h.enough; leads = h.leads; needed = h.needed }
     by_cases e f true false h = record { stand = h.stand; lower = h.lower; enough = h.enough; leads = λ check. h.leads (turned check); needed = h.needed }
     by_cases e f true true h = record { stand = h.stand; lower = h.lower; enough = h.enough; leads = λ check f is gs g path. h.leads (turned check) f is gs g (rw (turned_twice check) path); needed = h.needed }
-
--- a refusal to which a frame was put explains the two that have the parts
-pub framed_explains : (check : SubtypeCheck) (c d : Collection) (e : Entries) (P : Frame → Type 0) (frame : Result Frame AllocError) (r s : SubtypeError) → MatchResult frame (λ f. IsUnder (λ g. g ≡ f) r s) (λ _. s ≡ Memory) → IfOk frame P
-    → ((f : Frame) → P f → (t : SubtypeError) → IsUnder (λ g. g ≡ f) r t → ExplainsEntries check c d e t) → ExplainsEntries check c d e s
-framed_explains check c d e P (Ok f) r s under is explains = explains f is s under
-framed_explains check c d e P (Err x) r s under is explains = λ k. rw under tt
 
 -- what a mismatch refutes doesn't hold
 pub refuted : (e : SubtypeError) (P : Type 0) → Refutes e P → e ≢ Memory → ¬ P

@@ -2,26 +2,22 @@
 use Rattle.std.specs.Str.{bytes_eq}
 use Rattle.std.specs.Map.{lookup}
 use Rattle.std.proofs.Common.{◌+◌, ◌^◌, ◌≡◌, ◌≢◌, ◌≤◌, ◌<◌, ℕ, suc, zero, List, [], ◌∷◌, ◌++◌, length, map, true, Option, Some, None, is_some, slice_get, string_bytes, String, Global, refl, ap, sym, subst, ◌∙◌, arith}
-use Rattle.std.specs.Prelude.{Result, IfOk, Ok, Err}
-use Rattle.std.specs.declared.alloc.AllocError.{AllocError}
 use Rattle.std.proofs.lemmas.List.{length-map}
-use Rattle.wac_mismatch.specs.declared.frame.Frame.{Frame}
+use Rattle.wac_mismatch.specs.declared.frame.Frame.TheVariants as frame
 use Rattle.std.specs.Option.{option_map, option_to_list}
 use Rattle.std.proofs.lemmas.Option.{slice_get_within}
 use Rattle.wac_model.specs.Text.{Text}
 use Rattle.wac_model.specs.ValueTree.{ValueTree, parts_of, tuple, map_of, record_of}
 use Rattle.wac_component.specs.declared.items.ValueType.{ValueType}
 use Rattle.wac_component.specs.declared.items.ValueType.TheVariants.{Defined}
-use Rattle.wac_component.specs.Id.{Id}
-use Rattle.wac_component.specs.Collection.{Collection, DefinedContent}
+use Rattle.wac_component.specs.Collection.{Collection}
 use Rattle.wac_component.specs.Content.{names, types_of}
-use Rattle.wac_component.specs.Height.{height, keys_height}
-use Rattle.wac_component.specs.Key.{defined_key, defined_keys, value_keys}
-use Rattle.wac_component.specs.Tree.{value_tree, content_tree}
+use Rattle.wac_component.specs.Height.{keys_height}
+use Rattle.wac_component.specs.Key.{value_keys}
+use Rattle.wac_component.specs.Tree.{value_tree}
 use Rattle.std.specs.List.{flat_map}
 use Rattle.wac_component.proofs.Lists.{append_nil, slice_get-map}
-use Rattle.wac_component.proofs.Members.{keys_height-member}
-use Rattle.wac_mismatch.specs.Place.{Side, value_side, by_check, expected_of}
+use Rattle.wac_mismatch.specs.Place.{Side, by_check, expected_of}
 use Rattle.wac_mismatch.specs.Part.{sided}
 use Rattle.wac_mismatch.specs.Steps.{IsCase, IsField}
 use Rattle.wac_mismatch.specs.Holds.{HoldsOfSides}
@@ -88,21 +84,6 @@ tuples_same c d vs ws i l e same =
     rw (slice_get-map (value_tree c) vs k, slice_get-map (value_tree d) ws k) (unnamed_one (value_tree c) (value_tree d) (slice_get vs k) (slice_get ws k) both)) refl
 
 -- ---- maps
-
-module _ (check : SubtypeCheck) (c d : Collection) (k v l w : ValueType) where
-  -- what was found of the keys of two maps is what was found of the maps at their first place
-  pub part_of_keys : (p : Finding) → AreValuesCompared check c d k l p → IsValuePart check c d (composed_side c map_of (k ∷ v ∷ [])) (composed_side d map_of (l ∷ w ∷ [])) (keys_height c (flat_map value_keys (k ∷ v ∷ [])) + 1) (keys_height d (flat_map value_keys (l ∷ w ∷ [])) + 1) 0 p
-  part_of_keys p h =
-      let left = keys_height-member c (k ∷ v ∷ []) 0 k refl in
-      let right = keys_height-member d (l ∷ w ∷ []) 0 l refl in
-      part_of_values check c d (composed_side c map_of (k ∷ v ∷ [])) (composed_side d map_of (l ∷ w ∷ [])) (keys_height c (flat_map value_keys (k ∷ v ∷ [])) + 1) (keys_height d (flat_map value_keys (l ∷ w ∷ [])) + 1) 0 k l (omega arith) ([], refl, refl, λ check f is. rw is (record { alike = tt; same_check = refl; left = refl; right = refl })) (omega (arith, left)) (omega (arith, right)) p h
-
-  -- and so of their values
-  pub part_of_map_values : (p : Finding) → AreValuesCompared check c d v w p → IsValuePart check c d (composed_side c map_of (k ∷ v ∷ [])) (composed_side d map_of (l ∷ w ∷ [])) (keys_height c (flat_map value_keys (k ∷ v ∷ [])) + 1) (keys_height d (flat_map value_keys (l ∷ w ∷ [])) + 1) 1 p
-  part_of_map_values p h =
-      let left = keys_height-member c (k ∷ v ∷ []) 1 v refl in
-      let right = keys_height-member d (l ∷ w ∷ []) 1 w refl in
-      part_of_values check c d (composed_side c map_of (k ∷ v ∷ [])) (composed_side d map_of (l ∷ w ∷ [])) (keys_height c (flat_map value_keys (k ∷ v ∷ [])) + 1) (keys_height d (flat_map value_keys (l ∷ w ∷ [])) + 1) 1 v w (omega arith) ([], refl, refl, λ check f is. rw is (record { alike = tt; same_check = refl; left = refl; right = refl })) (omega (arith, left)) (omega (arith, right)) p h
 
 pub one_tree : (x y : ValueTree) → (let p : Option (Text × Option ValueTree) = Some ([], Some x) in p) ≡ Some ([], Some y) → x ≡ y
 one_tree x y h = let same : Some x ≡ Some y = ap (λ (q : Text × Option ValueTree). q.1) (pair_of ([], Some x) ([], Some y) h) in cc
@@ -266,18 +247,6 @@ module _ (check : SubtypeCheck) (c d : Collection) (s t : Side) (m n k l i : ℕ
   have_below (Worlds x y) h = elim h [ ]
   have_below (Modules x y) h = elim h [ ]
 
-  pub part_below : (p : Finding) → IsValuePart check c d s t m n i p → IsValuePart check c d s t k l i p
-  part_below End h = h
-  part_below Same h = h
-  part_below (Below q) h = (h.0, h.1, have_below q.entries h.2)
-
-module _ (check : SubtypeCheck) (c d : Collection) (a b : Id) (e f : DefinedContent) (i : ℕ)
-    (left_tree : value_tree c (Defined a) ≡ content_tree (value_tree c) e) (right_tree : value_tree d (Defined b) ≡ content_tree (value_tree d) f)
-    (left_lower : keys_height c (defined_keys e) < height c (defined_key a)) (right_lower : keys_height d (defined_keys f) < height d (defined_key b)) where
-  -- a part of what two defined types say is one of theirs
-  pub part_of_defined : (p : Finding) → IsValuePart check c d (value_side (content_tree (value_tree c) e)) (value_side (content_tree (value_tree d) f)) (keys_height c (defined_keys e) + 1) (keys_height d (defined_keys f) + 1) i p → IsValuePart check c d (value_side (value_tree c (Defined a))) (value_side (value_tree d (Defined b))) (height c (defined_key a)) (height d (defined_key b)) i p
-  part_of_defined p h = rw (left_tree, right_tree) (part_below check c d (value_side (content_tree (value_tree c) e)) (value_side (content_tree (value_tree d) f)) (keys_height c (defined_keys e) + 1) (keys_height d (defined_keys f) + 1) (height c (defined_key a)) (height d (defined_key b)) i (omega arith) (omega arith) p h)
-
 -- ---- frames
 
 pub case_count : (c : Collection) (es : List (String Global × Option ValueType)) (i : ℕ) → i < length (side_parts (variant_side c es)) → i < length es
@@ -286,6 +255,5 @@ case_count c es i h = let below : i < length (map (case_tree c) es) = rw (case_p
 pub field_count : (c : Collection) (es : List (String Global × ValueType)) (i : ℕ) → i < length (side_parts (composed_side c (record_of (names es)) (types_of es))) → i < length es
 field_count c es i h = let below = rw (field_parts (value_tree c) es) at h in simp length-map at below
 
-pub case_frame_at : (c : Collection) (es : List (String Global × Option ValueType)) (i : ℕ) (r : Result Frame AllocError) → IfOk r (λ f. (n : Text) × (slice_get (names es) i ≡ Some n) × IsCase n f) → IfOk r (IsFrameAt (variant_side c es) i)
-case_frame_at c es i (Ok f) h = (h.0, rw (marks_names es) h.1, h.2)
-case_frame_at c es i (Err e) h = tt
+pub case_frame_at : (c : Collection) (es : List (String Global × Option ValueType)) (i : ℕ) (n : String Global) → slice_get (names es) i ≡ Some (string_bytes n) → IsFrameAt (variant_side c es) i (frame.Case n)
+case_frame_at c es i n at = (string_bytes n, rw (marks_names es) at, refl)

@@ -1,7 +1,6 @@
 -- The error of a pair, and of the items that are asked about.
-use Rattle.std.proofs.Common.{◌≡◌, ℕ, List, [], ◌∷◌, ◌++◌, reverse, Bool}
-use Rattle.std.specs.Prelude.{Result, MatchResult, IfOk}
-use Rattle.std.specs.declared.alloc.AllocError.{AllocError}
+use Rattle.std.proofs.Common.{◌≡◌, ℕ, List, [], ◌∷◌, Bool}
+use Rattle.std.specs.Prelude.{Err}
 use Rattle.wac_component.specs.Collection.{Collection}
 use Rattle.wac_mismatch.specs.Steps.{IsHere, IsUnder}
 use Rattle.wac_mismatch.specs.declared.check.SubtypeCheck.{SubtypeCheck}
@@ -9,16 +8,13 @@ use Rattle.wac_mismatch.specs.declared.error.SubtypeError.{SubtypeError}
 use Rattle.wac_mismatch.specs.declared.error.SubtypeError.TheVariants.{Mismatch, Memory}
 use Rattle.wac_mismatch.specs.declared.fault.Fault.{Fault}
 use Rattle.wac_mismatch.specs.declared.frame.Frame.{Frame}
-use Rattle.wac_checker.specs.Listing.{IsFaultOf, IsPairTurn}
-use Rattle.wac_checker.specs.Pairs.{EntriesPath, Entries, ExplainsEntries, ExplainsPair, IsFrameOf, IsPairFrame, check_of, entries_of, left_of, right_of, two_of}
-use Rattle.wac_checker.specs.Walk.{IsPathTo}
-use Rattle.wac_checker.specs.declared.parts.Difference.{Difference}
+use Rattle.wac_mismatch.specs.Difference.{IsFaultOf}
+use Rattle.wac_checker.specs.Listing.{IsPairTurn}
+use Rattle.wac_checker.specs.Pairs.{EntriesPath, Entries, ExplainsEntries, ExplainsPair, IsPairFrame, check_of, entries_of, left_of, right_of, two_of}
+use Rattle.wac_mismatch.specs.declared.difference.Difference.{Difference}
 use Rattle.wac_checker.specs.declared.parts.EntryPair.{EntryPair}
 use Rattle.wac_checker.specs.declared.parts.PairPart.{PairPart}
-use Rattle.wac_checker.specs.declared.parts.Turn.TheVariants as turn
-use Rattle.wac_checker.specs.declared.walk.WalkStep.{WalkStep}
-use Rattle.wac_checker.proofs.PairLemmas.{framed_explains}
-use Rattle.wac_checker.proofs.WalkLemmas.{reverse_push}
+use Rattle.wac_checker.specs.declared.parts.Halt.TheVariants as halt
 
 module _ (check : SubtypeCheck) (l r : Collection) (e : Entries) where
   here_explained : (P : Fault → Type 0) (g : SubtypeError) → ((f : Fault) → P f → EntriesPath check l r e [] f) → IsHere P g → ExplainsEntries check l r e g
@@ -32,15 +28,9 @@ module _ (check : SubtypeCheck) (l r : Collection) (e : Entries) where
 
 module _ (check : SubtypeCheck) (l r : Collection) (p : EntryPair) (ms : List PairPart) where
   -- the two of a pair differ
-  pub refused_apart : (x : Difference) (g : SubtypeError) → IsPairTurn l r p ms (turn.Apart x) → IsHere (IsFaultOf (check_of check p.swapped) x) g → ExplainsPair check l r (two_of l r p) g
+  pub refused_apart : (x : Difference) (g : SubtypeError) → IsPairTurn l r p ms (Err (halt.Apart x)) → IsHere (IsFaultOf (check_of check p.swapped) x) g → ExplainsPair check l r (two_of l r p) g
   refused_apart x g h here = here_explained (check_of check p.swapped) (left_of l r p.swapped) (right_of l r p.swapped) (entries_of (left_of l r p.swapped) (right_of l r p.swapped) p) (IsFaultOf (check_of check p.swapped) x) g (λ f is. h.1 (check_of check p.swapped) f is) here
 
   -- a part of it differs
-  pub refused_part : (i : ℕ) (b : Bool) (x : Difference) (frame : Result Frame AllocError) (g s : SubtypeError) → IsPairTurn l r p ms (turn.PartApart i b x) → IsHere (IsFaultOf (check_of (check_of check p.swapped) b) x) g → MatchResult frame (λ f. IsUnder (λ y. y ≡ f) g s) (λ _. s ≡ Memory) → IfOk frame (IsPairFrame l r (two_of l r p) i) → ExplainsPair check l r (two_of l r p) s
-  refused_part i b x frame g s h here under is =
-      framed_explains (check_of check p.swapped) (left_of l r p.swapped) (right_of l r p.swapped) (entries_of (left_of l r p.swapped) (right_of l r p.swapped) p) (IsFrameOf (left_of l r p.swapped) (right_of l r p.swapped) (entries_of (left_of l r p.swapped) (right_of l r p.swapped) p) i) frame g s under is
-      (λ f at t below. under_explained (check_of check p.swapped) (left_of l r p.swapped) (right_of l r p.swapped) (entries_of (left_of l r p.swapped) (right_of l r p.swapped) p) (IsFaultOf (check_of (check_of check p.swapped) b) x) f g t (λ y fault. h.2 (check_of check p.swapped) f y at fault) here below)
-
--- the last of the steps of a path
-pub path_last : (l r : Collection) (a : EntryPair) (os ss : List WalkStep) (s : WalkStep) → ss ≡ os ++ s ∷ [] → IsPathTo l r a (reverse ss) → IsPathTo l r a (s ∷ reverse os)
-path_last l r a os ss s e h = rw (e, reverse_push os s) at h
+  pub refused_part : (i : ℕ) (b : Bool) (x : Difference) (f : Frame) (g s : SubtypeError) → IsPairTurn l r p ms (Err (halt.PartApart i b x)) → IsHere (IsFaultOf (check_of (check_of check p.swapped) b) x) g → IsUnder (λ y. y ≡ f) g s → IsPairFrame l r (two_of l r p) i f → ExplainsPair check l r (two_of l r p) s
+  refused_part i b x f g s h here under at = under_explained (check_of check p.swapped) (left_of l r p.swapped) (right_of l r p.swapped) (entries_of (left_of l r p.swapped) (right_of l r p.swapped) p) (IsFaultOf (check_of (check_of check p.swapped) b) x) f g s (λ y fault. h.2 (check_of check p.swapped) f y at fault) here under

@@ -17,7 +17,6 @@ use Rattle.wac_checker.specs.Believed.{IsPairAmong, IsFittingBy, MayBelieve}
 use Rattle.wac_checker.specs.Cache.{AreInOrder, Pair}
 use Rattle.wac_checker.specs.Known.{pairs_of}
 use Rattle.wac_checker.specs.Listing.{AllFit, AllFitBy, AreItemsNamed, ArePartsOf, IsPairTurn, IsPartOf}
-use Rattle.wac_checker.specs.declared.parts.Named.TheVariants as named
 use Rattle.std.specs.Prelude.{◌↔◌, IfOk, IsTrue, Result, Ok, Err}
 use Rattle.std.specs.declared.alloc.AllocError.{AllocError}
 use Rattle.std.proofs.lemmas.List.{same_from_push, reverse-reverse}
@@ -32,11 +31,11 @@ use Rattle.wac_checker.proofs.ListingLemmas.{put_named}
 use Rattle.wac_checker.specs.Pairs.{AreOfItems, ArePairsOf, ExplainsPair, IsBelowPair, IsFitting, IsPairFrame, IsStanding, Two, entries_by, entries_of, flag_of, id_in, left_of, pair_height, placed_pair, right_of, two_of}
 use Rattle.wac_checker.specs.Walk.{AreListed, IsAtStep, IsBegun, IsOpen, IsPartOfPair, IsWalkPath, IsPathTo, LeadFrom, LeadsTo, PathFrom}
 use Rattle.wac_checker.specs.declared.compared.Compared.{Compared}
-use Rattle.wac_checker.specs.declared.parts.Difference.{Difference}
 use Rattle.wac_checker.specs.declared.parts.EntryPair.{EntryPair}
 use Rattle.wac_checker.specs.declared.parts.PairPart.{PairPart}
 use Rattle.wac_checker.specs.declared.parts.PairSort.{PairSort}
-use Rattle.wac_checker.specs.declared.parts.Turn.TheVariants as turn
+use Rattle.wac_mismatch.specs.declared.difference.Difference.{Difference}
+use Rattle.wac_checker.specs.declared.parts.Halt.TheVariants as halt
 use Rattle.wac_checker.specs.declared.walk.WalkStep.{WalkStep}
 use Rattle.wac_checker.specs.declared.walk.Walk.{Walk}
 use Rattle.wac_checker.proofs.CountLemmas.{last_or_before}
@@ -65,14 +64,17 @@ module _ (c d : Collection) (p : EntryPair) (ms : List PairPart) where
   parts_listed : ArePartsOf (left_of c d p.swapped) (right_of c d p.swapped) p.swapped (entries_of (left_of c d p.swapped) (right_of c d p.swapped) p) ms → (q : PairPart) → Contains ms q → IsPartOfPair c d p q
   parts_listed h q m = pair_part c d p q (h q m)
 
-  pub listed_end : IsPairTurn c d p ms turn.End → AreListed c d p ms false
-  listed_end h = record { parts = parts_listed h.0; same = λ e all. h.1 (sides_back c d p.swapped ms all); apart = λ e. absurd (cc) }
+  pub listed_whole : IsPairTurn c d p ms (Ok tt) → AreListed c d p ms false
+  listed_whole h = record { parts = parts_listed h.0; same = λ e all. h.1 (sides_back c d p.swapped ms all); apart = λ e. absurd (cc) }
 
-  pub listed_apart : (x : Difference) → IsPairTurn c d p ms (turn.Apart x) → AreListed c d p ms true
+  pub listed_apart : (x : Difference) → IsPairTurn c d p ms (Err (halt.Apart x)) → AreListed c d p ms true
   listed_apart x h = record { parts = parts_listed h.0; same = λ e. absurd (cc); apart = λ e. h.2 }
 
-  pub listed_part_apart : (i : ℕ) (b : Bool) (x : Difference) → IsPairTurn c d p ms (turn.PartApart i b x) → AreListed c d p ms true
+  pub listed_part_apart : (i : ℕ) (b : Bool) (x : Difference) → IsPairTurn c d p ms (Err (halt.PartApart i b x)) → AreListed c d p ms true
   listed_part_apart i b x h = record { parts = parts_listed h.0; same = λ e. absurd (cc); apart = λ e. h.3 }
+
+  pub listed_modules : IsPairTurn c d p ms (Err halt.Modules) → AreListed c d p ms true
+  listed_modules h = record { parts = parts_listed h.0; same = λ e. absurd (cc); apart = λ e. h.1 }
 
 -- ---- places on the list
 
@@ -271,19 +273,19 @@ module _ (ps : List Pair) (c d : Collection) (k : Compared) where
 -- ---- turns
 
 module _ (ps : List Pair) (c d : Collection) (k : Compared) (w : Walk) (s : WalkStep) (h : IsComparing ps c d k w s) where
-  way_path : PathFrom c d w.asked (reverse w.open) s.part
-  way_path = lead_path ps c d w.asked (take s.first w.parts.before) (reverse w.open) s.part h.lead
+  way_path : PathFrom c d w.asked (reverse w.open.items) s.part
+  way_path = lead_path ps c d w.asked (take s.first w.parts.before) (reverse w.open.items) s.part h.lead
 
   -- the two differ after their parts
-  pub way_differs : (v : Walk) → v.open ≡ w.open ++ s ∷ [] → v.asked ≡ w.asked → s.differs ≡ true → IsAnswered ps c d k v false
-  way_differs v opened asked differs = rw (asked, opened, reverse_push w.open s) (h.knows, (h.at.stands, h.at.apart differs, way_path))
+  pub way_differs : (v : Walk) → v.open.items ≡ w.open.items ++ s ∷ [] → v.asked ≡ w.asked → s.differs ≡ true → IsAnswered ps c d k v false
+  way_differs v opened asked differs = rw (asked, opened, reverse_push w.open.items s) (h.knows, (h.at.stands, h.at.apart differs, way_path))
 
   module _ (all : length w.parts.before ≤ s.next) (even : s.differs ≡ false) where
     this_fits : IsFittingBy ps c d s.part.pair
     this_fits = step_fits ps c d w.parts.before s s.next h.at all even
 
     -- back to the step above
-    pub way_back : (os : List WalkStep) (a : WalkStep) (v : Walk) → w.open ≡ os ++ a ∷ [] → v.open ≡ os → v.parts.before ≡ take s.first w.parts.before → v.asked ≡ w.asked → v.parts.items ≡ w.parts.items → IsComparing ps c d k v a
+    pub way_back : (os : List WalkStep) (a : WalkStep) (v : Walk) → w.open.items ≡ os ++ a ∷ [] → v.open.items ≡ os → v.parts.before ≡ take s.first w.parts.before → v.asked ≡ w.asked → v.parts.items ≡ w.parts.items → IsComparing ps c d k v a
     way_back os a v was kept parts asked listed =
         let knows = rw (was, reverse_push os a) at h.knows in
         let lead = rw (was, reverse_push os a) at h.lead in
@@ -296,7 +298,7 @@ module _ (ps : List Pair) (c d : Collection) (k : Compared) (w : Walk) (s : Walk
         }
 
     -- to the end
-    pub way_end : (v : Walk) → w.open ≡ [] → v.asked ≡ w.asked → IsAnswered ps c d k v true
+    pub way_end : (v : Walk) → w.open.items ≡ [] → v.asked ≡ w.asked → IsAnswered ps c d k v true
     way_end v was asked =
         let knows = rw was at h.knows in
         let lead = rw was at h.lead in
@@ -309,15 +311,15 @@ module _ (ps : List Pair) (c d : Collection) (k : Compared) (w : Walk) (s : Walk
     pub part_stands : IsStanding c d q.pair
     part_stands = this_part.1.stand
 
-    part_path : PathFrom c d w.asked (s ∷ reverse w.open) q
+    part_path : PathFrom c d w.asked (s ∷ reverse w.open.items) q
     part_path = (h.at.stands, this_part, way_path)
 
     -- the next part is known not to fit
-    pub way_unfit : (v : Walk) → Contains (pairs_of k.unfit) q.pair → v.open ≡ w.open ++ moved s ∷ [] → v.asked ≡ w.asked → IsAnswered ps c d k v false
-    way_unfit v m opened asked = rw (asked, opened, reverse_push w.open (moved s)) (knows_moved ps c d k s (moved s) (reverse w.open) refl h.knows, (h.at.stands, (λ fits. (h.knows.unfit q.pair m).1 (this_part.1.needed fits)), way_path))
+    pub way_unfit : (v : Walk) → Contains (pairs_of k.unfit) q.pair → v.open.items ≡ w.open.items ++ moved s ∷ [] → v.asked ≡ w.asked → IsAnswered ps c d k v false
+    way_unfit v m opened asked = rw (asked, opened, reverse_push w.open.items (moved s)) (knows_moved ps c d k s (moved s) (reverse w.open.items) refl h.knows, (h.at.stands, (λ fits. (h.knows.unfit q.pair m).1 (this_part.1.needed fits)), way_path))
 
     -- the next part fits
-    way_fits : (k' : Compared) → KnowsBut ps c d k' (moved s ∷ reverse w.open) → IsFittingBy ps c d q.pair → (v : Walk) → v.open ≡ w.open → v.parts.before ≡ w.parts.before → v.asked ≡ w.asked → v.parts.items ≡ [] → IsComparing ps c d k' v (moved s)
+    way_fits : (k' : Compared) → KnowsBut ps c d k' (moved s ∷ reverse w.open.items) → IsFittingBy ps c d q.pair → (v : Walk) → v.open ≡ w.open → v.parts.before ≡ w.parts.before → v.asked ≡ w.asked → v.parts.items ≡ [] → IsComparing ps c d k' v (moved s)
     way_fits k' knows fits v kept parts asked listed = record {
       knows = rw kept knows;
       at = rw parts (step_next ps c d w.parts.before s s.next h.at q (moved s) refl refl refl here fits);
@@ -327,11 +329,11 @@ module _ (ps : List Pair) (c d : Collection) (k : Compared) (w : Walk) (s : Walk
 
     -- it is believed to
     pub way_told : IsFittingBy ps c d q.pair → IsComparing ps c d k w (moved s)
-    way_told fits = way_fits k (knows_moved ps c d k s (moved s) (reverse w.open) refl h.knows) fits w refl refl refl h.listed
+    way_told fits = way_fits k (knows_moved ps c d k s (moved s) (reverse w.open.items) refl h.knows) fits w refl refl refl h.listed
 
     -- it is known to
     pub way_known : (k' : Compared) → (Contains (pairs_of k.unfit) q.pair → ⊥) → Contains (pairs_of k.known) q.pair → pairs_of k'.known ≡ pairs_of k.known → pairs_of k'.unfit ≡ pairs_of k.unfit → IsComparing ps c d k' w (moved s)
-    way_known k' nw m known unfit = way_fits k' (knows_same ps c d k k' (moved s ∷ reverse w.open) (knows_moved ps c d k s (moved s) (reverse w.open) refl h.knows) known unfit) (part_fits ps c d k w.asked (s ∷ reverse w.open) q h.knows part_path nw m) w refl refl refl h.listed
+    way_known k' nw m known unfit = way_fits k' (knows_same ps c d k k' (moved s ∷ reverse w.open.items) (knows_moved ps c d k s (moved s) (reverse w.open.items) refl h.knows) known unfit) (part_fits ps c d k w.asked (s ∷ reverse w.open.items) q h.knows part_path nw m) w refl refl refl h.listed
 
     -- it is opened
     module _ (k' : Compared) (v : Walk) (b : WalkStep) (new : Contains (pairs_of k.known) q.pair → ⊥) (more : pairs_of k'.known ≡ pairs_of k.known ++ q.pair ∷ []) (same : pairs_of k'.unfit ≡ pairs_of k.unfit) where
@@ -340,13 +342,13 @@ module _ (ps : List Pair) (c d : Collection) (k : Compared) (w : Walk) (s : Walk
 
       module _ (begins : IsBegun ps c d q w.parts.before v.parts.before b) (asked : v.asked ≡ w.asked) (listed : v.parts.items ≡ []) where
         -- and has parts, or differs
-        pub way_below : v.open ≡ w.open ++ moved s ∷ [] → IsComparing ps c d k' v b
+        pub way_below : v.open.items ≡ w.open.items ++ moved s ∷ [] → IsComparing ps c d k' v b
         way_below opened =
-            let knows = knows_opened ps c d k k' b (moved s ∷ reverse w.open) (knows_moved ps c d k s (moved s) (reverse w.open) refl h.knows) (λ m. new (rw begins.part at m)) (rw begins.part part_stands) (rw begins.part more) same in
+            let knows = knows_opened ps c d k k' b (moved s ∷ reverse w.open.items) (knows_moved ps c d k s (moved s) (reverse w.open.items) refl h.knows) (λ m. new (rw begins.part at m)) (rw begins.part part_stands) (rw begins.part more) same in
             record {
-              knows = rw (opened, reverse_push w.open (moved s)) knows;
+              knows = rw (opened, reverse_push w.open.items (moved s)) knows;
               at = subst (λ (n : ℕ). IsAtStep ps c d v.parts.before b n) (sym begins.next) begins.at;
-              lead = rw (asked, opened, reverse_push w.open (moved s), begins.first, begins.before, begins.part) (step_leads ps c d w.parts.before s s.next h.at q (moved s) refl refl refl refl here, h.lead);
+              lead = rw (asked, opened, reverse_push w.open.items (moved s), begins.first, begins.before, begins.part) (step_leads ps c d w.parts.before s s.next h.at q (moved s) refl refl refl refl here, h.lead);
               listed = listed;
             }
 
@@ -356,12 +358,12 @@ module _ (ps : List Pair) (c d : Collection) (k : Compared) (w : Walk) (s : Walk
             let few : length v.parts.before ≤ length w.parts.before = subst (λ (n : ℕ). length v.parts.before ≤ n) begins.first none in
             let parts : v.parts.before ≡ w.parts.before = sym (take_all (length w.parts.before) v.parts.before few) ∙ begins.before in
             let fits : IsFitting c d q.pair = subst (λ (x : PairPart). IsFitting c d x.pair) begins.part (begins.at.same even (λ i x le at. absurd (let below : i < length v.parts.before = slice_get_within v.parts.before i x at in omega (arith, below, none, le)))) in
-            let knows = knows_opened ps c d k k' (record { part = q; first = 0; next = 0; differs = false }) (moved s ∷ reverse w.open) (knows_moved ps c d k s (moved s) (reverse w.open) refl h.knows) new part_stands more same in
-            way_fits k' (knows_closed ps c d k' (record { part = q; first = 0; next = 0; differs = false }) (moved s ∷ reverse w.open) knows (λ told. fits)) (λ told. fits) v opened parts asked listed
+            let knows = knows_opened ps c d k k' (record { part = q; first = 0; next = 0; differs = false }) (moved s ∷ reverse w.open.items) (knows_moved ps c d k s (moved s) (reverse w.open.items) refl h.knows) new part_stands more same in
+            way_fits k' (knows_closed ps c d k' (record { part = q; first = 0; next = 0; differs = false }) (moved s ∷ reverse w.open.items) knows (λ told. fits)) (λ told. fits) v opened parts asked listed
 
 -- ---- a comparison begins
 
-module _ (ps : List Pair) (c d : Collection) (k : Compared) (w : Walk) (h : KnowsTruly c d k) (stands : IsStanding c d w.asked) (kept : w.open ≡ []) where
+module _ (ps : List Pair) (c d : Collection) (k : Compared) (w : Walk) (h : KnowsTruly c d k) (stands : IsStanding c d w.asked) (kept : w.open.items ≡ []) where
   pub known_answer : (k' : Compared) → (Contains (pairs_of k.unfit) w.asked → ⊥) → Contains (pairs_of k.known) w.asked → pairs_of k'.known ≡ pairs_of k.known → pairs_of k'.unfit ≡ pairs_of k.unfit → IsAnswered ps c d k' w true
   known_answer k' nw m known unfit told = (
     knows_all ps c d k' (knows_same ps c d k k' [] (truly_but ps c d k [] h) known unfit) told,
@@ -434,7 +436,7 @@ all_noted c d r k k' ss known kept only added h path = record {
 -- ---- items
 
 -- what is named of two items
-pub named_pair : (l r : Collection) (w : Bool) (i : ℕ) (x y : ItemKind) (ms ns os : List PairPart) (q : PairPart) → w ≡ false → ms ≡ [] → AreItemsNamed l r w i x y ms ns named.Fits → ns ≡ os ++ q ∷ [] → (os ≡ []) × (q.pair.swapped ≡ false) × AreOfItems l r x y (entries_of l r q.pair)
+pub named_pair : (l r : Collection) (w : Bool) (i : ℕ) (x y : ItemKind) (ms ns os : List PairPart) (q : PairPart) → w ≡ false → ms ≡ [] → AreItemsNamed l r w i x y ms ns (Ok true) → ns ≡ os ++ q ∷ [] → (os ≡ []) × (q.pair.swapped ≡ false) × AreOfItems l r x y (entries_of l r q.pair)
 named_pair l r w i x y ms ns os q straight none (inl one) e = absurd (let nothing = sym none ∙ sym one.0 ∙ e in let long = ap (λ (xs : List PairPart). length xs) nothing in omega (arith, long, length-append os (q ∷ [])))
 named_pair l r w i x y ms ns os q straight none (inr put) e = elim put.3 [
   | inl there ↦ absurd (let m = subst (λ (xs : List PairPart). Contains xs there.1.0) none there.1.1 in omega (arith, m.1))
@@ -445,7 +447,7 @@ named_pair l r w i x y ms ns os q straight none (inr put) e = elim put.3 [
       (sym last.0, subst (λ (p : EntryPair). p.swapped ≡ false) same (put.1 ∙ straight), subst (λ (p : EntryPair). AreOfItems l r x y (entries_of l r p)) same put.2))
 ]
 
-pub named_none : (l r : Collection) (w : Bool) (i : ℕ) (x y : ItemKind) (ms ns : List PairPart) → AreItemsNamed l r w i x y ms ns named.Fits → length ns ≡ 0 → Fits (item_tree l x) (item_tree r y)
+pub named_none : (l r : Collection) (w : Bool) (i : ℕ) (x y : ItemKind) (ms ns : List PairPart) → AreItemsNamed l r w i x y ms ns (Ok true) → length ns ≡ 0 → Fits (item_tree l x) (item_tree r y)
 named_none l r w i x y ms ns (inl one) e = one.1
 named_none l r w i x y ms ns (inr put) e = absurd (let there = put_named i put.0 ms ns put.3 in omega (arith, there.1.1, e))
 

@@ -1,14 +1,13 @@
 -- What is known of the pairs that were compared.
-use Rattle.std.specs.Prelude.{◌≡◌, ◌⊎◌, List, [], ◌∷◌, Contains, Bool, true, false, Option, Some, None, Result, reverse, take}
+use Rattle.std.specs.Prelude.{◌≡◌, ◌⊎◌, List, [], ◌∷◌, Contains, Bool, true, false, Option, Some, None, Result, Ok, reverse, take}
 use Rattle.wac_component.specs.Collection.{Collection}
 use Rattle.wac_model.specs.Order.{Fits}
 use Rattle.wac_component.specs.Tree.{item_tree}
 use Rattle.wac_component.specs.declared.items.ItemKind.{ItemKind}
 use Rattle.wac_checker.specs.Believed.{IsFittingBy, MayBelieve}
 use Rattle.wac_checker.specs.Cache.{AreInOrder, Pair}
-use Rattle.wac_checker.specs.Listing.{AreItemsNamed, AreTreesApart}
+use Rattle.wac_checker.specs.Listing.{AreItemsNamed}
 use Rattle.wac_checker.specs.Pairs.{AreOfItems, ArePairsOf, IsFitting, IsStanding, entries_of}
-use Rattle.wac_checker.specs.declared.parts.Named.TheVariants as named
 use Rattle.wac_checker.specs.declared.parts.PairPart.{PairPart}
 use Rattle.wac_checker.specs.Known.{pairs_of}
 use Rattle.wac_mismatch.specs.declared.check.SubtypeCheck.{SubtypeCheck}
@@ -18,8 +17,6 @@ use Rattle.wac_checker.specs.declared.sides.Sides.{Sides}
 use Rattle.wac_checker.specs.Walk.{IsAtStep, IsOpen, IsPathTo, LeadFrom}
 use Rattle.wac_checker.specs.declared.compared.Compared.{Compared}
 use Rattle.wac_checker.specs.declared.parts.EntryPair.{EntryPair}
-use Rattle.wac_checker.specs.declared.walk.Found.{Found}
-use Rattle.wac_checker.specs.declared.walk.Found.TheVariants as found
 use Rattle.wac_checker.specs.declared.walk.WalkStep.{WalkStep}
 use Rattle.wac_checker.specs.declared.walk.Walk.{Walk}
 
@@ -38,16 +35,16 @@ pub record KnowsBut (ps : List Pair) (c d : Collection) (k : Compared) (ss : Lis
 
 -- a comparison is at a step
 pub record IsComparing (ps : List Pair) (c d : Collection) (k : Compared) (w : Walk) (s : WalkStep) : Type 0 where
-  pub knows : KnowsBut ps c d k (s ∷ reverse w.open)
+  pub knows : KnowsBut ps c d k (s ∷ reverse w.open.items)
   pub at : IsAtStep ps c d w.parts.before s s.next
-  pub lead : LeadFrom ps c d w.asked (take s.first w.parts.before) (reverse w.open) s.part
+  pub lead : LeadFrom ps c d w.asked (take s.first w.parts.before) (reverse w.open.items) s.part
   pub listed : w.parts.items ≡ []
 
 -- it has come to an end: the pair that was asked about fits, or the open steps lead to one that
 -- doesn't
 abbrev pub IsAnswered : List Pair → Collection → Collection → Compared → Walk → Bool → Type 0
 IsAnswered ps c d k w true = AreInOrder c d ps → KnowsTruly c d k × IsFitting c d w.asked
-IsAnswered ps c d k w false = KnowsBut ps c d k (reverse w.open) × IsPathTo c d w.asked (reverse w.open)
+IsAnswered ps c d k w false = KnowsBut ps c d k (reverse w.open.items) × IsPathTo c d w.asked (reverse w.open.items)
 
 -- it goes on, or has come to an end
 abbrev pub IsGoingOn : List Pair → Collection → Collection → Compared → Walk → WalkStep → Option Bool → Type 0
@@ -56,23 +53,12 @@ IsGoingOn ps c d k w s (Some b) = IsAnswered ps c d k w b
 
 -- what is named of two items that are asked about
 abbrev pub AreNamedAlone : Collection → Collection → ItemKind → ItemKind → List PairPart → Type 0
-AreNamedAlone c d x y ms = AreItemsNamed c d false 0 x y [] ms named.Fits
+AreNamedAlone c d x y ms = AreItemsNamed c d false 0 x y [] ms (Ok true)
 
 -- two items fit, or the open steps lead from the pair that is named for them to one that doesn't
 abbrev pub AreAnswered : List Pair → Collection → Collection → ItemKind → ItemKind → Walk → Bool → Type 0
 AreAnswered ps c d x y w true = MayBelieve ps c d x y → Fits (item_tree c x) (item_tree d y)
-AreAnswered ps c d x y w false = (w.asked.swapped ≡ false) × AreOfItems c d x y (entries_of c d w.asked) × IsPathTo c d w.asked (reverse w.open)
-
--- what is found of two items that don't fit: that they differ themselves, or where
-abbrev pub AreRefused : Collection → Collection → ItemKind → ItemKind → Walk → Found → Type 0
-AreRefused c d x y w found.Apart = AreTreesApart (item_tree c x) (item_tree d y) × (¬ (Fits (item_tree c x) (item_tree d y)))
-AreRefused c d x y w found.Below = AreAnswered [] c d x y w false
-AreRefused c d x y w _ = Unit {0}
-
--- what is found of two items: that they fit, or of what doesn't
-abbrev pub AreFound : List Pair → Collection → Collection → ItemKind → ItemKind → Walk → Found → Type 0
-AreFound ps c d x y w found.Fits = AreAnswered ps c d x y w true
-AreFound ps c d x y w f = AreRefused c d x y w f
+AreAnswered ps c d x y w false = (w.asked.swapped ≡ false) × AreOfItems c d x y (entries_of c d w.asked) × IsPathTo c d w.asked (reverse w.open.items)
 
 -- a verdict on two items, by what is believed of them
 abbrev pub IsVerdictOn : Sides → SubtypeCheck → List Pair → Pair → Result (Unit {0}) SubtypeError → Type 0

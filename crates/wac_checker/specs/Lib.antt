@@ -3,7 +3,6 @@ pub mod Parts
 pub mod Pairs
 pub mod Listing
 pub mod Items
-pub mod Paired
 pub mod PartLists
 pub mod Known
 pub mod Verdict

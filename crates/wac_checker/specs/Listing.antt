@@ -1,8 +1,9 @@
 -- What is listed of two entries: the parts that they stand on, and what they differ in.
-use Rattle.std.specs.Prelude.{◌≡◌, ◌≢◌, ◌<◌, ◌++◌, ◌⊎◌, ◌+◌, ℕ, List, [], ◌∷◌, length, Bool, true, false, not, Option, Some, None, is_some, Contains, string_bytes}
+use Rattle.std.specs.Prelude.{◌≡◌, ◌≢◌, ◌<◌, ◌++◌, ◌⊎◌, ◌+◌, ℕ, List, [], ◌∷◌, length, Bool, true, false, not, Option, Some, None, is_some, Contains, Result, Ok, Err, string_bytes}
 use Rattle.std.specs.Option.{option_to_list}
 use Rattle.std.specs.List.{flat_map}
 use Rattle.std.specs.declared.string.String.{String}
+use Rattle.std.specs.declared.alloc.AllocError.{AllocError}
 use Rattle.std.specs.declared.alloc.Global.{Global}
 use Rattle.wac_model.specs.Order.{Fits}
 use Rattle.wac_model.specs.ValueTree.{ValueLabel, ValueTree, node, primitive, borrow, own, record_of}
@@ -16,69 +17,37 @@ use Rattle.wac_component.specs.Tree.{value_tree, item_tree, items_of, func_conte
 use Rattle.wac_component.specs.Content.{names, types_of, case_types}
 use Rattle.wac_component.specs.declared.items.ItemKind.{ItemKind}
 use Rattle.wac_component.specs.declared.items.ValueType.{ValueType}
-use Rattle.wac_mismatch.specs.Place.{Side, value_side, item_side, place, by_check, expected_of, found_of}
+use Rattle.wac_mismatch.specs.Place.{Side, value_side, item_side, place, by_check}
 use Rattle.wac_mismatch.specs.Path.{Path}
-use Rattle.wac_mismatch.specs.Holds.{Holds, IsKindFault, IsOfNames}
+use Rattle.wac_mismatch.specs.Difference.{IsFaultOf, DifferIn}
+use Rattle.wac_mismatch.specs.declared.difference.Difference.{Difference}
+use Rattle.wac_mismatch.specs.declared.difference.Difference.TheVariants as difference
+use Rattle.wac_mismatch.specs.Holds.{IsOfNames}
 use Rattle.wac_mismatch.specs.declared.fault.CountOf.{CountOf}
 use Rattle.wac_mismatch.specs.declared.fault.NameOf.{NameOf}
-use Rattle.wac_mismatch.specs.Steps.{IsNameFault, IsParamName, IsCaseType}
 use Rattle.wac_mismatch.specs.declared.check.SubtypeCheck.{SubtypeCheck}
 use Rattle.wac_mismatch.specs.declared.check.SubtypeCheck.TheVariants.{Covariant}
-use Rattle.wac_mismatch.specs.declared.fault.ResultPart.{ResultPart}
-use Rattle.wac_mismatch.specs.declared.fault.ResultPart.TheVariants as result_part
 use Rattle.wac_mismatch.specs.declared.fault.Fault.{Fault}
-use Rattle.wac_mismatch.specs.declared.fault.Fault.TheVariants as fault
 use Rattle.wac_mismatch.specs.declared.frame.Frame.{Frame}
 use Rattle.wac_model.specs.Text.{Text}
-use Rattle.wac_core_checker.specs.Verdict.{IsMissingExport}
-use Rattle.wac_checker.specs.Externs.{IsMissingImport}
-use Rattle.wac_checker.specs.Items.{AreOtherKinds}
+use Rattle.wac_checker.specs.Items.{AreOtherItems, AreOtherKinds}
 use Rattle.wac_checker.specs.Content.{composed_side, variant_side}
 use Rattle.wac_checker.specs.Parts.{IsFrameAt, IsIndex, SameBefore}
 use Rattle.wac_checker.specs.Pairs.{Entries, EntriesFit, EntriesPath, HasPart, HaveAt, IsBelow, IsExternPart, IsFitting, IsFrameOf, IsPlace, AreNamed, AreOf, AreOfItems, Below, Same, check_of, entries_of, flag_of, left_of, right_of}
-use Rattle.wac_checker.specs.declared.parts.Difference.{Difference}
-use Rattle.wac_checker.specs.declared.parts.Difference.TheVariants as difference
 use Rattle.wac_checker.specs.declared.parts.EntryPair.{EntryPair}
-use Rattle.wac_checker.specs.declared.parts.Named.{Named}
-use Rattle.wac_checker.specs.declared.parts.Named.TheVariants as named
 use Rattle.wac_checker.specs.declared.parts.PairPart.{PairPart}
+use Rattle.wac_checker.specs.declared.parts.PairSort.{PairSort}
 use Rattle.wac_checker.specs.declared.sides.Sides.{Sides}
-use Rattle.wac_checker.specs.declared.parts.Turn.{Turn}
-use Rattle.wac_checker.specs.declared.parts.Turn.TheVariants as turn
+use Rattle.wac_checker.specs.declared.parts.Halt.{Halt}
+use Rattle.wac_checker.specs.declared.parts.Halt.TheVariants as halt
 
--- ---- differences
+-- whether two are one, or memory was wanting
+abbrev pub Named : Type 0
+Named = Result Bool AllocError
 
--- resources of these names
-abbrev pub AreNamesOf : Fault → Text → Text → Type 0
-AreNamesOf (fault.Resource e f) x y = (string_bytes e ≡ x) × (string_bytes f ≡ y)
-AreNamesOf _ x y = ⊥
-
--- a difference is this fault in a direction
-abbrev pub IsFaultOf : SubtypeCheck → Difference → Fault → Type 0
-IsFaultOf c (difference.Kinds a b) f = IsKindFault f (expected_of c a.now b.now) (found_of c a.now b.now)
-IsFaultOf c (difference.Resources a b) f = AreNamesOf f (expected_of c (string_bytes a.now) (string_bytes b.now)) (found_of c (string_bytes a.now) (string_bytes b.now))
-IsFaultOf c (difference.Async a b) f = f ≡ fault.Async (expected_of c a b)
-IsFaultOf c (difference.ParamCount a b) f = f ≡ fault.ParamCount (expected_of c a b) (found_of c a b)
-IsFaultOf c (difference.ParamName i a b) f = IsParamName f i (expected_of c (string_bytes a.now) (string_bytes b.now)) (found_of c (string_bytes a.now) (string_bytes b.now))
-IsFaultOf c (difference.FuncResult a b) f = f ≡ fault.FuncResult (expected_of c a b)
-IsFaultOf c difference.FixedSize f = f ≡ fault.FixedSize
-IsFaultOf c (difference.ResultPart p a b) f = f ≡ fault.ResultPart p (expected_of c a b)
-IsFaultOf c (difference.Payload a b) f = f ≡ fault.Payload (expected_of c a b)
-IsFaultOf c (difference.Count o a b) f = f ≡ fault.Count o (expected_of c a b) (found_of c a b)
-IsFaultOf c (difference.Name o i a b) f = IsNameFault f o i (expected_of c (string_bytes a.now) (string_bytes b.now)) (found_of c (string_bytes a.now) (string_bytes b.now))
-IsFaultOf c (difference.CaseType n a b) f = IsCaseType f (string_bytes n.now) (expected_of c a b)
-IsFaultOf c (difference.MissingExport h k n) f = IsMissingExport h.now k.now (string_bytes n.now) c f
-IsFaultOf c (difference.MissingImport k n) f = IsMissingImport k.now (string_bytes n.now) c f
-IsFaultOf c difference.Modules f = ⊥
-
--- a difference that is a fault, as all are but that of two core modules
-abbrev pub IsReal : Difference → Type 0
-IsReal difference.Modules = ⊥
-IsReal x = Unit {0}
-
--- the fault of a difference holds of two sides
-abbrev pub DifferIn : Difference → Side → Side → Type 0
-DifferIn x s t = (c : SubtypeCheck) (f : Fault) → IsFaultOf c x f → Holds f (place c s t)
+-- what is found of two whose parts are listed: where the list ends, if it isn't at the end
+abbrev pub Turn : Type 0
+Turn = Result (Unit {0}) Halt
 
 -- a function, as an item or as a type
 abbrev pub func_side : Kind → Collection → FuncContent → Side
@@ -104,15 +73,19 @@ IsPut i p ms ns = ((ns ≡ ms) × IsNamed ms p) ⊎ (ns ≡ ms ++ (record { pair
 
 -- two entries are one, or they are named
 abbrev pub AreNamedUnless : Bool → ℕ → EntryPair → List PairPart → List PairPart → Named → Type 0
-AreNamedUnless same i p ms ns named.Fits = ((same ≡ true) × (ns ≡ ms)) ⊎ IsPut i p ms ns
-AreNamedUnless same i p ms ns named.Differs = ⊥
-AreNamedUnless same i p ms ns named.Memory = Unit {0}
+AreNamedUnless same i p ms ns (Ok true) = ((same ≡ true) × (ns ≡ ms)) ⊎ IsPut i p ms ns
+AreNamedUnless same i p ms ns (Ok false) = ⊥
+AreNamedUnless same i p ms ns (Err e) = Unit {0}
 
--- a fact holds or doesn't
-abbrev pub IsTold : Type 0 → Named → Type 0
-IsTold P named.Fits = P
-IsTold P named.Differs = ¬ P
-IsTold P named.Memory = ⊥
+-- the same of two entries of two collections
+abbrev pub AreEntriesNamed : Collection → Collection → ℕ → EntryPair → List PairPart → List PairPart → Named → Type 0
+AreEntriesNamed l r i p ms ns (Ok true) = ((l ≡ r) × (p.left ≡ p.right) × (ns ≡ ms)) ⊎ IsPut i p ms ns
+AreEntriesNamed l r i p ms ns (Ok false) = ⊥
+AreEntriesNamed l r i p ms ns (Err e) = Unit {0}
+
+-- the same of two of a sort, told from the two collections of a comparison
+abbrev pub AreEntriesAt : Sides → ℕ → PairSort → ℕ → ℕ → List PairPart → List PairPart → Named → Type 0
+AreEntriesAt s i k a b ms ns t = AreEntriesNamed s.left.now s.right.now i (record { left = a; right = b; sort = k; swapped = s.swapped }) ms ns t
 
 -- leaves of one case that differ
 abbrev pub AreOtherLeaves : ValueTree → ValueTree → Type 0
@@ -127,9 +100,9 @@ AreLeavesApart s t = AreOtherKinds s t ⊎ AreOtherLeaves s t
 
 -- two value types are one, or so far as two entries are that are named, or they differ
 abbrev pub AreValuesNamed : Collection → Collection → Bool → ℕ → ValueType → ValueType → List PairPart → List PairPart → Named → Type 0
-AreValuesNamed l r s i v w ms ns named.Fits = ((ns ≡ ms) × (value_tree l v ≡ value_tree r w)) ⊎ ((p : EntryPair) × (p.swapped ≡ s) × AreOf l r v w (entries_of l r p) × IsPut i p ms ns)
-AreValuesNamed l r s i v w ms ns named.Differs = (ns ≡ ms) × AreLeavesApart (value_tree l v) (value_tree r w)
-AreValuesNamed l r s i v w ms ns named.Memory = Unit {0}
+AreValuesNamed l r s i v w ms ns (Ok true) = ((ns ≡ ms) × (value_tree l v ≡ value_tree r w)) ⊎ ((p : EntryPair) × (p.swapped ≡ s) × AreOf l r v w (entries_of l r p) × IsPut i p ms ns)
+AreValuesNamed l r s i v w ms ns (Ok false) = (ns ≡ ms) × AreLeavesApart (value_tree l v) (value_tree r w)
+AreValuesNamed l r s i v w ms ns (Err e) = Unit {0}
 
 -- a part of two sides, which is lower than these heights
 abbrev pub IsMemberOf : Collection → Collection → Bool → Side → Side → ℕ → ℕ → PairPart → Type 0
@@ -144,10 +117,11 @@ DifferAtIn i x s t = (c : SubtypeCheck) (f : Frame) (g : Fault) → IsFrameAt s 
 
 -- what is found of two sides whose parts are listed
 abbrev pub IsSideTurn : Collection → Collection → Bool → Side → Side → ℕ → ℕ → List PairPart → Turn → Type 0
-IsSideTurn l r w s t m n ms turn.End = AreMembersOf l r w s t m n ms × (AllFitBy l r w ms → s ≡ t)
-IsSideTurn l r w s t m n ms (turn.Apart x) = AreMembersOf l r w s t m n ms × IsReal x × DifferIn x s t
-IsSideTurn l r w s t m n ms (turn.PartApart i b x) = AreMembersOf l r w s t m n ms × (b ≡ false) × IsIndex s i × DifferAtIn i x s t × (s ≢ t)
-IsSideTurn l r w s t m n ms turn.Memory = Unit {0}
+IsSideTurn l r w s t m n ms (Ok u) = AreMembersOf l r w s t m n ms × (AllFitBy l r w ms → s ≡ t)
+IsSideTurn l r w s t m n ms (Err (halt.Apart x)) = AreMembersOf l r w s t m n ms × DifferIn x s t
+IsSideTurn l r w s t m n ms (Err (halt.PartApart i b x)) = AreMembersOf l r w s t m n ms × (b ≡ false) × IsIndex s i × DifferAtIn i x s t × (s ≢ t)
+IsSideTurn l r w s t m n ms (Err halt.Modules) = ⊥
+IsSideTurn l r w s t m n ms (Err halt.Memory) = Unit {0}
 
 -- how high value types of these members are
 abbrev pub members_height : Collection → List ValueType → ℕ
@@ -164,19 +138,9 @@ AreRecords l r w es fs ms t = AreComposed l r w (record_of (names es)) (types_of
 abbrev pub AreVariants : Collection → Collection → Bool → List (String Global × Option ValueType) → List (String Global × Option ValueType) → List PairPart → Turn → Type 0
 AreVariants l r w es fs ms t = IsSideTurn l r w (variant_side l es) (variant_side r fs) (members_height l (case_types es)) (members_height r (case_types fs)) ms t
 
--- two sides differ themselves
-abbrev pub IsApart : Turn → Side → Side → Type 0
-IsApart (turn.Apart x) s t = IsReal x × DifferIn x s t
-IsApart _ s t = ⊥
-
--- the place of a part of a result
-abbrev pub place_of : ResultPart → ℕ
-place_of result_part.Ok = 0
-place_of result_part.Err = 1
-
 -- what is found of two sides whose parts are listed up to a place
 abbrev pub IsTurnTo : Collection → Collection → Bool → Side → Side → ℕ → ℕ → ℕ → List PairPart → Turn → Type 0
-IsTurnTo l r w s t m n i ms turn.End = AreMembersOf l r w s t m n ms × (AllFitBy l r w ms → SameBefore s t i)
+IsTurnTo l r w s t m n i ms (Ok u) = AreMembersOf l r w s t m n ms × (AllFitBy l r w ms → SameBefore s t i)
 IsTurnTo l r w s t m n i ms x = IsSideTurn l r w s t m n ms x
 
 -- what is found of two functions, as items and as types: of their parameters, or of all
@@ -188,16 +152,17 @@ IsParamsTurn l r w f g ms t = (k : Kind) → IsTurnTo l r w (func_side k l f) (f
 
 -- what is found of the last parts
 abbrev pub IsLastTurn : Collection → Collection → Bool → ℕ → ValueType → ValueType → List PairPart → List PairPart → Turn → Type 0
-IsLastTurn l r w i v x ms ns turn.End = AreValuesNamed l r w i v x ms ns named.Fits
-IsLastTurn l r w i v x ms ns (turn.Apart d) = ⊥
-IsLastTurn l r w i v x ms ns (turn.PartApart j b d) = (j ≡ i) × (b ≡ false) × (ns ≡ ms) × DifferIn d (value_side (value_tree l v)) (value_side (value_tree r x)) × (value_tree l v ≢ value_tree r x)
-IsLastTurn l r w i v x ms ns turn.Memory = Unit {0}
+IsLastTurn l r w i v x ms ns (Ok u) = AreValuesNamed l r w i v x ms ns (Ok true)
+IsLastTurn l r w i v x ms ns (Err (halt.Apart d)) = ⊥
+IsLastTurn l r w i v x ms ns (Err (halt.PartApart j b d)) = (j ≡ i) × (b ≡ false) × (ns ≡ ms) × DifferIn d (value_side (value_tree l v)) (value_side (value_tree r x)) × (value_tree l v ≢ value_tree r x)
+IsLastTurn l r w i v x ms ns (Err halt.Modules) = ⊥
+IsLastTurn l r w i v x ms ns (Err halt.Memory) = Unit {0}
 
 -- the same of what may be there: where only one is, that is what they differ in
 abbrev pub IsOptionalTurn : Collection → Collection → Bool → ℕ → Difference → Option ValueType → Option ValueType → List PairPart → List PairPart → Turn → Type 0
 IsOptionalTurn l r w i d (Some v) (Some x) ms ns t = IsLastTurn l r w i v x ms ns t
-IsOptionalTurn l r w i d None None ms ns t = (ns ≡ ms) × (t ≡ turn.End)
-IsOptionalTurn l r w i d o p ms ns t = (ns ≡ ms) × (t ≡ turn.Apart d)
+IsOptionalTurn l r w i d None None ms ns t = (ns ≡ ms) × (t ≡ Ok tt)
+IsOptionalTurn l r w i d o p ms ns t = (ns ≡ ms) × (t ≡ Err (halt.Apart d))
 
 -- two resources differ in these names
 abbrev pub AreRoots : Difference → Text → Text → Type 0
@@ -206,25 +171,25 @@ AreRoots _ x y = ⊥
 
 -- what is found of two lists of names
 abbrev pub IsNamesTurn : CountOf → NameOf → List Text → List Text → Turn → Type 0
-IsNamesTurn o n xs ys turn.End = xs ≡ ys
-IsNamesTurn o n xs ys (turn.Apart x) = IsReal x × ((c : SubtypeCheck) (f : Fault) → IsFaultOf c x f → by_check c (IsOfNames o n f) xs ys)
+IsNamesTurn o n xs ys (Ok u) = xs ≡ ys
+IsNamesTurn o n xs ys (Err (halt.Apart x)) = (c : SubtypeCheck) (f : Fault) → IsFaultOf c x f → by_check c (IsOfNames o n f) xs ys
 IsNamesTurn o n xs ys t = ⊥
 
 -- ---- of items
 
--- items of one case that differ themselves: leaves
+-- items that differ themselves: they are of different cases, or leaves
 abbrev pub AreTreesApart : ItemTree → ItemTree → Type 0
 AreTreesApart (leaf item (value s)) (leaf item (value t)) = AreLeavesApart s t
 AreTreesApart (leaf type_item (value s)) (leaf type_item (value t)) = AreLeavesApart s t
 AreTreesApart (leaf item (resource x)) (leaf item (resource y)) = x ≢ y
 AreTreesApart (leaf type_item (resource x)) (leaf type_item (resource y)) = x ≢ y
-AreTreesApart s t = Unit {0}
+AreTreesApart s t = AreOtherItems s t
 
 -- two items fit, or so far as two entries do that are named, or they differ
 abbrev pub AreItemsNamed : Collection → Collection → Bool → ℕ → ItemKind → ItemKind → List PairPart → List PairPart → Named → Type 0
-AreItemsNamed l r w i x y ms ns named.Fits = ((ns ≡ ms) × Fits (item_tree l x) (item_tree r y)) ⊎ ((p : EntryPair) × (p.swapped ≡ w) × AreOfItems l r x y (entries_of l r p) × IsPut i p ms ns)
-AreItemsNamed l r w i x y ms ns named.Differs = (ns ≡ ms) × AreTreesApart (item_tree l x) (item_tree r y) × (¬ (Fits (item_tree l x) (item_tree r y)))
-AreItemsNamed l r w i x y ms ns named.Memory = Unit {0}
+AreItemsNamed l r w i x y ms ns (Ok true) = ((ns ≡ ms) × Fits (item_tree l x) (item_tree r y)) ⊎ ((p : EntryPair) × (p.swapped ≡ w) × AreOfItems l r x y (entries_of l r p) × IsPut i p ms ns)
+AreItemsNamed l r w i x y ms ns (Ok false) = (ns ≡ ms) × AreTreesApart (item_tree l x) (item_tree r y) × (¬ (Fits (item_tree l x) (item_tree r y)))
+AreItemsNamed l r w i x y ms ns (Err e) = Unit {0}
 
 abbrev pub KindsByName : Type 0
 KindsByName = List (Text × ItemKind)
@@ -255,17 +220,19 @@ DifferInImports x is is' = (k : Kind) (es es' : Items) → DifferIn x (item_side
 
 -- what is found of the exports of two interfaces or worlds
 abbrev pub IsExportsTurn : Collection → Collection → Bool → Text → ℕ → KindsByName → KindsByName → List PairPart → List PairPart → Turn → Type 0
-IsExportsTurn l r w h first es ts ms ns turn.End = AreExternsOf l r w first es ts ms ns × AreServedTo l r w es ts (length ts) ns
-IsExportsTurn l r w h first es ts ms ns (turn.Apart x) = AreExternsOf l r w first es ts ms ns × IsReal x × DifferInExports x h (items_of (item_tree l) es) (items_of (item_tree r) ts)
-IsExportsTurn l r w h first es ts ms ns (turn.PartApart i b x) = AreExternsOf l r w first es ts ms ns × (b ≡ false) × ((j : ℕ) × (i ≡ first + j) × DifferThere l r es ts j x)
-IsExportsTurn l r w h first es ts ms ns turn.Memory = Unit {0}
+IsExportsTurn l r w h first es ts ms ns (Ok u) = AreExternsOf l r w first es ts ms ns × AreServedTo l r w es ts (length ts) ns
+IsExportsTurn l r w h first es ts ms ns (Err (halt.Apart x)) = AreExternsOf l r w first es ts ms ns × DifferInExports x h (items_of (item_tree l) es) (items_of (item_tree r) ts)
+IsExportsTurn l r w h first es ts ms ns (Err (halt.PartApart i b x)) = AreExternsOf l r w first es ts ms ns × (b ≡ false) × ((j : ℕ) × (i ≡ first + j) × DifferThere l r es ts j x)
+IsExportsTurn l r w h first es ts ms ns (Err halt.Modules) = ⊥
+IsExportsTurn l r w h first es ts ms ns (Err halt.Memory) = Unit {0}
 
 -- and of the imports of two worlds: the sides change places
 abbrev pub IsImportsTurn : Collection → Collection → Bool → KindsByName → KindsByName → List PairPart → Turn → Type 0
-IsImportsTurn l r w is js ns turn.End = AreExternsOf r l (not w) 0 js is [] ns × AreServedTo r l (not w) js is (length is) ns
-IsImportsTurn l r w is js ns (turn.Apart x) = AreExternsOf r l (not w) 0 js is [] ns × IsReal x × DifferInImports x (items_of (item_tree l) is) (items_of (item_tree r) js)
-IsImportsTurn l r w is js ns (turn.PartApart i b x) = AreExternsOf r l (not w) 0 js is [] ns × (b ≡ true) × DifferThere r l js is i x
-IsImportsTurn l r w is js ns turn.Memory = Unit {0}
+IsImportsTurn l r w is js ns (Ok u) = AreExternsOf r l (not w) 0 js is [] ns × AreServedTo r l (not w) js is (length is) ns
+IsImportsTurn l r w is js ns (Err (halt.Apart x)) = AreExternsOf r l (not w) 0 js is [] ns × DifferInImports x (items_of (item_tree l) is) (items_of (item_tree r) js)
+IsImportsTurn l r w is js ns (Err (halt.PartApart i b x)) = AreExternsOf r l (not w) 0 js is [] ns × (b ≡ true) × DifferThere r l js is i x
+IsImportsTurn l r w is js ns (Err halt.Modules) = ⊥
+IsImportsTurn l r w is js ns (Err halt.Memory) = Unit {0}
 
 -- the same words, told from the two collections of a comparison
 abbrev pub IsExportsListed : Sides → Text → ℕ → KindsByName → KindsByName → List PairPart → List PairPart → Turn → Type 0
@@ -273,10 +240,6 @@ IsExportsListed s h first es ts ms ns t = IsExportsTurn s.left.now s.right.now s
 
 abbrev pub IsOptionalListed : Sides → ℕ → Difference → Option ValueType → Option ValueType → List PairPart → List PairPart → Turn → Type 0
 IsOptionalListed s i d o p ms ns t = IsOptionalTurn s.left.now s.right.now s.swapped i d o p ms ns t
-
--- what is found of the results of two functions, after so many parameters
-abbrev pub IsResultListed : Sides → ℕ → Option ValueType → Option ValueType → List PairPart → List PairPart → Turn → Type 0
-IsResultListed s n o p ms ns t = IsOptionalListed s n (difference.FuncResult (is_some o) (is_some p)) o p ms ns t
 
 -- what is found of the payloads of two streams, or of two futures
 abbrev pub ArePayloads : Sides → (Bool → ValueLabel) → Option ValueType → Option ValueType → List PairPart → Turn → Type 0
@@ -293,10 +256,11 @@ ArePartsOf l r w e ms = (q : PairPart) → Contains ms q → IsPartOf l r w e q
 
 -- what is found of two entries whose parts are listed
 abbrev pub IsTurn : Collection → Collection → Bool → Entries → List PairPart → Turn → Type 0
-IsTurn l r w e ms turn.End = ArePartsOf l r w e ms × (AllFitBy l r w ms → EntriesFit l r e)
-IsTurn l r w e ms (turn.Apart x) = ArePartsOf l r w e ms × ((c : SubtypeCheck) (f : Fault) → IsFaultOf c x f → EntriesPath c l r e [] f) × (¬ (EntriesFit l r e))
-IsTurn l r w e ms (turn.PartApart i b x) = ArePartsOf l r w e ms × HasPart l r e i × ((c : SubtypeCheck) (f : Frame) (g : Fault) → IsFrameOf l r e i f → IsFaultOf (check_of c b) x g → EntriesPath c l r e (f ∷ []) g) × (¬ (EntriesFit l r e))
-IsTurn l r w e ms turn.Memory = Unit {0}
+IsTurn l r w e ms (Ok u) = ArePartsOf l r w e ms × (AllFitBy l r w ms → EntriesFit l r e)
+IsTurn l r w e ms (Err (halt.Apart x)) = ArePartsOf l r w e ms × ((c : SubtypeCheck) (f : Fault) → IsFaultOf c x f → EntriesPath c l r e [] f) × (¬ (EntriesFit l r e))
+IsTurn l r w e ms (Err (halt.PartApart i b x)) = ArePartsOf l r w e ms × HasPart l r e i × ((c : SubtypeCheck) (f : Frame) (g : Fault) → IsFrameOf l r e i f → IsFaultOf (check_of c b) x g → EntriesPath c l r e (f ∷ []) g) × (¬ (EntriesFit l r e))
+IsTurn l r w e ms (Err halt.Modules) = ArePartsOf l r w e ms × (¬ (EntriesFit l r e))
+IsTurn l r w e ms (Err halt.Memory) = Unit {0}
 
 -- the same of a pair
 abbrev pub IsPairTurn : Collection → Collection → EntryPair → List PairPart → Turn → Type 0

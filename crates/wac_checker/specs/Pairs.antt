@@ -164,10 +164,6 @@ AreSwapped (Below q) (Below r) = (r.entries ≡ q.entries) × (r.swapped ≡ not
 AreSwapped (Below q) p = ⊥
 AreSwapped p r = r ≡ p
 
--- the same of what is imported, which the left side asks of the right one
-abbrev pub IsImportPart : SubtypeCheck → Collection → Collection → List (Text × ItemKind) → List (Text × ItemKind) → ℕ → Finding → Type 0
-IsImportPart check c d es ts i p = (q : Finding) × AreSwapped q p × IsExternPart (turned check) d c ts es i q
-
 -- ---- the parts of two entries
 
 -- how many imports a world has, which are its first parts
@@ -262,9 +258,6 @@ PairFits c d p = EntriesFit (left_of c d p.swapped) (right_of c d p.swapped) p.e
 
 abbrev pub PairPartFits : Collection → Collection → Two → ℕ → Type 0
 PairPartFits c d p i = PartFits (left_of c d p.swapped) (right_of c d p.swapped) p.entries i
-
-abbrev pub PairPartsFit : Collection → Collection → Two → ℕ → Type 0
-PairPartsFit c d p i = (j : ℕ) → j < i → PairPartFits c d p j
 
 abbrev pub pair_height : Collection → Collection → Two → ℕ
 pair_height c d p = entries_height (left_of c d p.swapped) (right_of c d p.swapped) p.entries

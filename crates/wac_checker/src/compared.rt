@@ -1,6 +1,6 @@
 //! The one walk: of each pair the parts are listed, and then compared in order, each pair once.
 
-ghost use Rattle.std.specs.Prelude.{◌≡◌, ◌↔◌, ◌<◌, [], false, length, reverse, IsTrue, IfOk, OnOk};
+ghost use Rattle.std.specs.Prelude.{◌≡◌, ◌↔◌, ◌<◌, [], false, length, reverse, IsTrue, IfOk};
 ghost use Rattle.wac_model.specs.Order.{Fits};
 ghost use Rattle.wac_component.specs.Collection.{Collection};
 ghost use Rattle.wac_component.specs.Key.{AllStand, item_keys};
@@ -13,10 +13,8 @@ ghost use Rattle.wac_checker.specs.Walk.{IsPathTo};
 ghost use Rattle.wac_checker.specs.declared.parts.EntryPair.{EntryPair};
 
 use super::cache::{Believed, Kinds, is_believed};
-use super::composites::name_items;
 use super::known::Known;
-use super::parts::{Named, PairPart};
-use super::short::Short;
+use super::parts::PairPart;
 use super::sides::Sides;
 use super::walk::{Walk, WalkStep, has_more};
 use std::alloc::{AllocError, Global};
@@ -72,10 +70,8 @@ impl Compared {
             alloc,
         };
         let mut walk = Walk::new(alloc);
-        match name_items(&sides, &mut walk.parts, 0, &a, &b) {
-            Named::Fits => {}
-            Named::Differs => return Ok(false),
-            Named::Memory => return Err(AllocError),
+        if !sides.name_items(&mut walk.parts, 0, &a, &b)? {
+            return Ok(false);
         }
         let Some(part) = walk.parts.pop() else {
             return Ok(true);
@@ -89,7 +85,7 @@ impl Compared {
         requires straight { sides.now.swapped ≡ false }
         requires stands { IsStanding sides.now.left.now sides.now.right.now walk.old.asked }
         requires parts { walk.old.parts.before ≡ [] }
-        requires open { walk.old.open ≡ [] }
+        requires open { walk.old.open.items ≡ [] }
         requires none { walk.old.parts.items ≡ [] }
         requires truly { KnowsTruly sides.now.left.now sides.now.right.now self.old }
         ensures answer { IfOk result (λ yes. IsTrue yes ↔ IsFitting sides.now.left.now sides.now.right.now walk.old.asked) }
@@ -102,7 +98,7 @@ impl Compared {
         match self.compare(walk, sides, &nothing) {
             Ok(true) => Ok(true),
             Ok(false) => {
-                self.note(sides.alloc, &walk.open)?;
+                self.note(sides.alloc, walk.open.as_slice())?;
                 Ok(false)
             }
             Err(e) => {
@@ -121,11 +117,11 @@ impl Compared {
     }
 
     // The pairs of steps don't fit.
-    fn note(&mut self, alloc: Global, open: &Short<WalkStep>) -> Result<(), AllocError>
+    fn note(&mut self, alloc: Global, open: &[WalkStep]) -> Result<(), AllocError>
         ensures { (c d : Collection) (r : EntryPair) → KnowsBut [] c d self.old (reverse open.now) → IsPathTo c d r (reverse open.now) → KnowsTruly c d self.new }
     {
         for i in 0..open.len() {
-            let step = open.at(i);
+            let step = open[i];
             if let Err(e) = self.unfit.add(&step.part.pair) {
                 self.forget(alloc);
                 return Err(e);
@@ -145,7 +141,7 @@ impl Compared {
         requires straight { sides.now.swapped ≡ false }
         requires stands { IsStanding sides.now.left.now sides.now.right.now walk.old.asked }
         requires parts { walk.old.parts.before ≡ [] }
-        requires open { walk.old.open ≡ [] }
+        requires open { walk.old.open.items ≡ [] }
         requires none { walk.old.parts.items ≡ [] }
         requires truly { KnowsTruly sides.now.left.now sides.now.right.now self.old }
         ensures answer { IfOk result (IsAnswered (told believed.now) sides.now.left.now sides.now.right.now self.new walk.new) }

@@ -1,8 +1,8 @@
 //! The pairs that a comparison has opened, each once.
 
-ghost use Rattle.std.specs.Prelude.{◌≡◌, ◌<◌, ◌≤◌, ◌++◌, ◌∷◌, [], Contains, IsTrue, ◌↔◌, true, false, Ok, Some, length, slice_get, take};
+ghost use Rattle.std.specs.Prelude.{◌≡◌, ◌<◌, ◌≤◌, ◌++◌, ◌∷◌, [], Contains, IsTrue, ◌↔◌, true, false, Ok, length, take};
 
-use super::parts::{EntryPair, NO_PAIR};
+use super::parts::EntryPair;
 use indexmap::IndexSet;
 use std::alloc::{AllocError, Global};
 
@@ -31,7 +31,7 @@ impl Known {
         ensures { pairs_of result ≡ [] }
     {
         Known {
-            few: [NO_PAIR; FEW],
+            few: [EntryPair::default(); FEW],
             len: 0,
             many: IndexSet::new(alloc),
         }
@@ -79,21 +79,13 @@ impl Known {
     }
 }
 
-#[inline(always)]
-fn pair_at(pairs: &[EntryPair], index: usize) -> EntryPair
-    requires { index < length pairs.now }
-    ensures { slice_get pairs.now index ≡ Some result }
-{
-    pairs[index]
-}
-
 // By hand, since a call of `contains` costs more than the few tests.
 #[inline(always)]
 fn is_among(pairs: &[EntryPair], pair: &EntryPair) -> bool
     ensures { IsTrue result ↔ Contains pairs.now pair.now }
 {
     for i in 0..pairs.len() {
-        if pair_at(pairs, i) == *pair {
+        if pairs[i] == *pair {
             return true;
         }
     }

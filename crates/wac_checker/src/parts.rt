@@ -1,17 +1,18 @@
-//! Pairs of entries, the parts that they stand on, and what they differ in.
+//! Pairs of entries, the parts that they stand on, and where these end.
 
-ghost use Rattle.std.specs.Prelude.{◌≡◌, ◌<◌, ◌+◌, ◌++◌, ◌∷◌, [], IfNone, IsTrue, OnOk, Some, length, slice_get, take};
+ghost use Rattle.std.specs.Prelude.{◌≡◌, ◌<◌, ◌+◌, ◌++◌, [], IfNone, IsTrue, Some, length, slice_get, take};
 ghost use Rattle.std.specs.Option.{option_to_list};
 ghost use Rattle.wac_checker.specs.Listing.{AreNamedUnless, IsNamed};
 
-use super::short::Short;
+use smallvec::SmallVec;
 use std::alloc::{AllocError, Global};
 use std::marker::Model;
-use wac_mismatch::{CountOf, NameOf, ResultPart};
+use wac_mismatch::Difference;
 
 /// A sort of entry that is compared part by part.
-#[derive(Clone, Copy, PartialEq, Eq, Hash)]
+#[derive(Clone, Copy, PartialEq, Eq, Hash, Default)]
 pub(crate) enum PairSort {
+    #[default]
     Defined,
     Func,
     Interface,
@@ -21,7 +22,7 @@ pub(crate) enum PairSort {
 
 /// Two entries of one sort, by their indices: the left one is asked about, the right one asked for.
 /// They are swapped where the left one is of the right collection, as below an import.
-#[derive(Clone, Copy, PartialEq, Eq, Hash)]
+#[derive(Clone, Copy, PartialEq, Eq, Hash, Default)]
 pub(crate) struct EntryPair {
     pub(crate) left: usize,
     pub(crate) right: usize,
@@ -29,48 +30,20 @@ pub(crate) struct EntryPair {
     pub(crate) swapped: bool,
 }
 
-impl EntryPair {
-    /// Two entries of a sort.
-    #[inline(always)]
-    pub(crate) fn of(sort: PairSort, left: usize, right: usize, swapped: bool) -> Self
-        ensures { result ≡ record { left = left; right = right; sort = sort; swapped = swapped } }
-    {
-        EntryPair {
-            left,
-            right,
-            sort,
-            swapped,
-        }
-    }
-}
-
-/// A pair that stands where none is.
-pub(crate) const NO_PAIR: EntryPair = EntryPair {
-    left: 0,
-    right: 0,
-    sort: PairSort::Defined,
-    swapped: false,
-};
-
 /// The part of this index, which fits if this pair does.
-#[derive(Clone, Copy)]
+#[derive(Clone, Copy, Default)]
 pub(crate) struct PairPart {
     pub(crate) pair: EntryPair,
     pub(crate) index: usize,
 }
 
-/// What the comparison of two leaves, or the naming of two entries, has found.
-#[derive(Clone, Copy)]
-pub(crate) enum Named {
-    Fits,
-    Differs,
-    Memory,
-}
+/// Whether two leaves are one, or two entries may be, which are named for it.
+pub(crate) type Named = Result<bool, AllocError>;
 
 /// The parts of the pairs that are open, and behind them those that are being named of one more.
 #[derive(Drop)]
 pub(crate) struct PairParts {
-    list: Short<PairPart>,
+    list: SmallVec<PairPart, 4>,
     // where those that are being named begin
     first: usize,
 }
@@ -81,9 +54,9 @@ impl Model for PairParts {
 
     ghost Value = { PartLists };
 
-    ghost view = { λ p. record { before = take p.first p.list; items = drop p.first p.list } };
+    ghost view = { λ p. record { before = take p.first p.list.items; items = drop p.first p.list.items } };
 
-    ghost invariant = { λ p. p.first ≤ length p.list };
+    ghost invariant = { λ p. p.first ≤ length p.list.items };
 }
 
 impl PairParts {
@@ -92,12 +65,8 @@ impl PairParts {
     pub(crate) fn new(alloc: Global) -> Self
         ensures { result ≡ record { before = []; items = [] } }
     {
-        let none = PairPart {
-            pair: NO_PAIR,
-            index: 0,
-        };
         PairParts {
-            list: Short::new(alloc, none),
+            list: SmallVec::new(alloc),
             first: 0,
         }
     }
@@ -116,7 +85,7 @@ impl PairParts {
         requires { index < length self.now.before }
         ensures { slice_get self.now.before index ≡ Some result }
     {
-        self.list.at(index)
+        self.list.as_slice()[index]
     }
 
     // Whether a pair was named last: the same two stand there again and again, as in a tuple.
@@ -124,17 +93,20 @@ impl PairParts {
     fn is_last(&self, pair: &EntryPair) -> bool
         ensures { IsTrue result → IsNamed self.now.items pair.now }
     {
-        let len = self.list.len();
-        self.first < len && self.list.at(len - 1).pair == *pair
+        let list = self.list.as_slice();
+        self.first < list.len() && list[list.len() - 1].pair == *pair
     }
 
-    // Names a part.
+    /// Names a pair as the part of an index, unless its entries are one.
     #[inline(always)]
-    fn push(&mut self, part: PairPart) -> Result<(), AllocError>
-        ensures items { OnOk result (self.new.items ≡ self.old.items ++ part ∷ []) }
+    pub(crate) fn name(&mut self, index: usize, same: bool, pair: EntryPair) -> Named
+        ensures named { AreNamedUnless same index pair self.old.items self.new.items result }
         ensures kept { self.new.before ≡ self.old.before }
     {
-        self.list.push(part)
+        if !same && !self.is_last(&pair) {
+            self.list.push(PairPart { pair, index })?;
+        }
+        Ok(true)
     }
 
     /// Takes the part off that was named last.
@@ -170,55 +142,29 @@ impl PairParts {
     }
 }
 
-/// Names a pair as the part of an index, unless its entries are one.
-#[inline(always)]
-pub(crate) fn name(parts: &mut PairParts, index: usize, same: bool, pair: EntryPair) -> Named
-    ensures named { AreNamedUnless same index pair parts.old.items parts.new.items result }
-    ensures kept { parts.new.before ≡ parts.old.before }
-{
-    if same {
-        return Named::Fits;
-    }
-    if parts.is_last(&pair) {
-        return Named::Fits;
-    }
-    match parts.push(PairPart { pair, index }) {
-        Ok(()) => Named::Fits,
-        Err(_) => Named::Memory,
-    }
-}
-
-/// What two differ in, the left and the right: a fault with no direction, whose names are borrowed.
+/// Why the parts of two entries aren't listed further.
 #[derive(Clone, Copy)]
-pub(crate) enum Difference<'a> {
-    Kinds(&'static str, &'static str),
-    Resources(&'a String, &'a String),
-    Async(bool, bool),
-    ParamCount(usize, usize),
-    ParamName(usize, &'a String, &'a String),
-    FuncResult(bool, bool),
-    FixedSize,
-    ResultPart(ResultPart, bool, bool),
-    Payload(bool, bool),
-    Count(CountOf, usize, usize),
-    Name(NameOf, usize, &'a String, &'a String),
-    CaseType(&'a String, bool, bool),
-    // The holder, the kind of the export, its name.
-    MissingExport(&'static str, &'static str, &'a String),
-    MissingImport(&'static str, &'a String),
-    // Two core modules, which are compared again for their path.
-    Modules,
-}
-
-/// What is found of two entries, whose parts are named up to the first difference.
-#[derive(Clone, Copy)]
-pub(crate) enum Turn<'a> {
-    /// They fit, if the named pairs do.
-    End,
+pub(crate) enum Halt<'a> {
     /// The two themselves differ.
     Apart(Difference<'a>),
     /// The part of this index differs, the other way round if this is true.
     PartApart(usize, bool, Difference<'a>),
+    /// The two are core modules, which differ.
+    Modules,
     /// Memory was wanting.
     Memory,
 }
+
+impl<'a> From<AllocError> for Halt<'a> {
+    ghost use Rattle.wac_checker.specs.declared.parts.Halt.TheVariants.{Memory};
+
+    ghost from_gives = { λ _ r. r ≡ Memory };
+
+    fn from(_error: AllocError) -> Self {
+        Halt::Memory
+    }
+}
+
+/// Two entries whose parts are named up to the first difference: without one they fit, if the named
+/// pairs do.
+pub(crate) type Turn<'a> = Result<(), Halt<'a>>;

@@ -40,15 +40,7 @@ impl<'a> Sides<'a> {
         ensures right { result.right.now ≡ right_of self.now.left.now self.now.right.now swapped }
         ensures swapped { result.swapped ≡ flag_of swapped self.now.swapped }
     {
-        if swapped {
-            return self.turned();
-        }
-        Sides {
-            left: self.left,
-            right: self.right,
-            swapped: self.swapped,
-            alloc: self.alloc,
-        }
+        if swapped { self.turned() } else { *self }
     }
 }
 

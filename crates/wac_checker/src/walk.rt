@@ -5,9 +5,7 @@ ghost use Rattle.wac_checker.specs.Cache.{Pair};
 ghost use Rattle.wac_checker.specs.Pairs.{IsStanding};
 ghost use Rattle.wac_checker.specs.Walk.{AreListed, IsBegun};
 
-use super::composites::list_parts;
-use super::parts::{EntryPair, NO_PAIR, PairPart, PairParts, Turn};
-use super::short::Short;
+use super::parts::{EntryPair, Halt, PairPart, PairParts};
 use super::sides::Sides;
 use std::alloc::{AllocError, Global};
 
@@ -23,25 +21,13 @@ pub(crate) struct WalkStep {
     pub(crate) differs: bool,
 }
 
-/// What is found of two items.
-#[derive(Clone, Copy)]
-pub(crate) enum Found {
-    Fits,
-    /// They differ themselves.
-    Apart,
-    /// The steps of the walk lead to a pair that doesn't fit.
-    Below,
-    /// Memory was wanting.
-    Memory,
-}
-
 /// The parts of all pairs that are open, and the steps that lead to the pair at hand.
 #[derive(Drop)]
 pub(crate) struct Walk {
     // the pair that is asked about
     pub(crate) asked: EntryPair,
     pub(crate) parts: PairParts,
-    pub(crate) open: Short<WalkStep>,
+    pub(crate) open: Vec<WalkStep>,
 }
 
 impl Walk {
@@ -49,22 +35,12 @@ impl Walk {
     #[inline(always)]
     pub(crate) fn new(alloc: Global) -> Walk
         ensures parts { result.parts ≡ record { before = []; items = [] } }
-        ensures open { result.open ≡ [] }
+        ensures open { result.open.items ≡ [] }
     {
-        let none = PairPart {
-            pair: NO_PAIR,
-            index: 0,
-        };
-        let step = WalkStep {
-            part: none,
-            first: 0,
-            next: 0,
-            differs: false,
-        };
         Walk {
-            asked: NO_PAIR,
+            asked: EntryPair::default(),
             parts: PairParts::new(alloc),
-            open: Short::new(alloc, step),
+            open: Vec::new(alloc),
         }
     }
 
@@ -103,11 +79,12 @@ fn list_pair(sides: &Sides<'_>, pair: &EntryPair, parts: &mut PairParts) -> Resu
     ensures listed { IfOk result (AreListed sides.now.left.now sides.now.right.now pair.now parts.new.items) }
     ensures kept { parts.new.before ≡ parts.old.before }
 {
-    match list_parts(sides, pair, parts) {
-        Turn::End => Ok(false),
-        Turn::Apart(_) => Ok(true),
-        Turn::PartApart(_, _, _) => Ok(true),
-        Turn::Memory => Err(AllocError),
+    match sides.list_parts(pair, parts) {
+        Ok(()) => Ok(false),
+        Err(Halt::Apart(_)) => Ok(true),
+        Err(Halt::PartApart(_, _, _)) => Ok(true),
+        Err(Halt::Modules) => Ok(true),
+        Err(Halt::Memory) => Err(AllocError),
     }
 }
 

@@ -7,7 +7,8 @@ ghost use Rattle.wac_model.specs.Text.{import_name_eq, lookup};
 ghost use Rattle.wac_model.specs.CoreTree.{ModuleFits};
 ghost use Rattle.wac_core.specs.Content.{core_tree, import_name, module_content};
 ghost use Rattle.wac_core.specs.Texts.{core_extern_text};
-ghost use Rattle.wac_core_checker.specs.Verdict.{AreCoreServed, ExplainsModules, IsMissingCoreImport, IsMissingExport};
+ghost use Rattle.wac_mismatch.specs.Steps.{IsMissingExport};
+ghost use Rattle.wac_core_checker.specs.Verdict.{AreCoreServed, ExplainsModules, IsMissingCoreImport};
 
 use crate::externs::{core_extern_fits, sort_text};
 use std::alloc::{AllocError, Global};

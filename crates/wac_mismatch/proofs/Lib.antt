@@ -1,3 +1,4 @@
 pub mod FaultLemmas
+pub mod DifferenceLemmas
 pub mod PartLemmas
 pub mod PathLemmas

@@ -6,4 +6,5 @@ pub mod Part
 pub mod Holds
 pub mod Path
 pub mod Steps
+pub mod Difference
 pub mod Laws

@@ -1,6 +1,7 @@
 -- How a refusal is built, from the innermost place outwards.
 use Rattle.std.specs.Prelude.{◌≡◌, ℕ, [], ◌∷◌, Bool, string_bytes}
 use Rattle.wac_model.specs.Text.{Text}
+use Rattle.wac_mismatch.specs.declared.check.SubtypeCheck.{SubtypeCheck}
 use Rattle.wac_mismatch.specs.declared.frame.Frame.{Frame}
 use Rattle.wac_mismatch.specs.declared.frame.Frame.TheVariants as frame
 use Rattle.wac_mismatch.specs.declared.fault.NameOf.{NameOf}
@@ -64,3 +65,13 @@ IsImportOf n _ = ⊥
 abbrev pub IsCoreImportOf : Text → Text → Frame → Type 0
 IsCoreImportOf m n (frame.CoreImport k l) = (string_bytes k ≡ m) × (string_bytes l ≡ n)
 IsCoreImportOf m n _ = ⊥
+
+-- the fault of an export of this kind and name that this holder lacks, in this direction
+abbrev pub IsMissingExport : Text → Text → Text → SubtypeCheck → Fault → Type 0
+IsMissingExport holder kind name check (fault.MissingExport h k n c) = (h.now ≡ holder) × (k.now ≡ kind) × (string_bytes n ≡ name) × (c ≡ check)
+IsMissingExport holder kind name check _ = ⊥
+
+-- the fault of an import of this kind and name that is missing
+abbrev pub IsMissingImport : Text → Text → SubtypeCheck → Fault → Type 0
+IsMissingImport kind name check (fault.MissingImport k n c) = (k.now ≡ kind) × (string_bytes n ≡ name) × (c ≡ check)
+IsMissingImport kind name check _ = ⊥

@@ -3,6 +3,7 @@
 #![tactic(auto)]
 
 pub mod check;
+pub mod difference;
 pub mod error;
 pub mod fault;
 mod fault_text;
@@ -12,6 +13,7 @@ pub mod path;
 pub mod refusals;
 
 pub use check::SubtypeCheck;
+pub use difference::Difference;
 pub use error::SubtypeError;
 pub use fault::{CoreField, CountOf, Fault, NameOf, ResultPart};
 pub use frame::Frame;

@@ -4,4 +4,4 @@ use Rattle.wac_checker.proofs.FuncPartLemmas.{param_frame_at}
 use Rattle.wac_checker.proofs.frames.func_frame.Goals as goal
 
 pub returns-then-index-len : goal.returns-then-index-len
-returns-then-index-len c = param_frame_at c.args.types.now c.index.result.now (func_tree c.args.types.now c.args.id) c.args.index c.param_frame.result c.index.ensures.tree (omega arith) c.param_frame.ensures
+returns-then-index-len c = param_frame_at c.args.types.now c.index.result.now (func_tree c.args.types.now c.args.id) c.args.index c.in_ok-name_of.field-0 c.index.ensures.tree (omega arith) c.in_ok-name_of.ensures.name

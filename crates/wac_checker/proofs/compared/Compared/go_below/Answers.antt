@@ -1,4 +1,4 @@
-use Rattle.std.proofs.Common.{◌≡◌, ◌++◌, ◌∷◌, [], Bool, List, Result, Ok, Err, true, false, refl, ap, sym, ◌∙◌}
+use Rattle.std.proofs.Common.{◌≡◌, ◌++◌, ◌∷◌, [], Bool, Vec, Global, Result, Ok, Err, true, false, refl, ap, sym, ◌∙◌}
 use Rattle.wac_checker.specs.declared.walk.WalkStep.{WalkStep}
 use Rattle.wac_checker.specs.declared.walk.Walk.{Walk}
 use Rattle.wac_checker.proofs.WalkLemmas.{moved, pairs_opened, part_stands, way_below, way_known, way_over, way_told, way_unfit}
@@ -68,7 +68,7 @@ returns-in_ok-push-2-clause-way c =
     let here = c.at-part.ensures in
     let said : c.add.result ≡ Ok true = c.in_ok-add.was ∙ ap Ok c.if-branch.true in
     let v : Walk = record { asked = c.begin.new.self.asked; parts = c.begin.new.self.parts; «open» = c.push-then-has_more.new.self } in
-    way_below (told c.args.believed.now) c.args.sides.now.left.now c.args.sides.now.right.now c.args.self.now c.args.walk.now c.args.step.now c.requires.way c.at-part.result here (record { known = c.add.new.self; unfit = c.args.self.now.unfit }) v c.in_ok-below.below (c.add.ensures.new said) (c.add.ensures.added said) refl (c.in_ok-below.ensures.begun (told c.args.believed.now)) c.in_ok-below.ensures.asked c.in_ok-below.ensures.listed (c.in_ok-push-2.ensures.items ∙ ap (λ (xs : List WalkStep). xs ++ moved c.args.step.now ∷ []) c.in_ok-below.ensures.open)
+    way_below (told c.args.believed.now) c.args.sides.now.left.now c.args.sides.now.right.now c.args.self.now c.args.walk.now c.args.step.now c.requires.way c.at-part.result here (record { known = c.add.new.self; unfit = c.args.self.now.unfit }) v c.in_ok-below.below (c.add.ensures.new said) (c.add.ensures.added said) refl (c.in_ok-below.ensures.begun (told c.args.believed.now)) c.in_ok-below.ensures.asked c.in_ok-below.ensures.listed (c.in_ok-push-2.ensures.items ∙ ap (λ (v : Vec WalkStep Global). v.items ++ moved c.args.step.now ∷ []) c.in_ok-below.ensures.open)
 
 pub returns-else-has_more-clause-way : goal.returns-else-has_more-clause-way
 returns-else-has_more-clause-way c =

@@ -1,12 +1,19 @@
-use Rattle.std.proofs.Common.{◌≡◌, ◌<◌, inl, inr, Some, length, slice_get, sym, ap, ◌∙◌, subst, arith}
+use Rattle.std.proofs.Common.{◌≡◌, ◌<◌, ℕ, List, get_or, false, inl, inr, Some, length, slice_get, sym, ap, ◌∙◌, subst, arith}
 use Rattle.std.specs.Prelude.{Contains}
-use Rattle.std.proofs.lemmas.Option.{slice_get_within}
+use Rattle.std.proofs.lemmas.Option.{slice_get-get_or, slice_get_within}
 use Rattle.wac_checker.specs.Known.{pairs_of}
 use Rattle.wac_checker.specs.declared.walk.WalkStep.{WalkStep}
 use Rattle.wac_checker.proofs.CountLemmas.{last_or_before}
 use Rattle.wac_checker.proofs.KnownLemmas.{element_at}
 use Rattle.wac_checker.proofs.WalkLemmas.{add_cases, add_keeps, add_there, all_noted}
+use Rattle.wac_checker.specs.declared.parts.PairSort.TheVariants as sort
 use Rattle.wac_checker.proofs.compared.Compared.note.Goals as goal
+
+abbrev none : WalkStep
+none = record { part = record { pair = record { left = 0; right = 0; sort = sort.Defined; swapped = false }; index = 0 }; first = 0; next = 0; differs = false }
+
+abbrev step_at : List WalkStep → ℕ → WalkStep
+step_at ss i = get_or ss i none
 
 pub returns-in-Err : goal.returns-in-Err
 returns-in-Err c = λ l r a k p. c.forget.ensures l r
@@ -14,17 +21,17 @@ returns-in-Err c = λ l r a k p. c.forget.ensures l r
 pub loop-i-preserved : goal.loop-i-preserved
 loop-i-preserved c = record {
   known = c.loop-i.invariant.known;
-  kept = λ q m. add_keeps (pairs_of c.loop-i.self.unfit) (pairs_of c.add.new.self) c.at-step.result.part.pair c.add.result c.add.ensures.there c.add.ensures.added c.add.ensures.same c.in_default.field-0 c.in_default.is q (c.loop-i.invariant.kept q m);
-  only = λ q m. elim (add_cases (pairs_of c.loop-i.self.unfit) (pairs_of c.add.new.self) c.at-step.result.part.pair c.add.result c.add.ensures.there c.add.ensures.added c.add.ensures.same c.in_default.field-0 c.in_default.is q m) [
+  kept = λ q m. add_keeps (pairs_of c.loop-i.self.unfit) (pairs_of c.add.new.self) (step_at c.args.open.now c.loop-i.i).part.pair c.add.result c.add.ensures.there c.add.ensures.added c.add.ensures.same c.in_default.field-0 c.in_default.is q (c.loop-i.invariant.kept q m);
+  only = λ q m. elim (add_cases (pairs_of c.loop-i.self.unfit) (pairs_of c.add.new.self) (step_at c.args.open.now c.loop-i.i).part.pair c.add.result c.add.ensures.there c.add.ensures.added c.add.ensures.same c.in_default.field-0 c.in_default.is q m) [
     | inl o ↦ c.loop-i.invariant.only q o
-    | inr e ↦ inr (c.at-step.result, element_at c.args.open.now c.loop-i.i c.at-step.result c.at-step.ensures, e)
+    | inr e ↦ inr ((step_at c.args.open.now c.loop-i.i), element_at c.args.open.now c.loop-i.i (step_at c.args.open.now c.loop-i.i) (slice_get-get_or c.args.open.now c.loop-i.i none (omega arith)), e)
   ];
   added = λ j s b at. elim (last_or_before j c.loop-i.i (omega (arith, b))) [
     | inl e ↦ (
-        let both : Some c.at-step.result ≡ Some s = sym c.at-step.ensures ∙ ap (slice_get c.args.open.now) (sym e) ∙ at in
-        let one : c.at-step.result ≡ s = cc in
-        subst (λ (x : WalkStep). Contains (pairs_of c.add.new.self) x.part.pair) one (add_there (pairs_of c.loop-i.self.unfit) (pairs_of c.add.new.self) c.at-step.result.part.pair c.add.result c.add.ensures.there c.add.ensures.added c.add.ensures.same c.in_default.field-0 c.in_default.is))
-    | inr before ↦ add_keeps (pairs_of c.loop-i.self.unfit) (pairs_of c.add.new.self) c.at-step.result.part.pair c.add.result c.add.ensures.there c.add.ensures.added c.add.ensures.same c.in_default.field-0 c.in_default.is s.part.pair (c.loop-i.invariant.added j s before at)
+        let both : Some (step_at c.args.open.now c.loop-i.i) ≡ Some s = sym (slice_get-get_or c.args.open.now c.loop-i.i none (omega arith)) ∙ ap (slice_get c.args.open.now) (sym e) ∙ at in
+        let one : (step_at c.args.open.now c.loop-i.i) ≡ s = cc in
+        subst (λ (x : WalkStep). Contains (pairs_of c.add.new.self) x.part.pair) one (add_there (pairs_of c.loop-i.self.unfit) (pairs_of c.add.new.self) (step_at c.args.open.now c.loop-i.i).part.pair c.add.result c.add.ensures.there c.add.ensures.added c.add.ensures.same c.in_default.field-0 c.in_default.is))
+    | inr before ↦ add_keeps (pairs_of c.loop-i.self.unfit) (pairs_of c.add.new.self) (step_at c.args.open.now c.loop-i.i).part.pair c.add.result c.add.ensures.there c.add.ensures.added c.add.ensures.same c.in_default.field-0 c.in_default.is s.part.pair (c.loop-i.invariant.added j s before at)
   ];
 }
 
