@@ -126,7 +126,7 @@ module _ (l r : Collection) (w : Bool) (o p e g : Option ValueType) (ms ns : Lis
 
 -- ---- the results of functions
 
-length-named : (es : List (String Global × ValueType)) → length (named (λ (v : ValueType). v) es) ≡ length es
+pub length-named : (es : List (String Global × ValueType)) → length (named (λ (v : ValueType). v) es) ≡ length es
 length-named es = simp length-map
 
 module _ (l r : Collection) (w : Bool) (f g : FuncType) (ms ns : List PairPart) (k : Turn) (async : f.is_async ≡ g.is_async) (count : length f.params.entries ≡ length g.params.entries) (few : length f.params.entries + 1 < 2 ^ 64)

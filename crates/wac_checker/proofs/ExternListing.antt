@@ -4,7 +4,6 @@ use Rattle.std.specs.Prelude.{◌↔◌}
 use Rattle.std.specs.Str.{bytes_eq}
 use Rattle.wac_model.specs.Text.{Text, lookup}
 use Rattle.wac_model.specs.Desc.{item_desc}
-use Rattle.wac_model.specs.ValueTree.{ValueTree}
 use Rattle.wac_model.specs.ItemTree.{ItemTree, Kind, item, type_item, leaf, core_module, composite, interface, world, no_items, func, resource, value}
 use Rattle.wac_model.proofs.ItemOrder.{leaf_fits}
 use Rattle.wac_component.specs.Id.{Id}
@@ -34,8 +33,8 @@ use Rattle.wac_checker.proofs.DifferenceLemmas.{leaves_not_one}
 use Rattle.wac_checker.proofs.ExternLemmas.{export_missing, import_missing, tree_lacking, tree_named}
 use Rattle.wac_checker.proofs.ExternPartLemmas.{export_found, export_needed, export_path, export_place, import_found, import_needed, import_path, import_place, interface_found, interface_leads, interface_needed, interface_place}
 use Rattle.wac_checker.proofs.ItemLemmas.{equal_leaves}
-use Rattle.wac_checker.proofs.ItemPartLemmas.{id_here, of_values, one_fits}
-use Rattle.wac_checker.proofs.ListingLemmas.{fit_here, ids_one, put_cases, put_keeps, put_named}
+use Rattle.wac_checker.proofs.ItemPartLemmas.{id_here, of_values, one_fits, value_one}
+use Rattle.wac_checker.proofs.ListingLemmas.{fit_here, flag_same, ids_one, put_cases, put_keeps, put_named}
 
 -- ---- items
 
@@ -56,9 +55,6 @@ module _ (l r : Collection) (w : Bool) (i : ℕ) (x y : ItemKind) (ms ns : List 
   resource_trees item n m ne = ne
   resource_trees type_item n m ne = ne
 
-  one_value : (s t : ValueTree) → value s ≡ value t → s ≡ t
-  one_value s t h = cc
-
   one_resource : (n m : Text) → resource n ≡ resource m → n ≡ m
   one_resource n m h = cc
 
@@ -76,7 +72,7 @@ module _ (l r : Collection) (w : Bool) (i : ℕ) (x y : ItemKind) (ms ns : List 
     items_of_values (Ok false) h = (
       h.0,
       rw (left, right) (value_apart kind h.1),
-      (λ fits. leaves_not_one (value_tree l v) (value_tree r u) h.1 (one_value (value_tree l v) (value_tree r u) (leaf_fits (rw (left, right) at fits)))),
+      (λ fits. leaves_not_one (value_tree l v) (value_tree r u) h.1 (value_one (value_tree l v) (value_tree r u) (leaf_fits (rw (left, right) at fits)))),
     )
     items_of_values (Err e) h = tt
 
@@ -138,10 +134,6 @@ exports_lack l r h es ts n k v lacking wanted desc kind s is is' holder c f faul
 pub imports_lack : (l r : Collection) (is js : KindsByName) (n : Bor (String Global)) (k : Bor (List ℕ)) (v : ItemKind) → lookup bytes_eq is (string_bytes n.now) ≡ Some v → lookup bytes_eq js (string_bytes n.now) ≡ None → k.now ≡ item_desc (item_tree l v) → DifferInImports (difference.MissingImport k n) (items_of (item_tree l) is) (items_of (item_tree r) js)
 imports_lack l r is js n k v wanted lacking desc kind es es' c f fault =
     import_missing c kind (items_of (item_tree l) is) (items_of (item_tree r) js) es es' (string_bytes n.now) (item_tree l v) (tree_lacking r js (string_bytes n.now) lacking) (tree_named l is (string_bytes n.now) v wanted) f (rw desc at fault)
-
-flag_same : (w : Bool) → w ≡ flag_of w false
-flag_same true = refl
-flag_same false = refl
 
 flag_turned : (w : Bool) → not w ≡ flag_of w true
 flag_turned true = refl

@@ -67,7 +67,7 @@ one_fits c d x y j k one h m same keys =
     let numbers : c.number ≡ d.number = sym h.0 ∙ ap (λ (q : Key). q.id.number) keys ∙ m.0 in
     rw (one numbers, same) (Fits-refl (item_tree d y))
 
-value_one : (s t : ValueTree) → value s ≡ value t → s ≡ t
+pub value_one : (s t : ValueTree) → value s ≡ value t → s ≡ t
 value_one s t h = cc
 
 module _ (c d : Collection) (x y : ItemKind) (k : Kind) (v w : ValueType)

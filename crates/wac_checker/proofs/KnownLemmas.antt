@@ -1,7 +1,7 @@
 -- The pairs that are known: when two are one, and one more pair.
 use Rattle.std.specs.List.{list_any, Contains}
 use Rattle.std.proofs.lemmas.Map.Views.{Contains-from_any}
-use Rattle.std.proofs.Common.{◌≡◌, ◌≢◌, ◌||◌, inl, inr, ℕ, zero, suc, List, [], ◌∷◌, ◌++◌, Bool, true, false, Some, slice_get, refl, ap, sym, subst, arith, rules}
+use Rattle.std.proofs.Common.{◌≡◌, ◌≢◌, ◌||◌, inl, inr, ℕ, zero, suc, List, [], ◌∷◌, ◌++◌, Bool, Result, Ok, Err, true, false, Some, slice_get, refl, ap, sym, subst, arith, rules}
 use Rattle.std.proofs.lemmas.List.Elements.{Contains-append_cases, Contains-push_cases}
 use Rattle.wac_component.proofs.Among.{Contains-first, Contains-later, Contains-cases}
 use Rattle.wac_component.specs.Collection.{Collection}
@@ -19,7 +19,14 @@ pair_equal p = search rules
 pub other_pair : (p q : EntryPair) (b : Bool) → b ≡ ghosts.eq p q → b ≡ false → p ≢ q
 other_pair p q b is told e = let same : ghosts.eq p q ≡ true = subst (λ (x : EntryPair). ghosts.eq x q ≡ true) (sym e) (pair_equal q) in absurd (cc (is, told, same))
 
-or_true : (b : Bool) → (b || true) ≡ true
+-- an answer is one of three
+pub yes_not_no : {E : Type 0} → (let r : Result Bool E = Ok true in r) ≡ Ok false → ⊥
+yes_not_no h = absurd (cc)
+
+pub yes_not_err : {E : Type 0} (e : E) → (let r : Result Bool E = Ok true in r) ≡ Err e → ⊥
+yes_not_err e h = absurd (cc)
+
+pub or_true : (b : Bool) → (b || true) ≡ true
 or_true true = refl
 or_true false = refl
 

@@ -54,7 +54,7 @@ module _ (l r : Collection) (i j : ℕ) (s : PairSort) where
 pub fit_here : (l r : Collection) (w : Bool) (p : EntryPair) → p.swapped ≡ w → IsFitting (left_of l r w) (right_of l r w) p → EntriesFit l r (entries_of l r p)
 fit_here l r w p e h = fit_by l r p.left p.right p.sort p.swapped w e h
 
-flag_same : (w : Bool) → w ≡ flag_of w false
+pub flag_same : (w : Bool) → w ≡ flag_of w false
 flag_same true = refl
 flag_same false = refl
 

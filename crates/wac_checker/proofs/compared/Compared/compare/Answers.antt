@@ -1,13 +1,8 @@
-use Rattle.std.proofs.Common.{◌≡◌, Bool, Result, Ok, Err, true, false, refl, ap, sym, ◌∙◌}
+use Rattle.std.proofs.Common.{◌≡◌, Ok, true, false, refl, ap, sym, ◌∙◌}
+use Rattle.wac_checker.proofs.KnownLemmas.{yes_not_err, yes_not_no}
 use Rattle.wac_checker.proofs.WalkLemmas.{known_answer, pairs_first, unfit_answer, way_first}
 use Rattle.wac_checker.specs.Believed.{told}
 use Rattle.wac_checker.proofs.compared.Compared.compare.Goals as goal
-
-apart : {E : Type 0} → (let r : Result Bool E = Ok true in r) ≡ Ok false → ⊥
-apart h = absurd (cc)
-
-failed : {E : Type 0} (e : E) → (let r : Result Bool E = Ok true in r) ≡ Err e → ⊥
-failed e h = absurd (cc)
 
 pub returns-then-has-clause-answer : goal.returns-then-has-clause-answer
 returns-then-has-clause-answer c = unfit_answer (told c.args.believed.now) c.args.sides.now.left.now c.args.sides.now.right.now c.args.self.now c.args.walk.now c.requires.truly c.requires.stands c.requires.open (c.has.ensures.0 c.if-has.true)
@@ -15,15 +10,15 @@ returns-then-has-clause-answer c = unfit_answer (told c.args.believed.now) c.arg
 pub returns-then-not-branch-clause-answer : goal.returns-then-not-branch-clause-answer
 returns-then-not-branch-clause-answer c =
     let known : c.add.result ≡ Ok false = c.in_ok-add.was ∙ ap Ok c.if-not-branch.true in
-    known_answer (told c.args.believed.now) c.args.sides.now.left.now c.args.sides.now.right.now c.args.self.now c.args.walk.now c.requires.truly c.requires.stands c.requires.open (record { known = c.add.new.self; unfit = c.args.self.now.unfit }) (λ u. absurd (let there : c.has.result ≡ true = c.has.ensures.1 u in cc (there, c.if-has.false))) (c.add.ensures.there known) (c.add.ensures.same (λ e. apart (sym e ∙ known))) refl
+    known_answer (told c.args.believed.now) c.args.sides.now.left.now c.args.sides.now.right.now c.args.self.now c.args.walk.now c.requires.truly c.requires.stands c.requires.open (record { known = c.add.new.self; unfit = c.args.self.now.unfit }) (λ u. absurd (let there : c.has.result ≡ true = c.has.ensures.1 u in cc (there, c.if-has.false))) (c.add.ensures.there known) (c.add.ensures.same (λ e. yes_not_no (sym e ∙ known))) refl
 
 pub returns-in_err-add-clause-pairs : goal.returns-in_err-add-clause-pairs
-returns-in_err-add-clause-pairs c = rw (c.add.ensures.same (λ e. failed _ (sym e ∙ c.in_err-add.was))) c.requires.truly.pairs
+returns-in_err-add-clause-pairs c = rw (c.add.ensures.same (λ e. yes_not_err _ (sym e ∙ c.in_err-add.was))) c.requires.truly.pairs
 
 pub returns-then-not-branch-clause-pairs : goal.returns-then-not-branch-clause-pairs
 returns-then-not-branch-clause-pairs c =
     let known : c.add.result ≡ Ok false = c.in_ok-add.was ∙ ap Ok c.if-not-branch.true in
-    rw (c.add.ensures.same (λ e. apart (sym e ∙ known))) c.requires.truly.pairs
+    rw (c.add.ensures.same (λ e. yes_not_no (sym e ∙ known))) c.requires.truly.pairs
 
 pub returns-in_err-step-clause-pairs : goal.returns-in_err-step-clause-pairs
 returns-in_err-step-clause-pairs c =

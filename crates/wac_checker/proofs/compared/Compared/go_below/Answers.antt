@@ -1,20 +1,15 @@
-use Rattle.std.proofs.Common.{◌≡◌, ◌++◌, ◌∷◌, [], Bool, Vec, Global, Result, Ok, Err, true, false, refl, ap, sym, ◌∙◌}
+use Rattle.std.proofs.Common.{◌≡◌, ◌++◌, ◌∷◌, [], Vec, Global, Ok, true, false, refl, ap, sym, ◌∙◌}
 use Rattle.wac_checker.specs.declared.walk.WalkStep.{WalkStep}
 use Rattle.wac_checker.specs.declared.walk.Walk.{Walk}
+use Rattle.wac_checker.proofs.KnownLemmas.{yes_not_err, yes_not_no}
 use Rattle.wac_checker.proofs.WalkLemmas.{moved, pairs_opened, part_stands, way_below, way_known, way_over, way_told, way_unfit}
 use Rattle.wac_checker.specs.Believed.{told}
 use Rattle.wac_checker.proofs.BelievedLemmas.{among_fits}
 use Rattle.wac_checker.proofs.compared.Compared.go_below.Goals as goal
 
-apart : {E : Type 0} → (let r : Result Bool E = Ok true in r) ≡ Ok false → ⊥
-apart h = absurd (cc)
-
-failed : {E : Type 0} (e : E) → (let r : Result Bool E = Ok true in r) ≡ Err e → ⊥
-failed e h = absurd (cc)
-
 pub returns-in_err-add-clause-pairs : goal.returns-in_err-add-clause-pairs
 returns-in_err-add-clause-pairs c =
-    let same = c.add.ensures.same (λ e. failed _ (sym e ∙ c.in_err-add.was)) in
+    let same = c.add.ensures.same (λ e. yes_not_err _ (sym e ∙ c.in_err-add.was)) in
     rw same c.requires.way.knows.pairs
 
 pub returns-then-has-clause-way : goal.returns-then-has-clause-way
@@ -79,11 +74,11 @@ returns-else-has_more-clause-way c =
 pub returns-else-branch-clause-pairs : goal.returns-else-branch-clause-pairs
 returns-else-branch-clause-pairs c =
     let known : c.add.result ≡ Ok false = c.in_ok-add.was ∙ ap Ok c.if-branch.false in
-    let same = c.add.ensures.same (λ e. apart (sym e ∙ known)) in
+    let same = c.add.ensures.same (λ e. yes_not_no (sym e ∙ known)) in
     rw same c.requires.way.knows.pairs
 
 pub returns-else-branch-clause-way : goal.returns-else-branch-clause-way
 returns-else-branch-clause-way c =
     let here = c.at-part.ensures in
     let known : c.add.result ≡ Ok false = c.in_ok-add.was ∙ ap Ok c.if-branch.false in
-    way_known (told c.args.believed.now) c.args.sides.now.left.now c.args.sides.now.right.now c.args.self.now c.args.walk.now c.args.step.now c.requires.way c.at-part.result here (record { known = c.add.new.self; unfit = c.args.self.now.unfit }) (λ u. absurd (let there : c.has.result ≡ true = c.has.ensures.1 u in cc (there, c.if-has.false))) (c.add.ensures.there known) (c.add.ensures.same (λ e. apart (sym e ∙ known))) refl
+    way_known (told c.args.believed.now) c.args.sides.now.left.now c.args.sides.now.right.now c.args.self.now c.args.walk.now c.args.step.now c.requires.way c.at-part.result here (record { known = c.add.new.self; unfit = c.args.self.now.unfit }) (λ u. absurd (let there : c.has.result ≡ true = c.has.ensures.1 u in cc (there, c.if-has.false))) (c.add.ensures.there known) (c.add.ensures.same (λ e. yes_not_no (sym e ∙ known))) refl

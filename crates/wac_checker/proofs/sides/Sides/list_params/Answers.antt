@@ -1,8 +1,8 @@
-use Rattle.std.proofs.Common.{◌≡◌, ◌∙◌, ◌+◌, Ok, length, string_bytes, Some, refl, ap, arith}
-use Rattle.std.proofs.lemmas.List.{length-map}
+use Rattle.std.proofs.Common.{◌≡◌, ◌∙◌, ◌+◌, Ok, string_bytes, Some, refl, ap, arith}
 use Rattle.wac_component.proofs.Members.{AllStand-member}
 use Rattle.wac_component.specs.Height.{keys_height}
 use Rattle.wac_checker.specs.Listing.{func_side}
+use Rattle.wac_checker.proofs.DefinedListing.{length-named}
 use Rattle.wac_checker.proofs.ListingLemmas.{not_whole, halted, turn_at, turn_last}
 use Rattle.wac_component.specs.Content.{types_of, func_content}
 use Rattle.wac_component.specs.Key.{func_keys}
@@ -11,13 +11,7 @@ use Rattle.wac_checker.proofs.NameLemmas.{same_text, other_text}
 use Rattle.wac_checker.proofs.DifferenceLemmas.{param_names_differ}
 use Rattle.wac_checker.proofs.FuncLemmas.{params_stand, param_lower}
 use Rattle.wac_checker.proofs.FuncPartLemmas.{params_at}
-use Rattle.std.proofs.Common.{List, String, Global}
-use Rattle.wac_component.specs.Content.{named}
-use Rattle.wac_component.specs.declared.items.ValueType.{ValueType}
 use Rattle.wac_checker.proofs.sides.Sides.list_params.Goals as goal
-
-length-named : (es : List (String Global × ValueType)) → length (named (λ (v : ValueType). v) es) ≡ length es
-length-named es = simp length-map
 
 pub returns-then-ne-clause-listed : goal.returns-then-ne-clause-listed
 returns-then-ne-clause-listed c = λ k. ((c.loop-i.invariant.turn k).0, param_names_differ k c.args.self.now.left.now c.args.self.now.right.now (func_content_tree c.args.self.now.left.now (func_content c.args.a.now)) (func_content_tree c.args.self.now.right.now (func_content c.args.b.now)) c.args.a.now.params.entries c.args.b.now.params.entries c.loop-i.i c.entry_at.result.0 c.entry_at-in-loop-i.result.0 refl refl (other_text c.entry_at.result.0.now c.entry_at-in-loop-i.result.0.now c.ne.result c.ne.ensures c.if-ne.true) c.entry_at.ensures.name c.entry_at-in-loop-i.ensures.name)
