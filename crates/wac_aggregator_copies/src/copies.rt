@@ -48,9 +48,7 @@ pub fn copy_externs(
 {
     let ids = items_ids(copies.alloc(), externs)?;
     copy_ids(own, copies, types, &ids)?;
-    let mut copied = externs.clone()?;
-    copies.rename_items(&mut copied);
-    Ok(copied)
+    copies.renamed_items(externs)
 }
 
 // Copies entries, with all that they lead to.

@@ -1,14 +1,14 @@
 -- What the contents of renamed parts are.
-use Rattle.std.proofs.Common.{◌≡◌, ◌++◌, Bool, List, [], ◌∷◌, Option, Some, None, map, is_some, string_bytes, String, Global, refl, ap, ◌∙◌}
+use Rattle.std.proofs.Common.{◌≡◌, ◌++◌, Bool, List, [], ◌∷◌, Option, Some, None, map, is_some, string_bytes, String, Global, refl, ap}
 use Rattle.std.specs.Option.{option_map, option_to_list}
 use Rattle.wac_model.specs.ValueTree.{ValueLabel, variant, record_of}
-use Rattle.wac_component.specs.Collection.{composed, FuncContent}
+use Rattle.wac_component.specs.Collection.{composed}
 use Rattle.wac_component.specs.Content.{named, names, types_of, case_types, use_content}
 use Rattle.wac_component.specs.Key.{interface_key}
 use Rattle.wac_component.specs.declared.items.ValueType.{ValueType}
 use Rattle.wac_component.specs.declared.interfaces.UsedType.{UsedType}
 use Rattle.wac_component.specs.Memo.{Remembered}
-use Rattle.wac_component.specs.Renamed.{renamed_id, renamed_value, renamed_use, renamed_func, with_values}
+use Rattle.wac_component.specs.Renamed.{renamed_id, renamed_value, renamed_use, with_values}
 
 pub is_some-map : {V W : Type 0} (h : V → W) (o : Option V) → is_some (option_map h o) ≡ is_some o
 is_some-map h None = refl
@@ -64,11 +64,3 @@ record_renamed m es fs is = rw (is, names-with (renamed_value m) es, types-with 
 pub payload_renamed : (m : Remembered) (label : Bool → ValueLabel) (o q : Option ValueType) → q ≡ option_map (renamed_value m) o
     → composed (label (is_some q)) (option_to_list q) ≡ composed (label (is_some o)) (map (renamed_value m) (option_to_list o))
 payload_renamed m label o q is = rw (is, is_some-map (renamed_value m) o, option_list-map (renamed_value m) o) refl
-
--- a function type, an interface, a world
-pub func_renamed : (m : Remembered) (es fs : List (String Global × ValueType)) (o q : Option ValueType) (b : Bool) (x : FuncContent) → fs ≡ with_values (renamed_value m) es → q ≡ option_map (renamed_value m) o
-    → record { params = named (λ v. v) es; «result» = o; is_async = b } ≡ x → record { params = named (λ v. v) fs; «result» = q; is_async = b } ≡ renamed_func m x
-func_renamed m es fs o q b x is same content =
-    let p : named (λ v. v) fs ≡ with_values (renamed_value m) (named (λ v. v) es) = ap (named (λ v. v)) is ∙ named-with (renamed_value m) es in
-    let all : record { params = named (λ v. v) fs; «result» = q; is_async = b } ≡ renamed_func m (record { params = named (λ v. v) es; «result» = o; is_async = b }) = λ i. record { params = p i; «result» = same i; is_async = b } in
-    all ∙ ap (renamed_func m) content

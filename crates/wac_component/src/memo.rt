@@ -1,7 +1,8 @@
 //! What stands for the entries of other collections.
 
-ghost use Rattle.std.specs.Prelude.{◌≡◌, None, OnOk, is_some};
+ghost use Rattle.std.specs.Prelude.{◌≡◌, ◌≤◌, None, OnOk, is_some};
 ghost use Rattle.std.specs.Option.{option_map};
+ghost use Rattle.indexmap.specs.IndexMap.{spare};
 ghost use Rattle.wac_component.specs.Key.{Key, defined_key, resource_key, func_key, interface_key, world_key, module_key};
 ghost use Rattle.wac_component.specs.Memo.{AddsPair, memo_of};
 ghost use Rattle.wac_component.specs.Naming.{key_of};
@@ -49,6 +50,15 @@ impl Memo {
             worlds: IndexMap::new(alloc),
             modules: IndexMap::new(alloc),
         }
+    }
+
+    /// Makes room for so many interfaces and function types more.
+    pub fn reserve(&mut self, additional: usize) -> Result<(), AllocError>
+        ensures pairs { memo_of self.new ≡ memo_of self.old }
+        ensures room { OnOk result ((additional ≤ spare self.new.interfaces) × (additional ≤ spare self.new.funcs)) }
+    {
+        self.interfaces.reserve(additional)?;
+        self.funcs.reserve(additional)
     }
 
     /// The allocator.

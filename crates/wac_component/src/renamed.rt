@@ -137,8 +137,8 @@ impl Memo {
         });
     }
 
-    /// Items under names.
-    pub fn rename_items(&self, items: &mut IndexMap<String, ItemKind>)
+    // Items under names, in place.
+    fn rename_items(&self, items: &mut IndexMap<String, ItemKind>)
         ensures { named (λ k. k) items.new.entries ≡ with_values (renamed_item (memo_of self.now)) (named (λ k. k) items.old.entries) }
     {
         items.retain(|_, kind| {
@@ -147,7 +147,7 @@ impl Memo {
         });
     }
 
-    // What is used.
+    // What is used, in place.
     fn rename_uses(&self, uses: &mut IndexMap<String, UsedType>)
         ensures { named use_content uses.new.entries ≡ with_values (renamed_use (memo_of self.now)) (named use_content uses.old.entries) }
     {
@@ -224,34 +224,82 @@ impl Memo {
         }
     }
 
+    // Value types under names, renamed. Where there are none, nothing is cloned.
+    fn renamed_fields(
+        &self,
+        fields: &IndexMap<String, ValueType>,
+    ) -> Result<IndexMap<String, ValueType>, AllocError>
+        ensures { IfOk result (λ r. named (λ t. t) r.entries ≡ with_values (renamed_value (memo_of self.now)) (named (λ t. t) fields.now.entries)) }
+    {
+        if fields.is_empty() {
+            return Ok(IndexMap::new(self.alloc()));
+        }
+        let mut renamed = fields.clone()?;
+        self.rename_fields(&mut renamed);
+        Ok(renamed)
+    }
+
+    /// Items under names, renamed. Where there are none, nothing is cloned.
+    pub fn renamed_items(
+        &self,
+        items: &IndexMap<String, ItemKind>,
+    ) -> Result<IndexMap<String, ItemKind>, AllocError>
+        ensures { IfOk result (λ r. named (λ k. k) r.entries ≡ with_values (renamed_item (memo_of self.now)) (named (λ k. k) items.now.entries)) }
+    {
+        if items.is_empty() {
+            return Ok(IndexMap::new(self.alloc()));
+        }
+        let mut renamed = items.clone()?;
+        self.rename_items(&mut renamed);
+        Ok(renamed)
+    }
+
+    /// What is used, renamed. Where nothing is, nothing is cloned.
+    pub fn renamed_uses(
+        &self,
+        uses: &IndexMap<String, UsedType>,
+    ) -> Result<IndexMap<String, UsedType>, AllocError>
+        ensures { IfOk result (λ r. named use_content r.entries ≡ with_values (renamed_use (memo_of self.now)) (named use_content uses.now.entries)) }
+    {
+        if uses.is_empty() {
+            return Ok(IndexMap::new(self.alloc()));
+        }
+        let mut renamed = uses.clone()?;
+        self.rename_uses(&mut renamed);
+        Ok(renamed)
+    }
+
     /// A function type, renamed.
     pub fn renamed_func(&self, func: &FuncType) -> Result<FuncType, AllocError>
         ensures { IfOk result (λ r. func_content r ≡ renamed_func (memo_of self.now) (func_content func.now)) }
     {
-        let mut renamed = func.clone()?;
-        self.rename_fields(&mut renamed.params);
-        renamed.result = self.renamed_optional(renamed.result);
-        Ok(renamed)
+        Ok(FuncType {
+            params: self.renamed_fields(&func.params)?,
+            result: self.renamed_optional(func.result),
+            is_async: func.is_async,
+        })
     }
 
     /// An interface, renamed.
     pub fn renamed_interface(&self, interface: &Interface) -> Result<Interface, AllocError>
         ensures { IfOk result (λ r. interface_content r ≡ renamed_interface (memo_of self.now) (interface_content interface.now)) }
     {
-        let mut renamed = interface.clone()?;
-        self.rename_uses(&mut renamed.uses);
-        self.rename_items(&mut renamed.exports);
-        Ok(renamed)
+        Ok(Interface {
+            id: interface.id.clone()?,
+            uses: self.renamed_uses(&interface.uses)?,
+            exports: self.renamed_items(&interface.exports)?,
+        })
     }
 
     /// A world, renamed.
     pub fn renamed_world(&self, world: &World) -> Result<World, AllocError>
         ensures { IfOk result (λ r. world_content r ≡ renamed_world (memo_of self.now) (world_content world.now)) }
     {
-        let mut renamed = world.clone()?;
-        self.rename_uses(&mut renamed.uses);
-        self.rename_items(&mut renamed.imports);
-        self.rename_items(&mut renamed.exports);
-        Ok(renamed)
+        Ok(World {
+            id: world.id.clone()?,
+            uses: self.renamed_uses(&world.uses)?,
+            imports: self.renamed_items(&world.imports)?,
+            exports: self.renamed_items(&world.exports)?,
+        })
     }
 }

@@ -1,4 +1,5 @@
 use Rattle.std.proofs.Common.{◌≡◌, List, map, ap, subst, ◌∙◌}
+use Rattle.std.proofs.lemmas.Result.{IfOk-weaker}
 use Rattle.wac_model.specs.Text.{Text}
 use Rattle.wac_component.specs.Content.{named}
 use Rattle.wac_component.specs.Key.{item_keys, named_keys}
@@ -6,7 +7,6 @@ use Rattle.wac_component.specs.Memo.{memo_of}
 use Rattle.wac_component.specs.Naming.{key_of}
 use Rattle.wac_component.specs.Renamed.{renamed_item, with_values}
 use Rattle.wac_component.specs.declared.items.ItemKind.{ItemKind}
-use Rattle.wac_component.proofs.CloneLemmas.{named-clones}
 use Rattle.wac_aggregator_narrowing.specs.Taking.{AreMapped, IsCopiedItem}
 use Rattle.wac_aggregator_copies.specs.Copies.{HasCopies}
 use Rattle.wac_aggregator_copies.proofs.CopyLemmas.{Copies-gives}
@@ -24,6 +24,7 @@ returns c =
     let xs : List (Text × ItemKind) = named (λ k. k) c.args.externs.now.entries in
     let ks : map key_of c.deref.result.now ≡ named_keys item_keys xs = ap (map key_of) c.deref.ensures.value ∙ c.in_ok-ids.ensures in
     let h : HasCopies f c.args.own.now m c.copy_ids.new.own n (named_keys item_keys xs) = subst (HasCopies f c.args.own.now m c.copy_ids.new.own n) ks c.in_ok-copy_ids.ensures in
-    let made : named (λ k. k) c.rename_items.new.items.entries ≡ with_values (renamed_item (memo_of n)) xs = c.rename_items.ensures ∙ ap (with_values (renamed_item (memo_of n))) (named-clones (λ k. k) (λ k l same. same) c.args.externs.now c.in_ok-copied.copied c.in_ok-copied.ensures.cases) in
-    rw made (Copies-gives f c.args.own.now c.copy_ids.new.own m n (named_keys item_keys xs) (λ t. AreMapped (IsCopiedItem f t) xs (with_values (renamed_item (memo_of n)) xs))
-    (λ t is. items_renamed f c.copy_ids.new.own n t is xs (each_both f n (named_keys item_keys xs) c.requires.source h.has)) h.copies)
+    IfOk-weaker c.renamed_items.result _ _
+    (λ r made. rw made (Copies-gives f c.args.own.now c.copy_ids.new.own m n (named_keys item_keys xs) (λ t. AreMapped (IsCopiedItem f t) xs (with_values (renamed_item (memo_of n)) xs))
+    (λ t is. items_renamed f c.copy_ids.new.own n t is xs (each_both f n (named_keys item_keys xs) c.requires.source h.has)) h.copies))
+    c.renamed_items.ensures
