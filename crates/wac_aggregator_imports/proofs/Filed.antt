@@ -9,7 +9,7 @@ use Rattle.wac_model.specs.Text.{Text}
 use Rattle.wac_component.specs.Content.{named}
 use Rattle.wac_names.specs.Class.{Class, class_eq, class_of}
 use Rattle.wac_names.proofs.Classes.{classes_decided}
-use Rattle.std.specs.Prelude.{IsSome}
+use Rattle.std.specs.Prelude.{IsSome, OnOk, Result, Ok, Err}
 use Rattle.wac_aggregator_imports.specs.Import.{ImportContent, ImportsContent, import_of, led_of, canonical, AreFiled, PutsImport, PutsName}
 
 -- what a map finds under a text
@@ -108,3 +108,8 @@ canonical-lost is n c h found = rw h (rw found refl)
 pub some_of : {A : Type 0} (o : Option A) → IsSome o → (a : A) × (o ≡ Some a)
 some_of None h = absurd (let no : false ≡ true = h in cc)
 some_of (Some a) h = (a, refl)
+
+-- what two clauses say of a value
+pub on_both : {T E : Type 0} (P Q : Type 0) (r : Result T E) → OnOk r P → OnOk r Q → OnOk r (P × Q)
+on_both P Q (Ok x) p q = (p, q)
+on_both P Q (Err e) p q = tt

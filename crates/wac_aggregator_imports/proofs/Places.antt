@@ -1,18 +1,18 @@
 -- Imports in places, found by the index that has the place of each class.
-use Rattle.std.proofs.Common.{◌≡◌, ◌≢◌, ◌⊎◌, inl, inr, ℕ, zero, suc, ◌+◌, ◌<◌, ◌≤◌, Bool, true, false, cond, List, [], ◌∷◌, ◌++◌, length, set, Option, Some, None, refl, ap, sym, ◌∙◌, subst, arith}
+use Rattle.std.proofs.Common.{◌≡◌, ◌≢◌, ◌⊎◌, inl, inr, ℕ, zero, suc, ◌+◌, ◌<◌, ◌≤◌, Bool, true, false, cond, List, [], ◌∷◌, ◌++◌, length, set, Option, Some, None, refl, ap, sym, ◌∙◌, subst, arith, MutBor, IsSome}
 use Rattle.std.proofs.lemmas.List.{get_or-set_same, get_or-set_other, get_or_past, length-set, length-append}
 use Rattle.std.proofs.Math.Seq.{set-append_seam}
 use Rattle.std.proofs.lemmas.Bool.{cases_eq, cases_lt}
 use Rattle.std.proofs.lemmas.Map.Keys.{IsDistinct-cons}
 use Rattle.std.specs.List.{AllByRecursion, IsDistinct}
 use Rattle.std.specs.Map.{lookup, update, keys_of}
-use Rattle.std.specs.Option.{option_and_then, MatchOption}
+use Rattle.std.specs.Option.{option_and_then, option_copied_mut, MatchOption}
 use Rattle.indexmap.specs.IndexMap.{insert_entry}
 use Rattle.wac_names.specs.Class.{Class, class_eq, class_of}
 use Rattle.wac_names.proofs.Classes.{classes_decided}
 use Rattle.wac_model.specs.Text.{Text}
 use Rattle.wac_aggregator_imports.specs.Import.{ImportContent, ImportsContent, AreFiled, PutsImport}
-use Rattle.wac_aggregator_imports.proofs.Filed.{AreFiled-put, same_class}
+use Rattle.wac_aggregator_imports.proofs.Filed.{AreFiled-put, same_class, some_of}
 use Rattle.wac_aggregator_imports.specs.Places.{imports_in, import_in, ArePlaced}
 
 abbrev ImportPlaces : Type 0
@@ -109,7 +109,7 @@ module _ (ps : ImportPlaces) (index : Index) (placed : ArePlaced ps index) where
               let no : None ≡ Some p.0 = sym h ∙ ap (class_at index) (sym p.2) ∙ placed.indexed p.0 i p.1 in
               absurd (cc)
 
-  unplaced : (c : Class) → lookup (class_eq c) (imports_in ps) ≡ None → class_at index c ≡ None
+  pub unplaced : (c : Class) → lookup (class_eq c) (imports_in ps) ≡ None → class_at index c ≡ None
   unplaced c none = at (class_at index c) refl
     where
       at : (o : Option ℕ) → class_at index c ≡ o → o ≡ None
@@ -287,6 +287,33 @@ cleared_here (Some j) ps rs h k e l =
 cleared_length : (o : Option ℕ) (ps rs : ImportPlaces) → IsCleared o ps rs → length rs ≡ length ps
 cleared_length None ps rs h = ap length h
 cleared_length (Some j) ps rs h = ap length h ∙ length-set ps j None
+
+-- what the index lends for a class that has an import: the place of that, also where an empty place was added
+lent_some : (r : Option (MutBor ℕ)) (k : ℕ) → option_copied_mut r ≡ Some k → IsSome r
+lent_some None k h = absurd (cc)
+lent_some (Some p) k h = refl
+
+module _ (ps : ImportPlaces) (index : Index) (placed : ArePlaced ps index) (c : Class) (there : IsSome (lookup (class_eq c) (imports_in ps))) (r : Option (MutBor ℕ)) (lent : option_copied_mut r ≡ class_at index c) where
+  its_import : (i : ImportContent) × (lookup (class_eq c) (imports_in ps) ≡ Some i)
+  its_import = some_of (lookup (class_eq c) (imports_in ps)) there
+
+  its_place : (k : ℕ) × (import_in ps k ≡ Some its_import.0) × (class_of its_import.0.0 ≡ c)
+  its_place = place_of ps c its_import.0 its_import.1
+
+  has_place : class_at index c ≡ Some its_place.0
+  has_place = ap (class_at index) (sym its_place.2) ∙ placed.indexed its_place.0 its_import.0 its_place.1
+
+  pub is_lent : IsSome r
+  is_lent = lent_some r its_place.0 (lent ∙ has_place)
+
+  pub lent_place : (p : MutBor ℕ) → r ≡ Some p → class_at index c ≡ Some p.now
+  lent_place p is = sym lent ∙ ap option_copied_mut is
+
+  pub import_there : (p : MutBor ℕ) → r ≡ Some p → (qs : ImportPlaces) → qs ≡ ps ++ None ∷ [] → import_in qs p.now ≡ lookup (class_eq c) (imports_in ps)
+  import_there p is qs pushed =
+      let same : Some its_place.0 ≡ Some p.now = sym has_place ∙ lent_place p is in
+      let at : its_place.0 ≡ p.now = cc in
+      ap (λ xs. import_in xs p.now) pushed ∙ import_in-push ps p.now ∙ ap (import_in ps) (sym at) ∙ its_place.1 ∙ sym its_import.1
 
 -- an import is put in the last place, and the place that its class had is emptied
 module _ (ps rs qs : ImportPlaces) (index later : Index) (led : List (Text × Class)) (c : Class) (i : ImportContent) (o : Option ℕ) (n : ℕ)

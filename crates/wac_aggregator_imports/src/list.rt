@@ -1,11 +1,12 @@
 //! Imports in order, found by the classes of names.
 
-ghost use Rattle.std.specs.Prelude.{◌≡◌, ℕ, ◌<◌, [], ◌∷◌, ◌++◌, Some, None, IsSome, OnOk, MatchOption, slice_set, string_bytes, vec_len};
+ghost use Rattle.std.specs.Prelude.{◌≡◌, [], ◌∷◌, ◌++◌, Some, None, IfOk, IsSome, OnOk, slice_set, string_bytes};
 ghost use Rattle.std.specs.Option.{option_copied, option_map};
 ghost use Rattle.indexmap.specs.IndexMap.{insert_entry};
 ghost use Rattle.wac_names.specs.Class.{class_eq, class_of};
 ghost use Rattle.wac_aggregator_imports.specs.Import.{ImportContent, import_of, canonical, AreFiled, PutsImport, PutsName, IsImportNoted};
 ghost use Rattle.wac_aggregator_imports.specs.Left.{imports_left, listed_imports};
+ghost use Rattle.wac_aggregator_imports.specs.Places.{import_in};
 
 use super::import::Import;
 use super::imports::Imports;
@@ -62,6 +63,14 @@ impl ImportList {
             by_class: IndexMap::new(alloc),
             led: IndexMap::new(alloc),
         }
+    }
+
+    /// Makes room for so many imports more.
+    pub fn reserve(&mut self, additional: usize) -> Result<(), AllocError>
+        ensures { self.new ≡ self.old }
+    {
+        self.places.reserve(additional)?;
+        self.by_class.reserve(additional)
     }
 
     /// What is known of every list of imports; this does nothing.
@@ -130,13 +139,14 @@ impl ImportList {
         requires found { IsSome (import_of self.old class) }
         ensures { (i : ImportContent) → import_of self.old class ≡ Some i → OnOk result (IsImportNoted self.old self.new class i.0 (string_bytes name) kind) }
     {
-        let was = self.get(&class).unwrap().name.clone()?;
-        if name == was {
+        let import = self.get(&class).unwrap();
+        if name == import.name {
             return self.put(class, name, kind);
         }
-        if is_newer(alloc, name.as_str(), was.as_str())? {
-            return self.raise(class, was, name, kind);
+        if is_newer(alloc, name.as_str(), import.name.as_str())? {
+            return self.raise(class, name, kind);
         }
+        let was = import.name.clone()?;
         self.lead(name, class.clone()?)?;
         self.put(class, was, kind)
     }
@@ -151,21 +161,39 @@ impl ImportList {
     }
 
     // Gives the import of a class another name, to which the old one leads, and puts it last.
-    fn raise(
-        &mut self,
-        class: NameClass,
-        was: String,
-        name: String,
-        kind: ItemKind,
-    ) -> Result<(), AllocError>
+    fn raise(&mut self, class: NameClass, name: String, kind: ItemKind) -> Result<(), AllocError>
         requires of { class ≡ class_of (string_bytes name) }
-        requires was { class ≡ class_of (string_bytes was) }
         requires found { IsSome (import_of self.old class) }
         ensures import { OnOk result (PutsImport self.old self.new class (string_bytes name, kind)) }
-        ensures led { OnOk result (PutsName self.old self.new (string_bytes was) class) }
+        ensures led { (i : ImportContent) → import_of self.old class ≡ Some i → OnOk result (PutsName self.old self.new i.0 class) }
     {
-        self.lead(was, class.clone()?)?;
-        self.put_last(class, name, kind)
+        let was = self.move_last(&class, name, kind)?;
+        self.lead(was, class)
+    }
+
+    // Puts the import of a class last, under another name, and answers its old one. That leaves an
+    // empty place.
+    fn move_last(
+        &mut self,
+        class: &NameClass,
+        name: String,
+        kind: ItemKind,
+    ) -> Result<String, AllocError>
+        requires of { class.now ≡ class_of (string_bytes name) }
+        requires found { IsSome (import_of self.old class.now) }
+        ensures import { OnOk result (PutsImport self.old self.new class.now (string_bytes name, kind)) }
+        ensures was { (i : ImportContent) → import_of self.old class.now ≡ Some i → IfOk result (λ n. string_bytes n ≡ i.0) }
+        ensures class { IfOk result (λ n. class.now ≡ class_of (string_bytes n)) }
+        ensures led { self.new.led ≡ self.old.led }
+    {
+        let last = self.places.len();
+        self.places.push(None)?;
+        let place = self.by_class.get_mut(class).unwrap();
+        let left = *place;
+        *place = last;
+        let import = take_import(&mut self.places, left);
+        self.places[last] = Some(Import { name, kind });
+        Ok(import.name)
     }
 
     // Lets a name lead to the import of its class.
@@ -179,28 +207,27 @@ impl ImportList {
         Ok(())
     }
 
-    // Puts an import last. If its class had one, that leaves an empty place.
+    // Puts an import of a class that has none last.
     fn put_last(&mut self, class: NameClass, name: String, kind: ItemKind) -> Result<(), AllocError>
         requires of { class ≡ class_of (string_bytes name) }
+        requires new { import_of self.old class ≡ None }
         ensures import { OnOk result (PutsImport self.old self.new class (string_bytes name, kind)) }
-        ensures order { OnOk result (import_of self.old class ≡ None → self.new.list ≡ self.old.list ++ (class, (string_bytes name, kind)) ∷ []) }
+        ensures order { OnOk result (self.new.list ≡ self.old.list ++ (class, (string_bytes name, kind)) ∷ []) }
         ensures led { self.new.led ≡ self.old.led }
     {
         let last = self.places.len();
         self.places.push(None)?;
-        let left = self.by_class.insert(class, last)?;
-        clear(&mut self.places, left);
+        self.by_class.insert(class, last)?;
         self.places[last] = Some(Import { name, kind });
         Ok(())
     }
 }
 
-// Empties a place, if one is given.
-fn clear(places: &mut Vec<Option<Import>>, place: Option<usize>)
-    requires { (k : ℕ) → place ≡ Some k → k < vec_len places.old }
-    ensures { MatchOption place (places.new.items ≡ places.old.items) (λ k. places.new.items ≡ slice_set places.old.items k None) }
+// Takes the import out of a place, which that empties.
+fn take_import(places: &mut Vec<Option<Import>>, place: usize) -> Import
+    requires { IsSome (import_in places.old.items place) }
+    ensures import { import_in places.old.items place ≡ Some result }
+    ensures emptied { places.new.items ≡ slice_set places.old.items place None }
 {
-    if let Some(place) = place {
-        places[place] = None;
-    }
+    places[place].take().unwrap()
 }
