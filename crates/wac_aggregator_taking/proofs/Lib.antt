@@ -30,3 +30,4 @@ pub mod Arrowed
 pub mod MemberCycles
 pub mod MemberGrows
 pub mod GrownAlone
+pub mod Served

@@ -2,7 +2,7 @@
 use Rattle.std.proofs.Common.{◌≡◌, ◌≤◌, ◌⊎◌, ◌++◌, ℕ, inl, inr, List, [], ◌∷◌, All, Option, Some, None, IfSome, Result, Ok, Err, refl, ap, sym, subst, ◌∙◌, arith}
 use Rattle.std.specs.Option.{option_to_list}
 use Rattle.std.specs.Result.{MatchResult, OnOk}
-use Rattle.std.proofs.lemmas.List.Elements.{All-append, All-cons, All-nil, All-pop, All-weaker}
+use Rattle.std.proofs.lemmas.List.Elements.{All-append, All-cons, All-head, All-nil, All-pop, All-weaker}
 use Rattle.wac_component.specs.Collection.{Collection}
 use Rattle.wac_component.specs.Height.{height, keys_height}
 use Rattle.wac_component.specs.Id.{Id}
@@ -300,6 +300,10 @@ module _ (f : Collection) (near : Option Id) (ks : List Key) (a : Merging) (may 
       due : (s : TakeStep) → IsStepOf ks near s → (step_near s ≡ None) ⊎ (step_near s ≡ near) → IsStepDue f (near_keys near) ks a b s
       due s is (inl none) = record { walk = (step_key s, is.among, stay); own = subst (IsNear b) (sym none) (IsNear-none b); by = λ at trial all by. subst (λ o. AreNear at b (near_keys o)) (sym none) (near_none at b) }
       due s is (inr same) = record { walk = (step_key s, is.among, stay); own = subst (IsNear b) (sym same) own; by = λ at trial all by. subst (λ o. AreNear at b (near_keys o)) (sym same) (by_near at trial all by) }
+
+  -- so is the first step of an item
+  pub first_due : (s : TakeStep) → IsNear a near → IsStepOf ks near s → IsStepDue f (near_keys near) ks a a s
+  first_due s own of = All-head (IsStepDue f (near_keys near) ks a a) s [] (asked_due a [] (s ∷ []) own way_first (put_one ks near [] (s ∷ []) s refl of) (no_steps_due a [] refl))
 
   -- what is due may be taken
   pub due_steps : IsSound f → AllStand f ks → (b : Merging) (ss : List TakeStep) → AreUnderWay f (near_keys near) ks a b → All (IsStepDue f (near_keys near) ks a b) ss → All (MayStep f b) ss

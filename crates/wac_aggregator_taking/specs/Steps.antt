@@ -150,7 +150,11 @@ pub record AreRefusedFrom (f : Collection) (near ks : List Key) (a : Merging) (e
 abbrev pub AnswersOnWay : {T : Type 0} → Collection → List Key → List Key → Merging → Merging → Result T AggregateError → Type 0
 AnswersOnWay f near ks a b answer = MatchResult answer (λ _. AreUnderWay f near ks a b) (AreRefusedFrom f near ks a)
 
+-- the same, with steps left that are due
+abbrev pub AnswersLeft : {T : Type 0} → Collection → List Key → List Key → Merging → Merging → List TakeStep → Result T AggregateError → Type 0
+AnswersLeft f near ks a b ss answer = MatchResult answer (λ _. AreUnderWay f near ks a b × All (IsStepDue f near ks a b) ss) (AreRefusedFrom f near ks a)
+
 -- a turn from b to c, with these steps before and after it
 abbrev pub GoesOnTaking : {T : Type 0} → Collection → List Key → List Key → Merging → List TakeStep → Merging → List TakeStep → Result T AggregateError → Type 0
 GoesOnTaking f near ks b ss c ts answer = (a : Merging) → MayTake f a → IsSound f → AllStand f ks → AreUnderWay f near ks a b → All (IsStepDue f near ks a b) ss
-    → MatchResult answer (λ r. AreUnderWay f near ks a c × All (IsStepDue f near ks a c) ts) (AreRefusedFrom f near ks a)
+    → AnswersLeft f near ks a c ts answer

@@ -17,7 +17,6 @@ ghost use Rattle.wac_aggregator_taking.specs.Takes.{TakesEntryAs, MayTake, MayPu
 
 use super::identity::identifier;
 use super::meeting::meet_own;
-use super::serving::serves;
 use super::state::Merging;
 use indexmap::IndexMap;
 use std::alloc::{AllocError, Global};
@@ -69,8 +68,8 @@ fn is_handed_in(state: &Merging, types: &Types, name: &String) -> Result<bool, A
     are_semver_compatible(state.alloc(), handed_in.as_str(), name.as_str())
 }
 
-// Merges an interface of which all parts were taken in into the shared entry on its track,
-// which grows unless it serves it.
+// Merges an interface of which all parts were taken in into the shared entry on its track, which
+// doesn't serve it and grows.
 pub(crate) fn merge_shared(
     state: &mut Merging,
     types: &Types,
@@ -85,10 +84,6 @@ pub(crate) fn merge_shared(
     ensures taken { MatchResult result (λ r. TakesEntryAs types.now state.old state.new (interface_key id) (interface_key r)) (MayRefuse types.now state.old (interface_key id ∷ [])) }
     ensures members { AnswersMembers result types.now state.old state.new (ReachesByUses types.now id) }
 {
-    if serves(state.alloc(), &state.types, own, &uses, exports) {
-        state.taken.put_interface(id, own)?;
-        return Ok(own);
-    }
     let name = identifier(types, id)?;
     grow(state, types, id, own, name, uses, exports)
 }

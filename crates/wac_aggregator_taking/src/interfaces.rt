@@ -17,14 +17,15 @@ use super::entering::put_interface;
 use super::identity::class_of_identifier;
 use super::near::{near_interface, nearest_of, nth_extern};
 use super::ready::{has_externs, take_ready};
+use super::serving::serving_entry;
 use super::state::Merging;
 use super::steps::{
     TakeStep, alike_step, exports_step, push_before, push_item, push_step, uses_step,
 };
 use indexmap::IndexMap;
-use std::alloc::{AllocError, Global};
+use std::alloc::AllocError;
 use wac_aggregator_errors::AggregateError;
-use wac_component::{Interface, InterfaceId, ItemKind, Memo, Types, UsedType};
+use wac_component::{InterfaceId, ItemKind, Memo, Types, UsedType};
 
 // Takes in what an interface uses at an index, and goes on to the next; then to its exports, with
 // the nearest interface near to it.
@@ -178,7 +179,8 @@ fn has_use(taken: &Memo, types: &Types, uses: &IndexMap<String, UsedType>, index
     taken.interface(interface).is_some()
 }
 
-// Takes in an interface, once all that it uses and exports was.
+// Takes in an interface, once all that it uses and exports was: a shared entry stands for it that
+// serves it, or else one that is made of it or grows by it.
 fn make_interface(state: &mut Merging, types: &Types, id: InterfaceId) -> Result<(), AggregateError>
     requires source { Stands types.now (interface_key id) }
     requires state { MayTake types.now state.old }
@@ -188,8 +190,12 @@ fn make_interface(state: &mut Merging, types: &Types, id: InterfaceId) -> Result
     ensures members { AnswersMembers result types.now state.old state.new (ReachesByUses types.now id) }
 {
     types.sound();
+    let class = class_of_identifier(state.alloc(), &types[id].id)?;
+    if let Some(own) = serving_entry(state, &class, types, id) {
+        state.taken.put_interface(id, own)?;
+        return Ok(());
+    }
     let interface = state.taken.renamed_interface(&types[id])?;
-    let class = class_of_identifier(state.alloc(), &interface.id)?;
     match put_interface(state, types, id, class, interface) {
         Ok(_) => Ok(()),
         Err(refusal) => Err(refusal),

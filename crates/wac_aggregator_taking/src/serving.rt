@@ -1,6 +1,6 @@
 //! Shared entries that serve as they stand what is merged into them.
 
-ghost use Rattle.std.specs.Prelude.{◌≡◌, Some, IsTrue, string_bytes};
+ghost use Rattle.std.specs.Prelude.{◌≡◌, Some, IfSome, IsTrue, string_bytes};
 ghost use Rattle.std.specs.Str.{bytes_eq};
 ghost use Rattle.wac_model.specs.Order.{Fits};
 ghost use Rattle.wac_model.specs.Text.{lookup};
@@ -10,11 +10,14 @@ ghost use Rattle.wac_component.specs.Tree.{item_tree};
 ghost use Rattle.wac_component.specs.declared.items.ItemKind.{ItemKind as Kind};
 ghost use Rattle.wac_checker.specs.Compared.{KnowsTruly};
 ghost use Rattle.wac_core_merge.specs.Names.{with_new};
+ghost use Rattle.wac_names.specs.Class.{Class};
 ghost use Rattle.wac_merge.specs.Items.{AreUnhidden, extern_keys, extern_list};
 ghost use Rattle.wac_aggregator_errors.specs.Uses.{UsesAgree};
 ghost use Rattle.wac_aggregator_taking.specs.Growing.{AreMetWith};
-ghost use Rattle.wac_aggregator_taking.specs.Serving.{IsServing};
+ghost use Rattle.wac_aggregator_taking.specs.Serving.{AreUsesKept, IsServing, own_exports, own_items, own_used, own_uses};
+ghost use Rattle.wac_aggregator_taking.specs.Takes.{MayTake, shared_in};
 
+use super::state::Merging;
 use indexmap::IndexMap;
 use std::alloc::Global;
 use wac_aggregator_errors::{check_uses, check_uses_of};
@@ -22,28 +25,67 @@ use wac_checker::Compared;
 use wac_component::laws::names_in_an_interface_are_distinct;
 use wac_component::{InterfaceId, ItemKind, Types, UsedType};
 use wac_merge::extern_named;
+use wac_names::NameClass;
 
-// Whether an interface stays as it is where others' uses and exports are merged into it: it
-// has uses of their names, and what it exports fits where theirs are asked for. A no says
-// nothing; no refusal is told here.
-pub(crate) fn serves(
-    alloc: Global,
+// The shared entry of a class that serves an interface whose parts were taken in, if there is one.
+pub(crate) fn serving_entry(
+    state: &Merging,
+    class: &Option<NameClass>,
     types: &Types,
-    own: InterfaceId,
-    uses: &IndexMap<String, UsedType>,
-    exports: &IndexMap<String, ItemKind>,
-) -> bool
-    requires own { Stands types.now (interface_key own) }
-    requires uses { AllStand types.now (named_keys use_keys (named use_content uses.now.entries)) }
-    requires exports { AllStand types.now (extern_keys (extern_list exports.now)) }
-    ensures { IsTrue result → IsServing types.now own (named use_content uses.now.entries) (extern_list exports.now) }
+    id: InterfaceId,
+) -> Option<InterfaceId>
+    requires state { MayTake types.now state.now }
+    requires source { Stands types.now (interface_key id) }
+    requires uses { AllStand state.now.types (named_keys use_keys (own_uses types.now state.now id)) }
+    requires exports { AllStand state.now.types (extern_keys (own_exports types.now state.now id)) }
+    ensures class { IfSome result (λ own. (q : Class) × (class.now ≡ Some q) × (shared_in state.now.shared.entries q ≡ Some own)) }
+    ensures serves { IfSome result (λ own. IsServing state.now.types own (own_uses types.now state.now id) (own_exports types.now state.now id)) }
+{
+    let Some(class) = class else {
+        return None;
+    };
+    let own = state.shared.get(class).copied()?;
+    if serves(state, own, types, id) {
+        return Some(own);
+    }
+    None
+}
+
+// Whether an interface stays as it is where another one, whose parts were taken in, is merged into
+// it: it has uses of its names, and what it exports fits where that exports are asked for. Nothing
+// is copied for that. A no says nothing; no refusal is told here.
+fn serves(state: &Merging, own: InterfaceId, types: &Types, id: InterfaceId) -> bool
+    requires own { Stands state.now.types (interface_key own) }
+    requires source { Stands types.now (interface_key id) }
+    requires uses { AllStand state.now.types (named_keys use_keys (own_uses types.now state.now id)) }
+    requires exports { AllStand state.now.types (extern_keys (own_exports types.now state.now id)) }
+    ensures { IsTrue result → IsServing state.now.types own (own_uses types.now state.now id) (own_exports types.now state.now id) }
 {
     types.sound();
-    let entry = &types[own];
+    state.types.sound();
+    let entry = &state.types[own];
+    let interface = &types[id];
     // A name stands once in a map, so that what stands under it is what a look-up finds.
     names_in_an_interface_are_distinct(entry);
-    uses_serve(alloc, types, &entry.uses, uses)
-        && exports_serve(alloc, types, &entry.exports, exports)
+    own_uses_serve(state, &entry.uses, &interface.uses)
+        && exports_serve(state, &entry.exports, &interface.exports)
+}
+
+// Whether uses are of all the names of others, of interfaces that were taken in, and agree with them.
+fn own_uses_serve(
+    state: &Merging,
+    existing: &IndexMap<String, UsedType>,
+    uses: &IndexMap<String, UsedType>,
+) -> bool
+    requires existing { AllStand state.now.types (named_keys use_keys (named use_content existing.now.entries)) }
+    requires new { AllStand state.now.types (named_keys use_keys (own_used state.now (named use_content uses.now.entries))) }
+    ensures kept { IsTrue result → AreUsesKept (named use_content existing.now.entries) (own_used state.now (named use_content uses.now.entries)) }
+    ensures agree { IsTrue result → UsesAgree state.now.types (named use_content existing.now.entries) (own_used state.now (named use_content uses.now.entries)) }
+{
+    match state.taken.renamed_uses(uses) {
+        Ok(new) => uses_serve(state.alloc(), &state.types, existing, &new),
+        Err(_) => false,
+    }
 }
 
 // Whether uses are of all the names of others, and agree with them.
@@ -73,22 +115,23 @@ fn has_names(existing: &IndexMap<String, UsedType>, new: &IndexMap<String, UsedT
     true
 }
 
-// Whether each of some exports is served. A pair of entries that they name is
-// compared once for all of them.
+// Whether each of some exports, of which all that they name was taken in, is served. A pair of
+// entries that they name is compared once for all of them.
 fn exports_serve(
-    alloc: Global,
-    types: &Types,
+    state: &Merging,
     existing: &IndexMap<String, ItemKind>,
-    new: &IndexMap<String, ItemKind>,
+    exports: &IndexMap<String, ItemKind>,
 ) -> bool
-    requires existing { AllStand types.now (extern_keys (extern_list existing.now)) }
-    requires new { AllStand types.now (extern_keys (extern_list new.now)) }
-    ensures met { IsTrue result → AreMetWith types.now types.now (extern_list existing.now) (extern_list new.now) (extern_list existing.now) }
-    ensures found { AreUnhidden (extern_list new.now) }
+    requires existing { AllStand state.now.types (extern_keys (extern_list existing.now)) }
+    requires new { AllStand state.now.types (extern_keys (own_items state.now (extern_list exports.now))) }
+    ensures met { IsTrue result → AreMetWith state.now.types state.now.types (extern_list existing.now) (own_items state.now (extern_list exports.now)) (extern_list existing.now) }
+    ensures found { AreUnhidden (own_items state.now (extern_list exports.now)) }
 {
+    let alloc = state.alloc();
     let mut compared = Compared::new(alloc);
-    for (name, kind) in new {
-        if !export_serves(alloc, &mut compared, types, existing, name, *kind) {
+    for (name, kind) in exports {
+        let new = state.taken.renamed_item(*kind);
+        if !export_serves(alloc, &mut compared, &state.types, existing, name, new) {
             return false;
         }
     }

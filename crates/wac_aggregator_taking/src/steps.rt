@@ -10,7 +10,7 @@ ghost use Rattle.wac_component.specs.declared.items.ItemKind.TheVariants.{Instan
 ghost use Rattle.wac_aggregator_promises.specs.Entries.{ReachesByUses};
 ghost use Rattle.wac_aggregator_taking.specs.Members.{AnswersMembers};
 ghost use Rattle.wac_aggregator_taking.specs.Refused.{AnswersBelow, IsRefusedBy};
-ghost use Rattle.wac_aggregator_taking.specs.Steps.{AnswersOnWay, step_key, step_near, MayStep, IsReachedFrom, IsStepOf, ArePut, AreNext, GoesOnTaking};
+ghost use Rattle.wac_aggregator_taking.specs.Steps.{AnswersOnWay, step_key, step_near, MayStep, IsReachedFrom, IsStepOf, ArePut, AreNext, AnswersLeft, GoesOnTaking};
 ghost use Rattle.wac_aggregator_taking.specs.Takes.{TakesItemAs, MayTake, IsNear, near_keys};
 
 use super::entries::{take_defined, take_func, take_module, take_resource};
@@ -86,7 +86,10 @@ fn take_steps(
     ensures has { OnOk result (Each (HasOwn (memo_of state.new.taken)) (item_keys kind.now)) }
 {
     types.sound();
-    push_item(steps, kind, near)?;
+    match take_first(state, types, steps, kind, near) {
+        Ok(()) => {}
+        Err(refusal) => return Err(refusal),
+    }
     for _turn in 0..u64::MAX {
         let done = match turn(state, types, steps, kind, near) {
             Ok(done) => done,
@@ -97,6 +100,28 @@ fn take_steps(
         }
     }
     Err(AggregateError::Memory)
+}
+
+// Takes the first step of an item, if it names an entry. Most items are taken in by it, and no list
+// of steps is made for them.
+fn take_first(
+    state: &mut Merging,
+    types: &Types,
+    steps: &mut Vec<TakeStep>,
+    kind: &ItemKind,
+    near: &Option<InterfaceId>,
+) -> Result<(), AggregateError>
+    requires source { AllStand types.now (item_keys kind.now) }
+    requires state { MayTake types.now state.old }
+    requires near { IsNear state.old near.now }
+    requires no_steps { steps.old.items ≡ [] }
+    ensures { AnswersLeft types.now (near_keys near.now) (item_keys kind.now) state.old state.new steps.new.items result }
+{
+    types.sound();
+    match item_step(kind, near) {
+        Some(step) => take_step(state, types, steps, step),
+        None => Ok(()),
+    }
 }
 
 // Takes the last step, or asks where there is none.

@@ -1,18 +1,12 @@
 use Rattle.wac_component.specs.Key.{item_keys}
 use Rattle.wac_aggregator_taking.specs.Takes.{near_keys}
 use Rattle.wac_aggregator_taking.proofs.Alike.{IsNear-Takes}
-use Rattle.wac_aggregator_taking.proofs.StepLemmas.{asked_due, due_steps, memory_refused, no_steps_due, way_first}
+use Rattle.wac_aggregator_taking.proofs.StepLemmas.{due_steps, memory_refused}
 use Rattle.wac_aggregator_taking.proofs.TakeLemmas.{MayTake-Takes}
 use Rattle.wac_aggregator_taking.proofs.steps.take_steps.Goals as goal
 
 pub loop-turn-init : goal.loop-turn-init
-loop-turn-init c =
-    let ks = item_keys c.args.kind.now in
-    let f = c.args.types.now in
-    let a = c.args.state.now in
-    let near = c.args.near.now in
-    let way = way_first f near ks a c.requires.state in
-    record { way = way; due = asked_due f near ks a c.requires.state a c.args.steps.now.items c.push_item.new.steps.items c.requires.near way c.in_ok-push_item.ensures (no_steps_due f near ks a c.requires.state a c.args.steps.now.items c.requires.no_steps) }
+loop-turn-init c = record { way = c.in-Ok.ensures.0; due = c.in-Ok.ensures.1 }
 
 pub turn-requires-clause-state : goal.turn-requires-clause-state
 turn-requires-clause-state c = MayTake-Takes c.args.types.now c.args.state.now c.loop-turn.state _ _ _ c.requires.state c.loop-turn.invariant.way.takes
@@ -25,17 +19,17 @@ turn-requires-clause-steps c = due_steps c.args.types.now c.args.near.now (item_
 
 pub loop-turn-preserved : goal.loop-turn-preserved
 loop-turn-preserved c =
-    let after = c.in-Ok.ensures.goes_on c.args.state.now c.requires.state c.sound.ensures c.requires.source c.loop-turn.invariant.way c.loop-turn.invariant.due in
+    let after = c.in-Ok-turn.ensures.goes_on c.args.state.now c.requires.state c.sound.ensures c.requires.source c.loop-turn.invariant.way c.loop-turn.invariant.due in
     record { way = after.0; due = after.1 }
 
 pub returns-then-done-clause-way : goal.returns-then-done-clause-way
-returns-then-done-clause-way c = (c.in-Ok.ensures.goes_on c.args.state.now c.requires.state c.sound.ensures c.requires.source c.loop-turn.invariant.way c.loop-turn.invariant.due).0
+returns-then-done-clause-way c = (c.in-Ok-turn.ensures.goes_on c.args.state.now c.requires.state c.sound.ensures c.requires.source c.loop-turn.invariant.way c.loop-turn.invariant.due).0
 
 pub returns-then-done-clause-has : goal.returns-then-done-clause-has
-returns-then-done-clause-has c = c.in-Ok.ensures.has c.if-done.true
+returns-then-done-clause-has c = c.in-Ok-turn.ensures.has c.if-done.true
 
-pub returns-in-Err-clause-way : goal.returns-in-Err-clause-way
-returns-in-Err-clause-way c = c.in-Err.ensures.goes_on c.args.state.now c.requires.state c.sound.ensures c.requires.source c.loop-turn.invariant.way c.loop-turn.invariant.due
+pub returns-in-Err-turn-clause-way : goal.returns-in-Err-turn-clause-way
+returns-in-Err-turn-clause-way c = c.in-Err-turn.ensures.goes_on c.args.state.now c.requires.state c.sound.ensures c.requires.source c.loop-turn.invariant.way c.loop-turn.invariant.due
 
 pub returns-clause-way : goal.returns-clause-way
 returns-clause-way c = memory_refused c.args.types.now (near_keys c.args.near.now) (item_keys c.args.kind.now) c.args.state.now
