@@ -68,7 +68,7 @@ impl TypeAggregator {
         ensures owners { (f : Collection) → OwnersImported f (state_in result) }
     {
         TypeAggregator {
-            state: no_imports(alloc, number, SubtypeCheck::Covariant),
+            state: no_imports(alloc, number, SubtypeCheck::Covariant, 0),
             alone: IndexMap::new(alloc),
         }
     }

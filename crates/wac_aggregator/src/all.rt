@@ -90,7 +90,7 @@ pub fn aggregate_all(
     ensures same_cache { checker.new.cache.ghost_name ≡ checker.old.cache.ghost_name }
 {
     checker.forget(number);
-    let mut state = no_imports(alloc, number, checker.direction());
+    let mut state = no_imports(alloc, number, checker.direction(), calls.len());
     let mut alone = IndexMap::new(alloc);
     for at in 0..calls.len() {
         let call = &calls[at];

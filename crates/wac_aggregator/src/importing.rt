@@ -24,7 +24,6 @@ use super::all::Call;
 use super::cases::{as_interface, same_case};
 use super::noting::note_import;
 use indexmap::IndexMap;
-use std::alloc::AllocError;
 use wac_aggregator_errors::AggregateError;
 use wac_aggregator_taking::{Merging, take_item};
 use wac_component::{InterfaceId, ItemKind, Types};
