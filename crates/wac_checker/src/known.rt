@@ -8,7 +8,7 @@ use std::alloc::{AllocError, Global};
 
 // So many pairs are looked through one after another, and more are hashed: most comparisons open
 // few.
-const FEW: usize = 4;
+const FEW: usize = 5;
 
 /// Pairs of entries, in the order in which they were opened.
 #[derive(Drop)]
@@ -18,8 +18,8 @@ pub(crate) struct Known {
     // how many of these are pairs
     len: usize,
     many: IndexSet<EntryPair>,
-    ghost within: { len ≤ 4 },
-    ghost room: { length few ≡ 4 },
+    ghost within: { len ≤ 5 },
+    ghost room: { length few ≡ 5 },
 }
 
 impl Known {
