@@ -52,8 +52,8 @@ pub(crate) fn serving_entry(
 }
 
 // Whether an interface stays as it is where another one, whose parts were taken in, is merged into
-// it: it has uses of its names, and what it exports fits where that exports are asked for. Nothing
-// is copied for that. A no says nothing; no refusal is told here.
+// it: it has uses of that one's names, and what it exports fits where that one's exports are asked
+// for. No export is copied for it. A no says nothing; no refusal is told here.
 fn serves(state: &Merging, own: InterfaceId, types: &Types, id: InterfaceId) -> bool
     requires own { Stands state.now.types (interface_key own) }
     requires source { Stands types.now (interface_key id) }
@@ -71,7 +71,8 @@ fn serves(state: &Merging, own: InterfaceId, types: &Types, id: InterfaceId) -> 
         && exports_serve(state, &entry.exports, &interface.exports)
 }
 
-// Whether uses are of all the names of others, of interfaces that were taken in, and agree with them.
+// Whether uses are of all the names of others, and agree with them; the interfaces of the others
+// were taken in.
 fn own_uses_serve(
     state: &Merging,
     existing: &IndexMap<String, UsedType>,
