@@ -15,7 +15,7 @@ use Rattle.wac_component.specs.Collection.{Collection}
 use Rattle.wac_component.specs.Content.{named}
 use Rattle.wac_component.specs.Key.{module_key}
 use Rattle.wac_component.specs.Tree.{item_tree, module_tree}
-use Rattle.wac_checker.proofs.Lookups.{get_named}
+use Rattle.wac_checker_parts.proofs.Lookups.{get_named}
 use Rattle.wac_merge.specs.Items.{entry_item}
 use Rattle.wac_mismatch.specs.declared.error.SubtypeError.{SubtypeError}
 use Rattle.wac_aggregator_errors.specs.Clashes.{AreCoresApart, HasNoCoreClash}

@@ -13,7 +13,7 @@ use Rattle.wac_component.specs.Tree.{Externs as ExternTrees, externs, interface_
 use Rattle.wac_component.specs.declared.items.ItemKind.{ItemKind}
 use Rattle.wac_component.proofs.Keys.{Each-append}
 use Rattle.wac_component.proofs.Members.{exports_stand, exports_lower, world_exports_stand, world_exports_lower}
-use Rattle.wac_checker.proofs.ExternLemmas.{named_stands, named_lower, item_at-items_of}
+use Rattle.wac_checker_parts.proofs.ExternLemmas.{named_stands, named_lower, item_at-items_of}
 use Rattle.wac_merge.specs.Items.{ExternKinds, entry_item, extern_keys}
 use Rattle.wac_merge.specs.Reads.{exports_at as exports_of_key}
 use Rattle.wac_merge.specs.declared.meets.Meets.{Meets}

@@ -12,7 +12,7 @@ use Rattle.std.proofs.lemmas.Map.Iter.{rest_so_far, rest_more}
 use Rattle.std.proofs.lemmas.Slice.Eq.{bytes_eq-Decides}
 use Rattle.wac_model.specs.Text.{Text, lookup}
 use Rattle.wac_component.specs.Content.{named}
-use Rattle.wac_checker.proofs.Lookups.{get_named}
+use Rattle.wac_checker_parts.proofs.Lookups.{get_named}
 use Rattle.wac_core_merge.proofs.NameLemmas.{lookup-append, lookup-by_test, lookup_at_turn}
 use Rattle.wac_aggregator_errors.specs.Found.{HasNone}
 

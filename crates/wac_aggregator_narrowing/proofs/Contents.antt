@@ -13,8 +13,8 @@ use Rattle.wac_component.specs.Sound.{IsSound}
 use Rattle.wac_component.specs.Tree.{item_tree, externs}
 use Rattle.wac_component.specs.declared.items.ItemKind.{ItemKind}
 use Rattle.wac_component.proofs.Trees.{interface-externs, world-externs}
-use Rattle.wac_checker.specs.Externs.{AreServed}
-use Rattle.wac_checker.proofs.ExternLemmas.{interfaces_fit, worlds_fit}
+use Rattle.wac_checker_parts.specs.Externs.{AreServed}
+use Rattle.wac_checker_parts.proofs.ExternLemmas.{interfaces_fit, worlds_fit}
 
 -- what the entries of two interfaces, and of two worlds, say decides whether one
 -- fits where the other is asked for

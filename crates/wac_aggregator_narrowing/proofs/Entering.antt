@@ -20,7 +20,7 @@ use Rattle.wac_component.proofs.Keys.{Each-left, Each-right, Each-append}
 use Rattle.wac_component.proofs.Lists.{slice_get-last, slice_get-set_same}
 use Rattle.wac_component.proofs.Reading.{interface_at, world_at}
 use Rattle.wac_component.proofs.Among.{among_each, each_among}
-use Rattle.wac_checker.specs.Externs.{AreServed}
+use Rattle.wac_checker_parts.specs.Externs.{AreServed}
 use Rattle.wac_aggregator_narrowing.specs.Identified.{use_names, IsQuiet, IsCovered}
 use Rattle.wac_aggregator_narrowing.specs.Apart.{IsKeyApart, AreKeysApart}
 use Rattle.wac_aggregator_narrowing.specs.Narrows.{IsGoodStep, AddsShared, CanGrow, grown}

@@ -32,8 +32,8 @@ use Rattle.wac_component.proofs.Replacing.{Puts-replaced, IsSound-replaced, Repl
 use Rattle.wac_component.proofs.Walks.{next_stands}
 use Rattle.wac_component.proofs.Among.{among_each, each_among, each_found}
 use Rattle.wac_component.proofs.OpenWalks.{imports_stand, open_stands, opens_stand}
-use Rattle.wac_checker.specs.Externs.{AreServed}
-use Rattle.wac_checker.proofs.ExternLemmas.{named_lower}
+use Rattle.wac_checker_parts.specs.Externs.{AreServed}
+use Rattle.wac_checker_parts.proofs.ExternLemmas.{named_lower}
 use Rattle.wac_aggregator_narrowing.specs.Identified.{IsCovered}
 use Rattle.wac_aggregator_narrowing.specs.Apart.{IsKeyApart, AreKeysApart, IsIsolated, IsGood}
 use Rattle.wac_aggregator_narrowing.specs.Narrows.{Narrows, CanGrow, grown}

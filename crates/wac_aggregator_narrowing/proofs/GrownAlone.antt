@@ -28,7 +28,7 @@ use Rattle.wac_component.proofs.OpenWalks.{imports_stand, import_in_next, open_i
 use Rattle.wac_component.proofs.Replaced.{Puts}
 use Rattle.wac_component.proofs.Replacing.{Puts-replaced, IsSound-replaced, Replaces-replaced}
 use Rattle.wac_component.proofs.Walks.{next_stands}
-use Rattle.wac_checker.specs.Externs.{AreServed}
+use Rattle.wac_checker_parts.specs.Externs.{AreServed}
 use Rattle.wac_merge.specs.Items.{entry_item}
 use Rattle.wac_merge.proofs.ItemKeys.{each_entry_item}
 use Rattle.wac_aggregator_narrowing.specs.Alone.{LeavesOut, IsUnnamed, IsAlone, CanGrowAlone}

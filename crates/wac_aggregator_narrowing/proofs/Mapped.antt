@@ -18,7 +18,7 @@ use Rattle.wac_component.specs.Memo.{Remembered}
 use Rattle.wac_component.specs.Open.{open_next, stay, step}
 use Rattle.wac_component.proofs.Keys.{Each-left, Each-right, Each-append}
 use Rattle.wac_component.proofs.Among.{each_found}
-use Rattle.wac_checker.specs.Externs.{AreServed}
+use Rattle.wac_checker_parts.specs.Externs.{AreServed}
 use Rattle.wac_merge.specs.Items.{entry_item}
 use Rattle.wac_aggregator_narrowing.specs.Identified.{use_names, use_names_at, IsUnstopped, IsQuiet}
 use Rattle.wac_aggregator_narrowing.specs.Narrows.{Narrows}

@@ -12,7 +12,7 @@ use Rattle.wac_component.specs.Sound.{IsSound}
 use Rattle.wac_component.specs.Tree.{item_tree, items_of, root_name, value_tree, func_tree, module_tree, externs}
 use Rattle.wac_component.specs.declared.items.ValueType.TheVariants.{Defined}
 use Rattle.wac_component.proofs.Trees.{interface-externs, world-externs}
-use Rattle.wac_checker.specs.Externs.{AreServed}
+use Rattle.wac_checker_parts.specs.Externs.{AreServed}
 use Rattle.wac_merge.specs.Items.{entry_item}
 use Rattle.wac_aggregator_narrowing.specs.Standing.{StandsFor}
 use Rattle.wac_aggregator_narrowing.specs.Taking.{SameTree}

@@ -5,7 +5,7 @@ use Rattle.wac_component.specs.Entries.{identifier_at}
 use Rattle.wac_component.specs.Id.{Id}
 use Rattle.wac_component.specs.Key.{Key, interface_sort, Each, Stands, AllStand, next, interface_key, interface_keys}
 use Rattle.wac_component.specs.Reach.{IsAmong}
-use Rattle.wac_checker.specs.Externs.{AreServed}
+use Rattle.wac_checker_parts.specs.Externs.{AreServed}
 use Rattle.wac_aggregator_narrowing.specs.Identified.{IsCovered}
 use Rattle.wac_aggregator_narrowing.specs.Narrows.{grown}
 use Rattle.wac_aggregator_narrowing.specs.State.{State}

@@ -32,7 +32,7 @@ use Rattle.wac_component.specs.declared.items.ItemKind.{ItemKind}
 use Rattle.wac_component.proofs.Among.{each_found, Contains-first, Contains-cases}
 use Rattle.wac_component.proofs.Extended.{Extends-refl, Extends-trans, AllStand-Extends}
 use Rattle.wac_component.proofs.Keys.{Each-left, Each-right, Each-append}
-use Rattle.wac_checker.specs.Externs.{AreServed}
+use Rattle.wac_checker_parts.specs.Externs.{AreServed}
 use Rattle.wac_core_merge.specs.Names.{with_new}
 use Rattle.wac_core_merge.proofs.EntryLemmas.{All-found}
 use Rattle.wac_core_merge.proofs.NameLemmas.{lookup-append, with_new-shown}

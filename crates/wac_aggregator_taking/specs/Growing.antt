@@ -19,7 +19,7 @@ use Rattle.wac_component.specs.Key.{Key, Each, Stands, AllStand, item_keys, inte
 use Rattle.wac_component.specs.Replacing.{NamesReach}
 use Rattle.wac_component.specs.Tree.{item_tree}
 use Rattle.wac_component.specs.declared.items.ItemKind.{ItemKind}
-use Rattle.wac_checker.specs.Externs.{AreServed}
+use Rattle.wac_checker_parts.specs.Externs.{AreServed}
 use Rattle.wac_merge.specs.Items.{ExternKinds, extern_keys}
 use Rattle.wac_merge.specs.Built.{Builds, IsBuilt, uses_of_both}
 use Rattle.wac_merge.specs.Reads.{exports_at}

@@ -17,11 +17,11 @@ use Rattle.wac_component.specs.Items.{type_of}
 use Rattle.wac_component.proofs.Search.{there_is}
 use Rattle.wac_checker.specs.Believed.{IsPairAmong, IsFittingBy, item_by, type_by}
 use Rattle.wac_checker.specs.Cache.{AreInOrder, IsInOrder, OthersAreInOrder, Pair}
-use Rattle.wac_checker.specs.Pairs.{AreOfItems, DefinedTypes, Entries, EntriesFit, EntriesStand, IsStanding, entries_by, id_in, left_key, left_of, right_key, right_of}
-use Rattle.wac_checker.specs.declared.parts.EntryPair.{EntryPair}
-use Rattle.wac_checker.specs.declared.parts.PairSort.{PairSort}
-use Rattle.wac_checker.specs.declared.parts.PairSort.TheVariants as sort
-use Rattle.wac_checker.proofs.ItemPartLemmas.{of_funcs, of_interfaces, of_modules, of_values, of_worlds, types_of_funcs, types_of_interfaces, types_of_modules, types_of_worlds}
+use Rattle.wac_checker_parts.specs.Pairs.{AreOfItems, DefinedTypes, Entries, EntriesFit, EntriesStand, IsStanding, entries_by, id_in, left_key, left_of, right_key, right_of}
+use Rattle.wac_checker_parts.specs.declared.parts.EntryPair.{EntryPair}
+use Rattle.wac_checker_parts.specs.declared.parts.PairSort.{PairSort}
+use Rattle.wac_checker_parts.specs.declared.parts.PairSort.TheVariants as sort
+use Rattle.wac_checker_parts.proofs.ItemPartLemmas.{of_funcs, of_interfaces, of_modules, of_values, of_worlds, types_of_funcs, types_of_interfaces, types_of_modules, types_of_worlds}
 
 -- ---- which pairs are in the order
 

@@ -15,9 +15,9 @@ use Rattle.wac_component.specs.declared.items.ValueType.TheVariants.{Defined}
 use Rattle.wac_component.proofs.Lists.{slice_get-map}
 use Rattle.wac_mismatch.specs.Place.{item_side, value_side}
 use Rattle.wac_checker.specs.Compared.{KnowsTruly}
-use Rattle.wac_checker.specs.Pairs.{EntriesFit, EntriesStand, left_key, left_of, right_key, right_of, sort_side, Entries, DefinedTypes, Funcs, Interfaces, Worlds, Modules, IsFitting, IsStanding, entries_by, entries_of, id_in}
-use Rattle.wac_checker.specs.declared.parts.EntryPair.{EntryPair}
-use Rattle.wac_checker.specs.declared.parts.PairSort.{PairSort}
+use Rattle.wac_checker_parts.specs.Pairs.{EntriesFit, EntriesStand, left_key, left_of, right_key, right_of, sort_side, Entries, DefinedTypes, Funcs, Interfaces, Worlds, Modules, IsFitting, IsStanding, entries_by, entries_of, id_in}
+use Rattle.wac_checker_parts.specs.declared.parts.EntryPair.{EntryPair}
+use Rattle.wac_checker_parts.specs.declared.parts.PairSort.{PairSort}
 use Rattle.wac_checker.specs.declared.compared.Compared.{Compared}
 
 -- ---- items that are one have the parts in common

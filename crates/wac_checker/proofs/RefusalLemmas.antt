@@ -9,12 +9,12 @@ use Rattle.wac_mismatch.specs.declared.error.SubtypeError.TheVariants.{Mismatch,
 use Rattle.wac_mismatch.specs.declared.fault.Fault.{Fault}
 use Rattle.wac_mismatch.specs.declared.frame.Frame.{Frame}
 use Rattle.wac_mismatch.specs.Difference.{IsFaultOf}
-use Rattle.wac_checker.specs.Listing.{IsPairTurn}
-use Rattle.wac_checker.specs.Pairs.{EntriesPath, Entries, ExplainsEntries, ExplainsPair, IsPairFrame, check_of, entries_of, left_of, right_of, two_of}
+use Rattle.wac_checker_parts.specs.Listing.{IsPairTurn}
+use Rattle.wac_checker_parts.specs.Pairs.{EntriesPath, Entries, ExplainsEntries, ExplainsPair, IsPairFrame, check_of, entries_of, left_of, right_of, two_of}
 use Rattle.wac_mismatch.specs.declared.difference.Difference.{Difference}
-use Rattle.wac_checker.specs.declared.parts.EntryPair.{EntryPair}
-use Rattle.wac_checker.specs.declared.parts.PairPart.{PairPart}
-use Rattle.wac_checker.specs.declared.parts.Halt.TheVariants as halt
+use Rattle.wac_checker_parts.specs.declared.parts.EntryPair.{EntryPair}
+use Rattle.wac_checker_parts.specs.declared.parts.PairPart.{PairPart}
+use Rattle.wac_checker_parts.specs.declared.parts.Halt.TheVariants as halt
 
 module _ (check : SubtypeCheck) (l r : Collection) (e : Entries) where
   here_explained : (P : Fault → Type 0) (g : SubtypeError) → ((f : Fault) → P f → EntriesPath check l r e [] f) → IsHere P g → ExplainsEntries check l r e g

@@ -16,7 +16,7 @@ use Rattle.wac_checker.specs.Compared.{AreAnswered, IsAnswered, IsComparing, Kno
 use Rattle.wac_checker.specs.Believed.{IsPairAmong, IsFittingBy, MayBelieve}
 use Rattle.wac_checker.specs.Cache.{AreInOrder, Pair}
 use Rattle.wac_checker.specs.Known.{pairs_of}
-use Rattle.wac_checker.specs.Listing.{AllFit, AllFitBy, AreItemsNamed, ArePartsOf, IsPairTurn, IsPartOf}
+use Rattle.wac_checker_parts.specs.Listing.{AllFit, AllFitBy, AreItemsNamed, ArePartsOf, IsPairTurn, IsPartOf}
 use Rattle.std.specs.Prelude.{◌↔◌, IfOk, IsTrue, Result, Ok, Err}
 use Rattle.std.specs.declared.alloc.AllocError.{AllocError}
 use Rattle.std.proofs.lemmas.List.{same_from_push, reverse-reverse}
@@ -27,20 +27,20 @@ use Rattle.wac_mismatch.specs.Path.{Explains}
 use Rattle.wac_mismatch.specs.Place.{item_side}
 use Rattle.wac_mismatch.specs.declared.error.SubtypeError.{SubtypeError}
 use Rattle.wac_mismatch.specs.declared.error.SubtypeError.TheVariants.{Mismatch, Memory}
-use Rattle.wac_checker.proofs.ListingLemmas.{put_named}
-use Rattle.wac_checker.specs.Pairs.{AreOfItems, ArePairsOf, ExplainsPair, IsBelowPair, IsFitting, IsPairFrame, IsStanding, Two, entries_by, entries_of, flag_of, id_in, left_of, pair_height, placed_pair, right_of, two_of}
+use Rattle.wac_checker_parts.proofs.ListingLemmas.{put_named}
+use Rattle.wac_checker_parts.specs.Pairs.{AreOfItems, ArePairsOf, ExplainsPair, IsBelowPair, IsFitting, IsPairFrame, IsStanding, Two, entries_by, entries_of, flag_of, id_in, left_of, pair_height, placed_pair, right_of, two_of}
 use Rattle.wac_checker.specs.Walk.{AreListed, IsAtStep, IsBegun, IsOpen, IsPartOfPair, IsWalkPath, IsPathTo, LeadFrom, LeadsTo, PathFrom}
 use Rattle.wac_checker.specs.declared.compared.Compared.{Compared}
-use Rattle.wac_checker.specs.declared.parts.EntryPair.{EntryPair}
-use Rattle.wac_checker.specs.declared.parts.PairPart.{PairPart}
-use Rattle.wac_checker.specs.declared.parts.PairSort.{PairSort}
+use Rattle.wac_checker_parts.specs.declared.parts.EntryPair.{EntryPair}
+use Rattle.wac_checker_parts.specs.declared.parts.PairPart.{PairPart}
+use Rattle.wac_checker_parts.specs.declared.parts.PairSort.{PairSort}
 use Rattle.wac_mismatch.specs.declared.difference.Difference.{Difference}
-use Rattle.wac_checker.specs.declared.parts.Halt.TheVariants as halt
+use Rattle.wac_checker_parts.specs.declared.parts.Halt.TheVariants as halt
 use Rattle.wac_checker.specs.declared.walk.WalkStep.{WalkStep}
 use Rattle.wac_checker.specs.declared.walk.Walk.{Walk}
-use Rattle.wac_checker.proofs.CountLemmas.{last_or_before}
-use Rattle.wac_checker.proofs.KnownLemmas.{element_at, pairs_push}
-use Rattle.wac_checker.proofs.PairLemmas.{below_pair}
+use Rattle.wac_checker_parts.proofs.CountLemmas.{last_or_before}
+use Rattle.wac_checker_parts.proofs.KnownLemmas.{element_at, pairs_push}
+use Rattle.wac_checker_parts.proofs.PairLemmas.{below_pair}
 use Rattle.wac_checker.proofs.BelievedLemmas.{among_fits, left_has_keys, none_in_order, right_has_keys}
 
 -- ---- what is listed of a pair

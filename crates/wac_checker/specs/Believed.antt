@@ -9,11 +9,11 @@ use Rattle.wac_component.specs.declared.items.ItemKind.TheVariants.{«Type» as 
 use Rattle.wac_component.specs.declared.items.Type.TheVariants.{Func as TypeFunc, Interface as TypeInterface, World as TypeWorld, Module as TypeModule, Value as TypeValue}
 use Rattle.wac_component.specs.declared.items.ValueType.TheVariants.{Defined}
 use Rattle.wac_checker.specs.Cache.{AreInOrder, Pair}
-use Rattle.wac_checker.specs.Pairs.{IsFitting, id_in, left_of, right_of}
+use Rattle.wac_checker_parts.specs.Pairs.{IsFitting, id_in, left_of, right_of}
 use Rattle.wac_checker.specs.declared.cache.Believed.{Believed}
-use Rattle.wac_checker.specs.declared.parts.EntryPair.{EntryPair}
-use Rattle.wac_checker.specs.declared.parts.PairSort.{PairSort}
-use Rattle.wac_checker.specs.declared.parts.PairSort.TheVariants as sort
+use Rattle.wac_checker_parts.specs.declared.parts.EntryPair.{EntryPair}
+use Rattle.wac_checker_parts.specs.declared.parts.PairSort.{PairSort}
+use Rattle.wac_checker_parts.specs.declared.parts.PairSort.TheVariants as sort
 
 abbrev pub keys_if_any : {S : Type 0} → Option (HashSet Pair S) → List Pair
 keys_if_any None = []

@@ -6,17 +6,17 @@ use Rattle.wac_component.specs.Tree.{item_tree}
 use Rattle.wac_component.specs.declared.items.ItemKind.{ItemKind}
 use Rattle.wac_checker.specs.Believed.{IsFittingBy, MayBelieve}
 use Rattle.wac_checker.specs.Cache.{AreInOrder, Pair}
-use Rattle.wac_checker.specs.Listing.{AreItemsNamed}
-use Rattle.wac_checker.specs.Pairs.{AreOfItems, ArePairsOf, IsFitting, IsStanding, entries_of}
-use Rattle.wac_checker.specs.declared.parts.PairPart.{PairPart}
+use Rattle.wac_checker_parts.specs.Listing.{AreItemsNamed}
+use Rattle.wac_checker_parts.specs.Pairs.{AreOfItems, ArePairsOf, IsFitting, IsStanding, entries_of}
+use Rattle.wac_checker_parts.specs.declared.parts.PairPart.{PairPart}
 use Rattle.wac_checker.specs.Known.{pairs_of}
 use Rattle.wac_mismatch.specs.declared.check.SubtypeCheck.{SubtypeCheck}
 use Rattle.wac_mismatch.specs.declared.error.SubtypeError.{SubtypeError}
 use Rattle.wac_checker.specs.Verdict.{IsItemVerdict}
-use Rattle.wac_checker.specs.declared.sides.Sides.{Sides}
+use Rattle.wac_checker_parts.specs.declared.sides.Sides.{Sides}
 use Rattle.wac_checker.specs.Walk.{IsAtStep, IsOpen, IsPathTo, LeadFrom}
 use Rattle.wac_checker.specs.declared.compared.Compared.{Compared}
-use Rattle.wac_checker.specs.declared.parts.EntryPair.{EntryPair}
+use Rattle.wac_checker_parts.specs.declared.parts.EntryPair.{EntryPair}
 use Rattle.wac_checker.specs.declared.walk.WalkStep.{WalkStep}
 use Rattle.wac_checker.specs.declared.walk.Walk.{Walk}
 

@@ -1,12 +1,5 @@
-pub mod Content
-pub mod Parts
-pub mod Pairs
-pub mod Listing
-pub mod Items
-pub mod PartLists
 pub mod Known
 pub mod Verdict
-pub mod Externs
 pub mod Cache
 pub mod Believed
 pub mod Checker

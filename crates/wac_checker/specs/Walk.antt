@@ -1,16 +1,16 @@
 -- How far a comparison of pairs is.
 use Rattle.std.specs.Prelude.{◌≡◌, ◌+◌, ◌<◌, ◌≤◌, ℕ, List, [], ◌∷◌, Bool, true, false, Some, slice_get, length, take, Contains}
 use Rattle.wac_component.specs.Collection.{Collection}
-use Rattle.wac_checker.specs.Pairs.{IsFitting, IsStanding, IsBelowPair, PairHasPart, PairPath, two_of}
+use Rattle.wac_checker_parts.specs.Pairs.{IsFitting, IsStanding, IsBelowPair, PairHasPart, PairPath, two_of}
 use Rattle.wac_mismatch.specs.declared.check.SubtypeCheck.{SubtypeCheck}
 use Rattle.wac_mismatch.specs.declared.fault.Fault.{Fault}
 use Rattle.wac_mismatch.specs.declared.frame.Frame.{Frame}
 use Rattle.wac_checker.specs.Believed.{IsFittingBy}
 use Rattle.wac_checker.specs.Cache.{Pair}
-use Rattle.wac_checker.specs.Listing.{AllFit}
-use Rattle.wac_checker.specs.declared.parts.EntryPair.{EntryPair}
-use Rattle.wac_checker.specs.declared.parts.PairPart.{PairPart}
-use Rattle.wac_checker.specs.declared.sides.Sides.{Sides}
+use Rattle.wac_checker_parts.specs.Listing.{AllFit}
+use Rattle.wac_checker_parts.specs.declared.parts.EntryPair.{EntryPair}
+use Rattle.wac_checker_parts.specs.declared.parts.PairPart.{PairPart}
+use Rattle.wac_checker_parts.specs.declared.sides.Sides.{Sides}
 use Rattle.wac_checker.specs.declared.walk.WalkStep.{WalkStep}
 
 -- a part of a pair: it is lower, and fits if the pair does

@@ -8,16 +8,15 @@ ghost use Rattle.wac_component.specs.Tree.{item_tree};
 ghost use Rattle.wac_checker.specs.Believed.{told};
 ghost use Rattle.wac_checker.specs.Compared.{IsAnswered, IsGoingOn, IsComparing, KnowsTruly, KnowsBut};
 ghost use Rattle.wac_checker.specs.Known.{pairs_of};
-ghost use Rattle.wac_checker.specs.Pairs.{ArePairsOf, IsFitting, IsStanding};
+ghost use Rattle.wac_checker_parts.specs.Pairs.{ArePairsOf, IsFitting, IsStanding};
 ghost use Rattle.wac_checker.specs.Walk.{IsPathTo};
-ghost use Rattle.wac_checker.specs.declared.parts.EntryPair.{EntryPair};
+ghost use Rattle.wac_checker_parts.specs.declared.parts.EntryPair.{EntryPair};
 
 use super::cache::{Believed, Kinds, is_believed};
 use super::known::Known;
-use super::parts::PairPart;
-use super::sides::Sides;
 use super::walk::{Walk, WalkStep, has_more};
 use std::alloc::{AllocError, Global};
+use wac_checker_parts::{PairPart, Sides};
 use wac_component::{ItemKind, Types};
 
 /// The pairs of entries of two collections that were compared, and those of them that don't fit.

@@ -5,13 +5,13 @@ ghost use Rattle.wac_component.specs.Key.{Stands, module_key};
 ghost use Rattle.wac_mismatch.specs.Steps.{IsHere};
 ghost use Rattle.wac_mismatch.specs.declared.check.SubtypeCheck.{SubtypeCheck};
 ghost use Rattle.wac_mismatch.specs.Difference.{IsFaultOf};
-ghost use Rattle.wac_checker.specs.Pairs.{ExplainsEntries, ExplainsPair, IsStanding, Modules, check_of, id_in, two_of};
+ghost use Rattle.wac_checker_parts.specs.Pairs.{ExplainsEntries, ExplainsPair, IsStanding, Modules, check_of, id_in, two_of};
 ghost use Rattle.wac_checker.specs.Walk.{IsPathTo, LeadsFurther, PathFrom};
 
-use super::parts::{EntryPair, Halt, PairPart, PairParts, PairSort};
-use super::sides::{Sides, module_at};
+use super::frames::frame_to;
 use super::walk::Walk;
 use std::alloc::{AllocError, Global};
+use wac_checker_parts::{EntryPair, Halt, PairPart, PairParts, PairSort, Sides, module_at};
 use wac_core_checker::module_fits;
 use wac_mismatch::refusals::{here_with, turned_check, under};
 use wac_mismatch::{Difference, Frame, SubtypeCheck, SubtypeError};
@@ -62,7 +62,7 @@ fn pair_refused(
     match both.list_parts(pair, &mut parts) {
         Err(Halt::Apart(difference)) => Ok(refusal(check, both.alloc, difference)),
         Err(Halt::PartApart(index, turned, difference)) => {
-            let frame = both.frame_to(pair, index)?;
+            let frame = frame_to(both, pair, index)?;
             let error = refusal(placed_check(check, turned), both.alloc, difference);
             Ok(under(error, frame))
         }
@@ -84,7 +84,7 @@ fn frames_to(
     let mut part = part;
     let mut frames = Vec::new(sides.alloc);
     while let Some(step) = walk.open.pop() {
-        frames.push(sides.frame_to(&step.part.pair, part.index)?)?;
+        frames.push(frame_to(sides, &step.part.pair, part.index)?)?;
         part = step.part;
     }
     frames.reverse();

@@ -6,15 +6,15 @@ ghost use Rattle.wac_component.specs.Content.{named, names};
 ghost use Rattle.wac_component.specs.Key.{Stands, defined_key, func_key, interface_key, world_key};
 ghost use Rattle.wac_component.specs.Tree.{value_tree, func_tree, externs, IsResolved};
 ghost use Rattle.wac_mismatch.specs.Place.{value_side, item_side};
-ghost use Rattle.wac_checker.specs.Parts.{side_parts, listed, IsFrameAt, IsExportFrame};
-ghost use Rattle.wac_checker.specs.Pairs.{HasPart, IsFrameOf, IsPairFrame, IsStanding, PairHasPart, Worlds, two_of};
+ghost use Rattle.wac_checker_parts.specs.Parts.{side_parts, listed, IsFrameAt, IsExportFrame};
+ghost use Rattle.wac_checker_parts.specs.Pairs.{HasPart, IsFrameOf, IsPairFrame, IsStanding, PairHasPart, Worlds, two_of};
 ghost use Rattle.wac_component.specs.declared.items.ValueType.TheVariants.{Defined};
 
-use super::leaves::entry_at;
-use super::parts::{EntryPair, PairSort};
-use super::sides::{Sides, defined_at, func_at, interface_at, world_at};
 use indexmap::IndexMap;
 use std::alloc::AllocError;
+use wac_checker_parts::{
+    EntryPair, PairSort, Sides, defined_at, entry_at, func_at, interface_at, world_at,
+};
 use wac_component::{DefinedType, DefinedTypeId, FuncTypeId, InterfaceId, Types, WorldId};
 use wac_mismatch::Frame;
 
@@ -72,41 +72,43 @@ fn interface_frame(id: InterfaceId, types: &Types, index: usize) -> Result<Frame
     Ok(Frame::Export(name_of(&types[id].exports, index)?))
 }
 
-impl<'a> Sides<'a> {
-    // The frame to the imports of two worlds at a place of the left one, or to their exports at one
-    // of the right one.
-    fn world_frame(&self, a: WorldId, b: WorldId, index: usize) -> Result<Frame, AllocError>
-        requires left { Stands self.now.left.now (world_key a) }
-        requires right { Stands self.now.right.now (world_key b) }
-        requires within { HasPart self.now.left.now self.now.right.now (Worlds a b) index }
-        ensures { IfOk result (IsFrameOf self.now.left.now self.now.right.now (Worlds a b) index) }
-    {
-        let imports = &self.left[a].imports;
-        if index < imports.len() {
-            return Ok(Frame::Import(name_of(imports, index)?));
-        }
-        let index = index - imports.len();
-        Ok(Frame::Export(name_of(&self.right[b].exports, index)?))
+// The frame to the imports of two worlds at a place of the left one, or to their exports at one
+// of the right one.
+fn world_frame(sides: &Sides<'_>, a: WorldId, b: WorldId, index: usize) -> Result<Frame, AllocError>
+    requires left { Stands sides.now.left.now (world_key a) }
+    requires right { Stands sides.now.right.now (world_key b) }
+    requires within { HasPart sides.now.left.now sides.now.right.now (Worlds a b) index }
+    ensures { IfOk result (IsFrameOf sides.now.left.now sides.now.right.now (Worlds a b) index) }
+{
+    let imports = &sides.left[a].imports;
+    if index < imports.len() {
+        return Ok(Frame::Import(name_of(imports, index)?));
     }
+    let index = index - imports.len();
+    Ok(Frame::Export(name_of(&sides.right[b].exports, index)?))
+}
 
-    /// The frame to the parts of a pair at a place.
-    pub(crate) fn frame_to(&self, pair: &EntryPair, index: usize) -> Result<Frame, AllocError>
-        requires stands { IsStanding self.now.left.now self.now.right.now pair.now }
-        requires straight { self.now.swapped ≡ false }
-        requires within { PairHasPart self.now.left.now self.now.right.now (two_of self.now.left.now self.now.right.now pair.now) index }
-        ensures { IfOk result (IsPairFrame self.now.left.now self.now.right.now (two_of self.now.left.now self.now.right.now pair.now) index) }
-    {
-        let sides = self.of(pair.swapped);
-        let (left, right) = (sides.left, sides.right);
-        match pair.sort {
-            PairSort::Defined => defined_frame(defined_at(left, pair.left), left, index),
-            PairSort::Func => func_frame(func_at(left, pair.left), left, index),
-            PairSort::Interface => interface_frame(interface_at(right, pair.right), right, index),
-            PairSort::World => {
-                let a = world_at(left, pair.left);
-                sides.world_frame(a, world_at(right, pair.right), index)
-            }
-            PairSort::Module => unreachable!(),
+/// The frame to the parts of a pair at a place.
+pub(crate) fn frame_to(
+    sides: &Sides<'_>,
+    pair: &EntryPair,
+    index: usize,
+) -> Result<Frame, AllocError>
+    requires stands { IsStanding sides.now.left.now sides.now.right.now pair.now }
+    requires straight { sides.now.swapped ≡ false }
+    requires within { PairHasPart sides.now.left.now sides.now.right.now (two_of sides.now.left.now sides.now.right.now pair.now) index }
+    ensures { IfOk result (IsPairFrame sides.now.left.now sides.now.right.now (two_of sides.now.left.now sides.now.right.now pair.now) index) }
+{
+    let sides = sides.of(pair.swapped);
+    let (left, right) = (sides.left, sides.right);
+    match pair.sort {
+        PairSort::Defined => defined_frame(defined_at(left, pair.left), left, index),
+        PairSort::Func => func_frame(func_at(left, pair.left), left, index),
+        PairSort::Interface => interface_frame(interface_at(right, pair.right), right, index),
+        PairSort::World => {
+            let a = world_at(left, pair.left);
+            world_frame(&sides, a, world_at(right, pair.right), index)
         }
+        PairSort::Module => unreachable!(),
     }
 }

@@ -2,9 +2,9 @@
 
 ghost use Rattle.std.specs.Prelude.{◌≡◌, ◌<◌, ◌≤◌, ◌++◌, ◌∷◌, [], Contains, IsTrue, ◌↔◌, true, false, Ok, length, take};
 
-use super::parts::EntryPair;
 use indexmap::IndexSet;
 use std::alloc::{AllocError, Global};
+use wac_checker_parts::EntryPair;
 
 // So many pairs are looked through one after another, and more are hashed: most comparisons open
 // few.

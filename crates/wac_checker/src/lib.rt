@@ -4,15 +4,10 @@
 pub(crate) mod cache;
 pub mod checker;
 pub mod compared;
-pub(crate) mod composites;
 pub(crate) mod faults;
 pub(crate) mod frames;
 pub(crate) mod known;
 pub mod laws;
-pub(crate) mod leaves;
-pub(crate) mod parts;
-pub(crate) mod sides;
-pub(crate) mod values;
 pub(crate) mod walk;
 
 pub use checker::SubtypeChecker;

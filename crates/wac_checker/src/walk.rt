@@ -2,12 +2,11 @@
 
 ghost use Rattle.std.specs.Prelude.{◌≡◌, ◌≤◌, [], false, length, IfOk, List, OnOk};
 ghost use Rattle.wac_checker.specs.Cache.{Pair};
-ghost use Rattle.wac_checker.specs.Pairs.{IsStanding};
+ghost use Rattle.wac_checker_parts.specs.Pairs.{IsStanding};
 ghost use Rattle.wac_checker.specs.Walk.{AreListed, IsBegun};
 
-use super::parts::{EntryPair, Halt, PairPart, PairParts};
-use super::sides::Sides;
 use std::alloc::{AllocError, Global};
+use wac_checker_parts::{EntryPair, Halt, PairPart, PairParts, Sides};
 
 /// A pair whose parts are being compared: those of the list from `first` on. Those before `next`
 /// fit, but for the last of these where another pair is at hand, which is below it.

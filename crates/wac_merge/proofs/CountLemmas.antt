@@ -8,7 +8,7 @@ use Rattle.wac_component.specs.Collection.{Collection}
 use Rattle.wac_component.specs.Key.{Stands}
 use Rattle.wac_component.specs.Sound.{entry_count}
 use Rattle.wac_component.proofs.Among.{Contains-first, Contains-later}
-use Rattle.wac_checker.proofs.CountLemmas.{without, ids, length-ids, id_among, contains_map, paired, length-paired, paired_among, within}
+use Rattle.wac_checker_parts.proofs.CountLemmas.{without, ids, length-ids, id_among, contains_map, paired, length-paired, paired_among, within}
 use Rattle.wac_merge.specs.Built.{Origins}
 use Rattle.wac_merge.specs.Memo.{asked_for, Made, AreMadeOnce, first_key, second_key}
 use Rattle.wac_merge.specs.Runs.{AreMadeOn}

@@ -18,7 +18,7 @@ use Rattle.wac_component.specs.declared.items.ItemKind.{ItemKind}
 use Rattle.wac_component.proofs.Keys.{Each-left, Each-right, Each-append}
 use Rattle.wac_core_merge.specs.Names.{is_new, with_new}
 use Rattle.wac_core_merge.proofs.NameLemmas.{lookup-with_new, All-with_new}
-use Rattle.wac_checker.proofs.ExternLemmas.{item_at-items_of, named_stands}
+use Rattle.wac_checker_parts.proofs.ExternLemmas.{item_at-items_of, named_stands}
 use Rattle.wac_merge.specs.Items.{ExternKinds, extern_keys, AreUnhidden}
 use Rattle.wac_merge.specs.Bounded.{IsMetWith, IsMetAt, IsFirstMetAt, IsJoinedAt, AreFirstMet, AreMet, AreJoined, Clash}
 use Rattle.wac_merge.specs.Built.{Origins, IsBuiltAt, of_second, AreBuilt}

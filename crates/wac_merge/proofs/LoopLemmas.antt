@@ -18,7 +18,7 @@ use Rattle.wac_component.specs.Height.{height, keys_height}
 use Rattle.wac_component.specs.Key.{Key, Stands, AllStand, item_keys, optional_keys}
 use Rattle.wac_component.specs.declared.items.ItemKind.{ItemKind}
 use Rattle.wac_component.proofs.Keys.{Each-left, Each-right, Each-append, largest-same}
-use Rattle.wac_checker.proofs.ExternLemmas.{named_stands}
+use Rattle.wac_checker_parts.proofs.ExternLemmas.{named_stands}
 use Rattle.wac_core_merge.proofs.NameLemmas.{lookup-append}
 use Rattle.wac_core_merge.specs.NameOrder.{HasSomeNames}
 use Rattle.wac_merge.specs.Bounded.{IsMetWith, IsJoinedWith, IsFirstMetAt, IsJoinedAt, AreJoined}

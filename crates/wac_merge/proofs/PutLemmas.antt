@@ -11,7 +11,7 @@ use Rattle.indexmap.specs.IndexMap.{insert_entry}
 use Rattle.wac_model.specs.Text.{Text, lookup}
 use Rattle.wac_component.specs.Content.{named}
 use Rattle.wac_component.specs.declared.items.ItemKind.{ItemKind}
-use Rattle.wac_checker.proofs.Lookups.{get_named}
+use Rattle.wac_checker_parts.proofs.Lookups.{get_named}
 use Rattle.wac_core_merge.proofs.NameLemmas.{lookup-append, lookup-by_test, absent_before}
 use Rattle.wac_merge.specs.Items.{ExternKinds}
 

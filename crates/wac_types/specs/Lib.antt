@@ -59,7 +59,7 @@ pub use Rattle.wac_mismatch.specs.FaultText
 pub use Rattle.wac_mismatch.specs.Laws as MismatchLaws
 pub use Rattle.wac_checker.specs.Cache
 pub use Rattle.wac_checker.specs.Checker
-pub use Rattle.wac_checker.specs.Externs
+pub use Rattle.wac_checker_parts.specs.Externs
 -- meets and joins
 pub use Rattle.wac_merge.specs.Built
 pub use Rattle.wac_merge.specs.Bounded

@@ -7,7 +7,7 @@ use Rattle.indexmap.specs.IndexMap.{insert_entry}
 use Rattle.wac_component.specs.Content.{named}
 use Rattle.wac_component.specs.Key.{interface_key, item_keys}
 use Rattle.wac_component.proofs.Extended.{AllStand-Extends}
-use Rattle.wac_checker.proofs.ExternLemmas.{named_stands}
+use Rattle.wac_checker_parts.proofs.ExternLemmas.{named_stands}
 use Rattle.wac_merge.specs.Items.{ExternKinds, extern_list}
 use Rattle.wac_merge.specs.Reads.{exports_at}
 use Rattle.wac_merge.proofs.LoopLemmas.{name_has, name_not_done, done_more}

@@ -5,7 +5,7 @@ use Rattle.wac_model.specs.Text.{lookup}
 use Rattle.std.proofs.lemmas.Map.Iter.{iter_end}
 use Rattle.wac_component.specs.Content.{named}
 use Rattle.wac_component.proofs.Extended.{Extends-trans}
-use Rattle.wac_checker.proofs.ExternLemmas.{named_stands}
+use Rattle.wac_checker_parts.proofs.ExternLemmas.{named_stands}
 use Rattle.wac_merge.specs.Items.{extern_list}
 use Rattle.wac_aggregator_errors.specs.Clashes.{AreApart}
 use Rattle.wac_aggregator_errors.specs.Found.{HasNone, AreItemsApart}

@@ -6,7 +6,7 @@ use Rattle.wac_component.specs.Content.{named}
 use Rattle.wac_component.specs.Key.{AllStand, item_keys}
 use Rattle.wac_component.specs.Memo.{memo_of}
 use Rattle.wac_component.specs.Renamed.{renamed_item, with_values}
-use Rattle.wac_checker.proofs.ExternLemmas.{named_stands}
+use Rattle.wac_checker_parts.proofs.ExternLemmas.{named_stands}
 use Rattle.wac_merge.specs.Items.{ExternKinds, extern_list}
 use Rattle.wac_merge.proofs.LoopLemmas.{name_has, name_not_done, done_more}
 use Rattle.wac_aggregator_taking.specs.Growing.{AreMetWith}

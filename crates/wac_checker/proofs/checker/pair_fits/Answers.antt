@@ -1,8 +1,8 @@
 use Rattle.std.proofs.Common.{[], false, refl, ap, length}
 use Rattle.std.specs.Prelude.{List}
 use Rattle.wac_checker.specs.Known.{pairs_of}
-use Rattle.wac_checker.specs.declared.parts.PairPart.{PairPart}
-use Rattle.wac_checker.proofs.CountLemmas.{pairs_bounded}
+use Rattle.wac_checker_parts.specs.declared.parts.PairPart.{PairPart}
+use Rattle.wac_checker_parts.proofs.CountLemmas.{pairs_bounded}
 use Rattle.wac_checker.proofs.WalkLemmas.{asked_answer, named_none, named_pair, named_stands, named_told}
 use Rattle.wac_checker.proofs.checker.pair_fits.Goals as goal
 

@@ -1,4 +1,4 @@
-use Rattle.wac_checker.proofs.PartLemmas.{case_count, field_count, case_frame_at}
+use Rattle.wac_checker_parts.proofs.PartLemmas.{case_count, field_count, case_frame_at}
 use Rattle.wac_checker.proofs.frames.defined_frame.Goals as goal
 
 pub name_of-requires : goal.name_of-requires

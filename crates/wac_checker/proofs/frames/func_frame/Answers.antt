@@ -1,6 +1,6 @@
 use Rattle.std.proofs.Common.{arith}
 use Rattle.wac_component.specs.Tree.{func_tree}
-use Rattle.wac_checker.proofs.FuncPartLemmas.{param_frame_at}
+use Rattle.wac_checker_parts.proofs.FuncPartLemmas.{param_frame_at}
 use Rattle.wac_checker.proofs.frames.func_frame.Goals as goal
 
 pub returns-then-index-len : goal.returns-then-index-len

@@ -1,7 +1,7 @@
 use Rattle.std.proofs.Common.{ap, refl, string_bytes}
 use Rattle.wac_component.specs.Key.{interface_key}
 use Rattle.wac_component.specs.Tree.{Externs, externs, item_tree}
-use Rattle.wac_checker.proofs.ExternPartLemmas.{extern_within, extern_here}
+use Rattle.wac_checker_parts.proofs.ExternPartLemmas.{extern_within, extern_here}
 use Rattle.wac_checker.proofs.frames.interface_frame.Goals as goal
 
 pub name_of-requires : goal.name_of-requires

@@ -1,10 +1,10 @@
 use Rattle.std.proofs.Common.{◌≡◌, ◌<◌, inl, inr, false, get_or, length, Some, slice_get, refl, sym, ap, ◌∙◌, subst, arith}
 use Rattle.std.specs.Prelude.{Contains}
 use Rattle.std.proofs.lemmas.Option.{slice_get-get_or, slice_get_within}
-use Rattle.wac_checker.specs.declared.parts.EntryPair.{EntryPair}
-use Rattle.wac_checker.proofs.CountLemmas.{last_or_before}
-use Rattle.wac_checker.proofs.KnownLemmas.{element_at, other_pair, pair_exact, place_of_pair}
-use Rattle.wac_checker.specs.declared.parts.PairSort.TheVariants as sort
+use Rattle.wac_checker_parts.specs.declared.parts.EntryPair.{EntryPair}
+use Rattle.wac_checker_parts.proofs.CountLemmas.{last_or_before}
+use Rattle.wac_checker_parts.proofs.KnownLemmas.{element_at, other_pair, pair_exact, place_of_pair}
+use Rattle.wac_checker_parts.specs.declared.parts.PairSort.TheVariants as sort
 use Rattle.wac_checker.proofs.known.is_among.Goals as goal
 
 abbrev none : EntryPair

@@ -1,6 +1,6 @@
 use Rattle.std.proofs.Common.{◌≡◌, true, sym, ◌∙◌}
 use Rattle.std.proofs.lemmas.Map.Views.{Contains-from_any}
-use Rattle.wac_checker.proofs.KnownLemmas.{pair_exact, pair_found}
+use Rattle.wac_checker_parts.proofs.KnownLemmas.{pair_exact, pair_found}
 use Rattle.wac_checker.proofs.known.is_known.Goals as goal
 
 pub returns-then-not-is_empty : goal.returns-then-not-is_empty

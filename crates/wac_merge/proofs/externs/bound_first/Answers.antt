@@ -2,7 +2,7 @@ use Rattle.std.proofs.Common.{◌∙◌, ◌++◌, sym, subst, map, Some, None, 
 use Rattle.std.specs.Map.Iter.{deref_pair}
 use Rattle.wac_component.specs.Content.{named}
 use Rattle.wac_component.specs.Key.{AllStand, item_keys, optional_keys}
-use Rattle.wac_checker.proofs.ExternLemmas.{named_stands}
+use Rattle.wac_checker_parts.proofs.ExternLemmas.{named_stands}
 use Rattle.wac_merge.specs.Bounded.{IsJoinedWith, AreJoined}
 use Rattle.wac_merge.specs.Built.{IsBuiltWith}
 use Rattle.wac_merge.specs.Items.{extern_list}

@@ -1,5 +1,5 @@
 use Rattle.std.proofs.Common.{◌∙◌, string_bytes}
-use Rattle.wac_checker.proofs.Lookups.{get_named}
+use Rattle.wac_checker_parts.proofs.Lookups.{get_named}
 use Rattle.wac_merge.proofs.names.extern_named.Goals as goal
 
 pub returns : goal.returns

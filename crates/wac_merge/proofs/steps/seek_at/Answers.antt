@@ -2,8 +2,8 @@ use Rattle.std.proofs.Common.{◌≡◌, ◌∙◌, sym, subst, Some, string_byt
 use Rattle.std.specs.Str.{bytes_eq}
 use Rattle.wac_model.specs.Text.{lookup}
 use Rattle.wac_component.specs.Key.{AllStand, item_keys, optional_keys}
-use Rattle.wac_checker.proofs.ExternLemmas.{named_stands}
-use Rattle.wac_checker.proofs.Lookups.{get_named}
+use Rattle.wac_checker_parts.proofs.ExternLemmas.{named_stands}
+use Rattle.wac_checker_parts.proofs.Lookups.{get_named}
 use Rattle.wac_merge.specs.Items.{extern_list}
 use Rattle.wac_merge.proofs.ExternLemmas.{found_stands}
 use Rattle.wac_merge.proofs.LoopLemmas.{lacks_under}

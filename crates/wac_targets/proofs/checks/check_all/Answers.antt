@@ -1,6 +1,6 @@
 use Rattle.std.proofs.Common.{◌∙◌, sym, subst, arith}
 use Rattle.std.proofs.lemmas.List.{length-map}
-use Rattle.wac_checker.proofs.Lookups.{take_all}
+use Rattle.wac_checker_parts.proofs.Lookups.{take_all}
 use Rattle.wac_component.specs.Content.{named}
 use Rattle.wac_component.specs.Key.{AllStand, item_keys, named_keys}
 use Rattle.wac_targets.specs.Given.{items_in}

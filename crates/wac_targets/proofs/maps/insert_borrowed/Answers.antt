@@ -2,7 +2,7 @@ use Rattle.std.proofs.Common.{take, subst, arith}
 use Rattle.std.proofs.lemmas.List.{length-map}
 use Rattle.std.specs.Str.{bytes_eq}
 use Rattle.indexmap.specs.IndexMap.{insert_all}
-use Rattle.wac_checker.proofs.Lookups.{take_all}
+use Rattle.wac_checker_parts.proofs.Lookups.{take_all}
 use Rattle.wac_targets.specs.Named.{IsMapOf, borrowed}
 use Rattle.wac_targets.proofs.Distinct.{insert_all-more}
 use Rattle.wac_targets.proofs.maps.insert_borrowed.Goals as goal

@@ -1,5 +1,5 @@
 use Rattle.std.proofs.Common.{◌≡◌, Ok, true, false, refl, ap, sym, ◌∙◌}
-use Rattle.wac_checker.proofs.KnownLemmas.{yes_not_err, yes_not_no}
+use Rattle.wac_checker_parts.proofs.KnownLemmas.{yes_not_err, yes_not_no}
 use Rattle.wac_checker.proofs.WalkLemmas.{known_answer, pairs_first, unfit_answer, way_first}
 use Rattle.wac_checker.specs.Believed.{told}
 use Rattle.wac_checker.proofs.compared.Compared.compare.Goals as goal

@@ -1,5 +1,5 @@
 use Rattle.std.proofs.Common.{false, refl, ap}
-use Rattle.wac_checker.specs.PartLists.{PartLists}
+use Rattle.wac_checker_parts.specs.PartLists.{PartLists}
 use Rattle.wac_checker.proofs.WalkLemmas.{answer_named, named_pair}
 use Rattle.wac_checker.proofs.compared.Compared.fits.Goals as goal
 

@@ -1,7 +1,7 @@
 use Rattle.std.proofs.Common.{◌≡◌, ◌++◌, ◌∷◌, [], Vec, Global, Ok, true, false, refl, ap, sym, ◌∙◌}
 use Rattle.wac_checker.specs.declared.walk.WalkStep.{WalkStep}
 use Rattle.wac_checker.specs.declared.walk.Walk.{Walk}
-use Rattle.wac_checker.proofs.KnownLemmas.{yes_not_err, yes_not_no}
+use Rattle.wac_checker_parts.proofs.KnownLemmas.{yes_not_err, yes_not_no}
 use Rattle.wac_checker.proofs.WalkLemmas.{moved, pairs_opened, part_stands, way_below, way_known, way_over, way_told, way_unfit}
 use Rattle.wac_checker.specs.Believed.{told}
 use Rattle.wac_checker.proofs.BelievedLemmas.{among_fits}

@@ -3,10 +3,10 @@ use Rattle.std.specs.Prelude.{Contains}
 use Rattle.std.proofs.lemmas.Option.{slice_get-get_or, slice_get_within}
 use Rattle.wac_checker.specs.Known.{pairs_of}
 use Rattle.wac_checker.specs.declared.walk.WalkStep.{WalkStep}
-use Rattle.wac_checker.proofs.CountLemmas.{last_or_before}
-use Rattle.wac_checker.proofs.KnownLemmas.{element_at}
+use Rattle.wac_checker_parts.proofs.CountLemmas.{last_or_before}
+use Rattle.wac_checker_parts.proofs.KnownLemmas.{element_at}
 use Rattle.wac_checker.proofs.WalkLemmas.{add_cases, add_keeps, add_there, all_noted}
-use Rattle.wac_checker.specs.declared.parts.PairSort.TheVariants as sort
+use Rattle.wac_checker_parts.specs.declared.parts.PairSort.TheVariants as sort
 use Rattle.wac_checker.proofs.compared.Compared.note.Goals as goal
 
 abbrev none : WalkStep

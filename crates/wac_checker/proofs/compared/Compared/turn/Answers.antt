@@ -1,5 +1,5 @@
 use Rattle.std.proofs.Common.{List, length, refl, ap, sym, ◌∙◌, arith}
-use Rattle.wac_checker.specs.declared.parts.PairPart.{PairPart}
+use Rattle.wac_checker_parts.specs.declared.parts.PairPart.{PairPart}
 use Rattle.wac_checker.specs.declared.walk.Walk.{Walk}
 use Rattle.wac_checker.proofs.WalkLemmas.{none_popped, way_back, way_differs, way_end}
 use Rattle.wac_checker.specs.Believed.{told}

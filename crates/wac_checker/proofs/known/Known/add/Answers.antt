@@ -1,8 +1,8 @@
 use Rattle.std.proofs.Common.{◌≡◌, Contains, take, Bool, true, false, not, refl, sym, ◌∙◌}
 use Rattle.std.specs.List.{list_any}
 use Rattle.std.proofs.lemmas.List.Elements.{Contains-append_right}
-use Rattle.wac_checker.specs.contracts.parts.EntryPairPartialEq.TheImpl.{ghosts}
-use Rattle.wac_checker.proofs.KnownLemmas.{set_has, set_new}
+use Rattle.wac_checker_parts.specs.contracts.parts.EntryPairPartialEq.TheImpl.{ghosts}
+use Rattle.wac_checker_parts.proofs.KnownLemmas.{set_has, set_new}
 use Rattle.wac_checker.proofs.known.Known.add.Goals as goal
 
 not_false : (b : Bool) → not b ≡ false → b ≡ true

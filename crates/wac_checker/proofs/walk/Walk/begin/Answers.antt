@@ -1,7 +1,7 @@
 use Rattle.std.proofs.Common.{◌≡◌, length, ap, arith}
 use Rattle.std.proofs.Common.{List}
 use Rattle.wac_checker.proofs.WalkLemmas.{begun}
-use Rattle.wac_checker.specs.declared.parts.PairPart.{PairPart}
+use Rattle.wac_checker_parts.specs.declared.parts.PairPart.{PairPart}
 use Rattle.wac_checker.proofs.walk.Walk.begin.Goals as goal
 
 pub returns-clause-begun : goal.returns-clause-begun
