@@ -9,7 +9,7 @@ use Rattle.wac_component.specs.Entries.{identifier_at}
 use Rattle.wac_component.specs.Height.{keys_height}
 use Rattle.wac_component.specs.Id.{Id}
 use Rattle.wac_component.specs.Key.{Key, Stands, AllStand, item_keys, interface_key}
-use Rattle.wac_component.specs.Memo.{Remembered}
+use Rattle.wac_aggregator_memo.specs.Memo.{Remembered}
 use Rattle.wac_component.specs.Reach.{IsAmong}
 use Rattle.wac_component.specs.Sound.{IsSound}
 use Rattle.wac_component.specs.Tree.{item_tree}

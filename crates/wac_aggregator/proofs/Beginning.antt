@@ -16,7 +16,7 @@ use Rattle.wac_aggregator_narrowing.specs.Laws.{IsNewState}
 use Rattle.wac_aggregator_narrowing.specs.State.{IsStateKept}
 use Rattle.wac_aggregator_reasons.proofs.Starting.{new_held}
 use Rattle.wac_aggregator_promises.specs.Holding.{HoldsReached}
-use Rattle.wac_component.specs.Memo.{memo_of}
+use Rattle.wac_aggregator_memo.specs.Memo.{memo_of}
 use Rattle.wac_aggregator_imports.specs.Import.{ImportsContent, import_at, AreFiled}
 use Rattle.wac_aggregator_taking.specs.Takes.{shared_keys, shared_in, state_of, AreFiledIn}
 use Rattle.wac_aggregator_taking.specs.declared.state.Merging.{Merging}

@@ -33,7 +33,7 @@ use Rattle.wac_aggregator.specs.Content.{shown, content_of}
 use Rattle.wac_aggregator.proofs.Advancing.{placing, taken_kept, identifier_stays, truly_now, fits_item, leads_below}
 use Rattle.wac_aggregator_taking.proofs.Identifiers.{is_interface, has_identifier}
 use Rattle.wac_aggregator.proofs.Imported.{still_imported, owner_imported, owners_after}
-use Rattle.wac_aggregator.proofs.Leading.{PlacedAs, placed_here, placed_other, puts_here, leads-new, found-of}
+use Rattle.wac_aggregator.proofs.Leading.{PlacedAs, placed_other, puts_here, leads-new, found-of}
 use Rattle.wac_aggregator.proofs.Newer.{higher_track, not_higher-self, not_higher-old, not_higher-newer}
 
 -- ---- more calls
@@ -93,9 +93,6 @@ module _ (calls front : List Call) (call : Call) (a b : Merging) (among : Contai
 
   placed : PlacedAs a.imports taken.imports b.imports call.name h.import
   placed = placing call a b may filed_a filed_b h
-
-  here_now : import_of b.imports c ≡ Some (placed.as_name, h.import)
-  here_now = placed_here a.imports taken.imports b.imports call.name h.import placed h.takes.stays
 
   -- a handed-in name at the front has an import
   had_import : (n : Text) → IsHandedInName front n → (i : ImportContent) × (import_of a.imports (class_of n) ≡ Some i)

@@ -20,7 +20,7 @@ use Rattle.wac_aggregator_promises.proofs.WitReasons.{fits_case}
 use Rattle.wac_aggregator_imports.specs.Import.{ImportContent, ImportsContent, import_of}
 use Rattle.wac_aggregator_errors.specs.declared.error.AggregateError.{AggregateError}
 use Rattle.wac_aggregator_errors.specs.declared.error.AggregateError.TheVariants.{Memory}
-use Rattle.wac_aggregator_errors.specs.Differ.{UsesDiffer}
+use Rattle.wac_aggregator_uses.specs.Differ.{UsesDiffer}
 use Rattle.wac_aggregator_errors.specs.Said.{said}
 use Rattle.wac_aggregator_taking.specs.Refused.{HasReason, MayRefuse, IsMergeRefusal, SaysMismatch}
 use Rattle.wac_aggregator_taking.specs.Takes.{state_of, IsOwnersImport, MayTake, Takes}

@@ -26,7 +26,7 @@ use Rattle.wac_aggregator_promises.proofs.ByUses.{member_by_uses, wit_members}
 use Rattle.wac_aggregator_promises.proofs.Members.{apart, due_tree, named_member, named_member_on}
 use Rattle.wac_aggregator_promises.proofs.MoreMembers.{members_of_more, wit_imports_are_meets}
 use Rattle.wac_aggregator_promises.proofs.TakenIn.{sharing_goes_on}
-use Rattle.wac_component.specs.Memo.{memo_of}
+use Rattle.wac_aggregator_memo.specs.Memo.{memo_of}
 use Rattle.wac_aggregator_imports.specs.Import.{ImportContent, ImportsContent, import_of, AreFiled}
 use Rattle.wac_aggregator_taking.specs.Members.{AreMore}
 use Rattle.wac_aggregator_taking.specs.Takes.{shared_in, shared_keys}

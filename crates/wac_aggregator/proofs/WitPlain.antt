@@ -24,7 +24,7 @@ use Rattle.wac_aggregator_promises.proofs.Among.{among_front, wit_list_fewer}
 use Rattle.wac_aggregator_promises.proofs.Members.{named_not_plain}
 use Rattle.wac_aggregator_promises.proofs.MoreMembers.{members_of_more}
 use Rattle.wac_aggregator_promises.proofs.Sets.{meet_moves, meet_of_more, meet_of_one}
-use Rattle.wac_component.specs.Memo.{memo_of}
+use Rattle.wac_aggregator_memo.specs.Memo.{memo_of}
 use Rattle.wac_aggregator_imports.specs.Import.{ImportContent, import_of, import_at, AreFiled}
 use Rattle.wac_aggregator_taking.specs.Members.{TakesMembers}
 use Rattle.wac_aggregator_taking.specs.Takes.{shared_in, shared_keys, state_of, MayTake, OnlyGrows}

@@ -4,11 +4,11 @@ use Rattle.std.specs.Option.{option_map}
 use Rattle.wac_component.specs.Collection.{Collection}
 use Rattle.wac_component.specs.Id.{Id}
 use Rattle.wac_component.specs.Key.{Key, Sort, defined_sort, resource_sort, func_sort, interface_sort, world_sort, module_sort, defined_key, resource_key, func_key, interface_key, world_key, module_key}
-use Rattle.wac_component.specs.Memo.{Remembered, own_of}
+use Rattle.wac_aggregator_memo.specs.Memo.{Remembered, own_of}
 use Rattle.wac_names.specs.Class.{Class}
 use Rattle.wac_aggregator_promises.specs.Aggregated.{Aggregated}
 use Rattle.wac_aggregator_narrowing.specs.State.{State}
-use Rattle.wac_component.specs.declared.memo.Memo.{Memo}
+use Rattle.wac_aggregator_memo.specs.declared.memo.Memo.{Memo}
 use Rattle.wac_aggregator_imports.specs.Import.{ImportsContent, canonical, import_at}
 use Rattle.wac_aggregator_imports.specs.Left.{listed_imports}
 use Rattle.wac_aggregator_taking.specs.Takes.{shared_keys}

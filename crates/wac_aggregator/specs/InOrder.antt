@@ -1,7 +1,7 @@
 -- What is kept of the state of merging.
 use Rattle.std.specs.Prelude.{◌≡◌, ℕ, [], None}
 use Rattle.wac_component.specs.Key.{Key}
-use Rattle.wac_component.specs.Memo.{memo_of}
+use Rattle.wac_aggregator_memo.specs.Memo.{memo_of}
 use Rattle.wac_aggregator_imports.specs.Import.{AreFiled}
 use Rattle.wac_aggregator_narrowing.specs.State.{IsStateKept}
 use Rattle.wac_aggregator_reasons.specs.Sharing.{AreHeld}

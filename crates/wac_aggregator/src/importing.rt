@@ -24,8 +24,9 @@ use super::all::Call;
 use super::cases::{as_interface, same_case};
 use super::noting::note_import;
 use indexmap::IndexMap;
+use std::alloc::AllocError;
 use wac_aggregator_errors::AggregateError;
-use wac_aggregator_taking::{Merging, take_item};
+use wac_aggregator_taking::{HandedIn, Merging, take_item};
 use wac_component::{InterfaceId, ItemKind, Types};
 use wac_names::NameClass;
 
@@ -42,31 +43,39 @@ pub(crate) fn advance(
     ensures advances { MatchResult result (λ u. Advances (called call.now) state.old state.new) (IsRefusedCall (called call.now) state.old) }
     ensures members { (i : Id) → MayHandIn (called call.now) state.old i → AnswersMembers result call.now.types.now state.old state.new (ReachesByUses call.now.types.now i) }
 {
-    note_handed_in(state, &call.kind);
-    import(state, alone, call)
+    let class = NameClass::of(state.alloc(), call.name)?;
+    note_handed_in(state, call, &class)?;
+    import(state, alone, class, call)
 }
 
-// Notes the interface that is handed in, for what is told of a mismatch.
-fn note_handed_in(state: &mut Merging, kind: &ItemKind)
+// Notes the interface that is handed in, for what is told of a mismatch, and the class of the name
+// that it is handed in under.
+fn note_handed_in(state: &mut Merging, call: &Call<'_>, class: &NameClass) -> Result<(), AllocError>
+    requires of { class.now ≡ class_of call.now.name.now }
     ensures { state.new ≡ record state.old { handed_in = state.new.handed_in } }
 {
-    state.handed_in = as_interface(kind);
+    state.handed_in = match as_interface(&call.kind) {
+        Some(interface) => Some(HandedIn::new(state.alloc(), interface, call.name, class)?),
+        None => None,
+    };
+    Ok(())
 }
 
 // Imports an item under a name: into the import on the name's track, if there is one.
 fn import(
     state: &mut Merging,
     alone: &mut IndexMap<NameClass, InterfaceId>,
+    class: NameClass,
     call: &Call<'_>,
 ) -> Result<(), AggregateError>
     requires source { AllStand call.now.types.now (item_keys call.now.kind) }
     requires state { MayTake call.now.types.now state.old }
+    requires of { class ≡ class_of call.now.name.now }
     requires alone { AreAlone state.old alone.old.entries }
     ensures alone { IfOk result (λ u. AreAlone state.new alone.new.entries) }
     ensures advances { MatchResult result (λ u. Advances (called call.now) state.old state.new) (IsRefusedCall (called call.now) state.old) }
     ensures members { (i : Id) → MayHandIn (called call.now) state.old i → AnswersMembers result call.now.types.now state.old state.new (ReachesByUses call.now.types.now i) }
 {
-    let class = NameClass::of(state.alloc(), call.name)?;
     match state.imports.kind_of(&class) {
         Some(existing) => merge_import(state, alone, class, existing, call),
         None => add_import(state, class, call),
@@ -103,7 +112,7 @@ fn put_import(
     if state.imports.kind_of(&class).is_some() {
         return Err(AggregateError::Taken { name });
     }
-    state.imports.put(class, name, own)?;
+    state.imports.put_last(class, name, own)?;
     Ok(())
 }
 

@@ -16,8 +16,9 @@ use super::alone::{as_smaller, grow_import};
 use super::cases::is_one_instance;
 use indexmap::IndexMap;
 use std::alloc::AllocError;
-use wac_aggregator_errors::{AggregateError, check_uses_of, mismatch};
+use wac_aggregator_errors::{AggregateError, mismatch};
 use wac_aggregator_taking::{Merging, meet_own};
+use wac_aggregator_uses::check_uses_of;
 use wac_component::{InterfaceId, ItemKind};
 use wac_names::NameClass;
 

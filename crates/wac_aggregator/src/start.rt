@@ -1,14 +1,15 @@
 //! The state of merging before the first call.
 
 ghost use Rattle.std.specs.Prelude.{◌≡◌};
-ghost use Rattle.wac_component.specs.Memo.{memo_of};
+ghost use Rattle.wac_aggregator_memo.specs.Memo.{memo_of};
 ghost use Rattle.wac_aggregator.specs.InOrder.{IsStart};
 
 use indexmap::IndexMap;
 use std::alloc::{AllocError, Global};
 use wac_aggregator_imports::ImportList;
+use wac_aggregator_memo::Memo;
 use wac_aggregator_taking::Merging;
-use wac_component::{InterfaceId, Memo, Types};
+use wac_component::{InterfaceId, Types};
 use wac_mismatch::SubtypeCheck;
 use wac_names::NameClass;
 

@@ -1,21 +1,21 @@
 -- One copying after another.
 use Rattle.std.proofs.Common.{◌≡◌, ◌≤◌, ◌⊎◌, ◌++◌, true, List, [], ◌∷◌, Option, Some, None, is_some, inl, inr, refl, ap, sym, subst, ◌∙◌, arith}
 use Rattle.wac_component.specs.Collection.{Collection}
-use Rattle.wac_component.specs.EntryOrder.{HasOwn, HasOwnOr, IsNeeded, root, onward, ArePartsFirst}
+use Rattle.wac_aggregator_memo.specs.EntryOrder.{HasOwn, HasOwnOr, IsNeeded, root, onward, ArePartsFirst}
 use Rattle.wac_component.specs.Growth.{Extends, with_entry}
 use Rattle.wac_component.specs.Height.{height, keys_height}
 use Rattle.wac_component.specs.Key.{Key, Entry, Each, Stands, AllStand, entry_keys, optional_keys, next, import_keys}
-use Rattle.wac_component.specs.Memo.{AddsPair, memo_of}
+use Rattle.wac_aggregator_memo.specs.Memo.{AddsPair, memo_of}
 use Rattle.wac_component.specs.Reach.{IsAmong, here, Reaches, stay, step}
 use Rattle.wac_component.specs.Sound.{IsSound}
-use Rattle.wac_component.specs.declared.memo.Memo.{Memo}
+use Rattle.wac_aggregator_memo.specs.declared.memo.Memo.{Memo}
 use Rattle.wac_component.proofs.Adding.{Extends-with_entry}
 use Rattle.wac_component.proofs.Among.{among_each, each_among, among_left, among_right}
 use Rattle.wac_component.proofs.Extended.{Extends-refl, Extends-trans}
 use Rattle.wac_component.proofs.ImportKeys.{imports-apart}
 use Rattle.wac_component.proofs.Keys.{Each-append, Each-map, largest-append}
 use Rattle.wac_component.proofs.Last.{IsLast}
-use Rattle.wac_component.proofs.Ordering.{needed_low}
+use Rattle.wac_aggregator_memo.proofs.Ordering.{needed_low}
 use Rattle.wac_component.proofs.Returns.{Reaches-trans}
 use Rattle.wac_names.specs.Class.{class_of}
 use Rattle.wac_aggregator_narrowing.specs.Alone.{IsAlone}

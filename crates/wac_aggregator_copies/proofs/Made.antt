@@ -4,13 +4,13 @@ use Rattle.std.specs.Option.{option_map}
 use Rattle.wac_model.specs.CoreTree.{ModuleTree}
 use Rattle.wac_component.specs.Id.{Id}
 use Rattle.wac_component.specs.Collection.{Collection, DefinedContent, ResourceContent, FuncContent, InterfaceContent, WorldContent}
-use Rattle.wac_component.specs.EntryOrder.{HasOwn}
+use Rattle.wac_aggregator_memo.specs.EntryOrder.{HasOwn}
 use Rattle.wac_component.specs.Growth.{with_entry}
 use Rattle.wac_component.specs.Key.{Key, Entry, Each, Stands, AllStand, defined_entry, resource_entry, func_entry, interface_entry, world_entry, module_entry, entry_at, entry_keys, other_keys, optional_keys, next, named_keys, use_keys, item_keys, defined_keys, resource_keys, func_keys, interface_keys, world_keys, defined_key, resource_key, func_key, interface_key, world_key, module_key}
-use Rattle.wac_component.specs.Memo.{AddsPair, memo_of}
-use Rattle.wac_component.specs.Renamed.{renamed_defined, renamed_resource, renamed_func, renamed_interface, renamed_world}
+use Rattle.wac_aggregator_memo.specs.Memo.{AddsPair, memo_of}
+use Rattle.wac_aggregator_memo.specs.Renamed.{renamed_defined, renamed_resource, renamed_func, renamed_interface, renamed_world}
 use Rattle.wac_component.specs.Sound.{IsSound}
-use Rattle.wac_component.specs.declared.memo.Memo.{Memo}
+use Rattle.wac_aggregator_memo.specs.declared.memo.Memo.{Memo}
 use Rattle.wac_component.proofs.Keys.{Each-left, Each-right}
 use Rattle.wac_component.proofs.Lists.{slice_get-map}
 use Rattle.wac_component.proofs.Reading.{defined_at, resource_at, func_at, interface_at, world_at}

@@ -5,18 +5,18 @@ use Rattle.std.specs.Option.{option_map, option_map_or}
 use Rattle.wac_model.specs.Text.{Text}
 use Rattle.wac_model.specs.ItemTree.{item, type_item}
 use Rattle.wac_component.specs.Collection.{Collection, DefinedContent, alias_of, composed, AliasContent, FuncContent, UseContent}
-use Rattle.wac_component.specs.EntryOrder.{HasOwn}
+use Rattle.wac_aggregator_memo.specs.EntryOrder.{HasOwn}
 use Rattle.wac_component.specs.Id.{Id}
 use Rattle.wac_component.specs.Key.{Key, Each, Stands, AllStand, value_keys, type_keys, item_keys, optional_keys, named_keys, use_keys, alias_keys, defined_keys, func_keys, defined_key, resource_key, func_key, interface_key, world_key, module_key}
-use Rattle.wac_component.specs.Memo.{memo_of}
-use Rattle.wac_component.specs.Renamed.{renamed_id, renamed_value, renamed_type, renamed_item, renamed_alias, renamed_use, renamed_defined, renamed_func, with_values}
+use Rattle.wac_aggregator_memo.specs.Memo.{memo_of}
+use Rattle.wac_aggregator_memo.specs.Renamed.{renamed_id, renamed_value, renamed_type, renamed_item, renamed_alias, renamed_use, renamed_defined, renamed_func, with_values}
 use Rattle.wac_component.specs.declared.items.ItemKind.{ItemKind}
 use Rattle.wac_component.specs.declared.items.ItemKind.TheVariants.{«Type» as OfType, Func, Instance, Component, Module, Value}
 use Rattle.wac_component.specs.declared.items.Type.{«Type» as TypeOf}
 use Rattle.wac_component.specs.declared.items.Type.TheVariants.{Resource as TypeResource, Func as TypeFunc, Value as TypeValue, Interface as TypeInterface, World as TypeWorld, Module as TypeModule}
 use Rattle.wac_component.specs.declared.items.ValueType.{ValueType}
 use Rattle.wac_component.specs.declared.items.ValueType.TheVariants.{Primitive, Borrow, Own, Defined}
-use Rattle.wac_component.specs.declared.memo.Memo.{Memo}
+use Rattle.wac_aggregator_memo.specs.declared.memo.Memo.{Memo}
 use Rattle.wac_component.proofs.Keys.{Each-left, Each-right}
 use Rattle.wac_aggregator_narrowing.specs.State.{State}
 use Rattle.wac_aggregator_narrowing.specs.Taking.{AreMapped, IsCopiedItem, IsCopiedKey, no_keys}

@@ -1,14 +1,14 @@
 -- What copying does to the state of merging.
 use Rattle.std.specs.Prelude.{◌≡◌, ◌<◌, ◌⊎◌, List, Some, None}
 use Rattle.wac_component.specs.Collection.{Collection, AliasContent, UseContent}
-use Rattle.wac_component.specs.EntryOrder.{HasOwn, ArePartsFirst}
+use Rattle.wac_aggregator_memo.specs.EntryOrder.{HasOwn, ArePartsFirst}
 use Rattle.wac_component.specs.Growth.{Extends}
 use Rattle.wac_component.specs.Height.{height, keys_height}
 use Rattle.wac_component.specs.Key.{Key, Each, Stands, next, alias_keys, interface_key}
-use Rattle.wac_component.specs.Memo.{Remembered, memo_of}
+use Rattle.wac_aggregator_memo.specs.Memo.{Remembered, memo_of}
 use Rattle.wac_component.specs.Reach.{IsAmong, Reaches}
 use Rattle.wac_component.specs.Tree.{root_name}
-use Rattle.wac_component.specs.declared.memo.Memo.{Memo}
+use Rattle.wac_aggregator_memo.specs.declared.memo.Memo.{Memo}
 use Rattle.wac_merge.specs.Items.{ExternKinds}
 use Rattle.wac_names.specs.Class.{class_of}
 use Rattle.wac_aggregator_narrowing.specs.Alone.{IsAlone}

@@ -2,9 +2,9 @@
 
 ghost use Rattle.std.specs.Prelude.{◌≡◌, [], ◌∷◌, None, map, OnOk, IfOk};
 ghost use Rattle.wac_component.specs.Content.{named};
-ghost use Rattle.wac_component.specs.EntryOrder.{HasOwn};
+ghost use Rattle.wac_aggregator_memo.specs.EntryOrder.{HasOwn};
 ghost use Rattle.wac_component.specs.Key.{Each, Stands, AllStand, next, item_keys, named_keys, defined_key, resource_key, func_key, interface_key, world_key, module_key};
-ghost use Rattle.wac_component.specs.Memo.{memo_of};
+ghost use Rattle.wac_aggregator_memo.specs.Memo.{memo_of};
 ghost use Rattle.wac_component.specs.Naming.{key_of};
 ghost use Rattle.wac_merge.specs.Items.{extern_keys, extern_list};
 ghost use Rattle.wac_aggregator_narrowing.specs.Taking.{IsCopiedItem};
@@ -12,11 +12,11 @@ ghost use Rattle.wac_aggregator_copies.specs.Copies.{MayCopy, Copies, AreItemsCo
 
 use indexmap::{IndexMap, IndexSet};
 use std::alloc::AllocError;
-use wac_component::order::parts_first;
+use wac_aggregator_memo::{Memo, parts_first};
 use wac_component::valid::add_valid_module_type;
 use wac_component::{
-    DefinedTypeId, EntryId, FuncTypeId, InterfaceId, ItemKind, Memo, ModuleTypeId, ResourceId,
-    Types, WorldId, id_at, item_ids, items_ids,
+    DefinedTypeId, EntryId, FuncTypeId, InterfaceId, ItemKind, ModuleTypeId, ResourceId, Types,
+    WorldId, id_at, item_ids, items_ids,
 };
 
 /// Copies an item.

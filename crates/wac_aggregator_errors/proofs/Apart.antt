@@ -1,26 +1,19 @@
 -- Two items of which one fits where the other is asked for have a common lower bound.
 use Rattle.std.proofs.Common.{◌≡◌, ◌↔◌, sym, subst, Bool, true, false, not, is_some, refl, Option, Some, None, [], ◌∷◌, IsTrue}
 use Rattle.std.specs.Option.{option_map}
-use Rattle.wac_model.specs.CoreTree.{CoreTree, CoreFits, is_valid_extern}
 use Rattle.wac_model.specs.ItemTree.{ItemTree}
 use Rattle.wac_model.specs.Order.{Fits}
-use Rattle.wac_model.proofs.CoreOrder.{CoreFits-refl}
 use Rattle.wac_bounds.specs.Bounds.{IsMeetIfAny}
 use Rattle.wac_bounds.proofs.Bounds.{meet_of_ordered}
-use Rattle.wac_bounds.proofs.CoreMeet.{valid_above}
 use Rattle.wac_component.specs.Collection.{Collection}
 use Rattle.wac_component.specs.Growth.{Extends}
 use Rattle.wac_component.specs.Key.{AllStand, item_keys}
 use Rattle.wac_component.specs.Tree.{item_tree}
 use Rattle.wac_component.specs.declared.items.ItemKind.{ItemKind}
-use Rattle.wac_aggregator_errors.specs.Clashes.{AreApart, AreCoresApart}
+use Rattle.wac_aggregator_errors.specs.Clashes.{AreApart}
 
 pub unfit : (a b : ItemTree) → AreApart a b → ¬ (Fits a b)
 unfit a b apart fits = apart a (meet_of_ordered a b fits).is_below
-
--- a valid one fits where itself is asked for
-pub cores_unfit : (a b : CoreTree) → IsTrue (is_valid_extern a) → AreCoresApart a b → ¬ (CoreFits a b)
-cores_unfit a b valid apart fits = apart a (valid, valid, CoreFits-refl a) (valid, valid_above a b fits valid, fits)
 
 -- what a meet answers tells whether they are apart
 pub apart_or_met : {V : Type 0} (tree : V → ItemTree) (o : Option V) (r : Bool) → is_some o ≡ not r → (a b : ItemTree) → IsMeetIfAny (option_map tree o) (a ∷ b ∷ []) → IsTrue r ↔ AreApart a b

@@ -1,8 +1,5 @@
-pub mod UseLists
 pub mod Passing
 pub mod Saying
-pub mod UseLemmas
-pub mod Users
 pub mod Apart
 pub mod Cores
 pub mod Reading

@@ -47,10 +47,6 @@ pub record AreFiled (is : ImportsContent) : Type 0 where
 abbrev pub PutsImport : ImportsContent → ImportsContent → Class → ImportContent → Type 0
 PutsImport before now c i = (q : Class) → import_of now q ≡ update class_eq (import_of before) c (Some i) q
 
--- each class has the import that it had
-abbrev pub KeepsImports : ImportsContent → ImportsContent → Type 0
-KeepsImports before now = (q : Class) → import_of now q ≡ import_of before q
-
 -- the name leads to the class now, and each other name where it led
 abbrev pub PutsName : ImportsContent → ImportsContent → Text → Class → Type 0
 PutsName before now n c = (x : Text) → led_of now x ≡ update bytes_eq (led_of before) n (Some c) x

@@ -125,6 +125,26 @@ impl ImportList {
         Ok(())
     }
 
+    /// Puts an import of a class that has none last.
+    pub fn put_last(
+        &mut self,
+        class: NameClass,
+        name: String,
+        kind: ItemKind,
+    ) -> Result<(), AllocError>
+        requires of { class ≡ class_of (string_bytes name) }
+        requires new { import_of self.old class ≡ None }
+        ensures import { OnOk result (PutsImport self.old self.new class (string_bytes name, kind)) }
+        ensures order { OnOk result (self.new.list ≡ self.old.list ++ (class, (string_bytes name, kind)) ∷ []) }
+        ensures led { self.new.led ≡ self.old.led }
+    {
+        let last = self.places.len();
+        self.places.push(None)?;
+        self.by_class.insert(class, last)?;
+        self.places[last] = Some(Import { name, kind });
+        Ok(())
+    }
+
     /// Notes what the import of a name's class was merged to, for an item that was handed in under
     /// the name. Where that has a higher version it becomes the import's name, which goes last;
     /// else it leads to the import.
@@ -204,21 +224,6 @@ impl ImportList {
         ensures led { OnOk result (PutsName self.old self.new (string_bytes name) class) }
     {
         self.led.insert(name, class)?;
-        Ok(())
-    }
-
-    // Puts an import of a class that has none last.
-    fn put_last(&mut self, class: NameClass, name: String, kind: ItemKind) -> Result<(), AllocError>
-        requires of { class ≡ class_of (string_bytes name) }
-        requires new { import_of self.old class ≡ None }
-        ensures import { OnOk result (PutsImport self.old self.new class (string_bytes name, kind)) }
-        ensures order { OnOk result (self.new.list ≡ self.old.list ++ (class, (string_bytes name, kind)) ∷ []) }
-        ensures led { self.new.led ≡ self.old.led }
-    {
-        let last = self.places.len();
-        self.places.push(None)?;
-        self.by_class.insert(class, last)?;
-        self.places[last] = Some(Import { name, kind });
         Ok(())
     }
 }

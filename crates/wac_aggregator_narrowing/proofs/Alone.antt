@@ -1,13 +1,13 @@
 -- What is alone stays so.
-use Rattle.std.proofs.Common.{◌≡◌, ◌⊎◌, List, Some, None, inl, inr, refl, ap, sym, subst, ◌∙◌}
+use Rattle.std.proofs.Common.{◌≡◌, List, Some, None, inl, inr, refl, ap, sym, subst, ◌∙◌}
 use Rattle.std.specs.Option.{option_map_or}
 use Rattle.wac_model.specs.Text.{Text}
 use Rattle.wac_component.specs.Collection.{Collection, InterfaceContent}
 use Rattle.wac_component.specs.Entries.{entry_identifier, identifier_at}
 use Rattle.wac_component.specs.Growth.{Extends, with_entry}
 use Rattle.wac_component.specs.Id.{Id}
-use Rattle.wac_component.specs.Key.{Key, Entry, interface_entry, Each, Stands, AllStand, entry_keys, optional_keys, next, item_keys, interface_key, interface_keys}
-use Rattle.wac_component.specs.Memo.{AddsPair, Remembered}
+use Rattle.wac_component.specs.Key.{Key, Entry, interface_entry, Stands, AllStand, entry_keys, optional_keys, next, item_keys, interface_key, interface_keys}
+use Rattle.wac_aggregator_memo.specs.Memo.{AddsPair, Remembered}
 use Rattle.wac_component.specs.Reach.{IsAmong, Reaches, stay, step}
 use Rattle.wac_component.specs.Replacing.{NamesReach}
 use Rattle.wac_component.specs.Sound.{IsSound}

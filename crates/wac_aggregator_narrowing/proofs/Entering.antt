@@ -13,7 +13,7 @@ use Rattle.wac_component.specs.Tree.{item_tree, items_of}
 use Rattle.wac_component.specs.declared.items.ItemKind.{ItemKind}
 use Rattle.wac_component.specs.Open.{open_next, step}
 use Rattle.wac_component.specs.Entries.{entry_identifier, identifier_at}
-use Rattle.wac_component.specs.Memo.{AddsPair, Remembered}
+use Rattle.wac_aggregator_memo.specs.Memo.{AddsPair, Remembered}
 use Rattle.wac_component.proofs.Adding.{IsSound-with_entry, Extends-with_entry}
 use Rattle.wac_component.proofs.ImportKeys.{imports-apart}
 use Rattle.wac_component.proofs.Keys.{Each-left, Each-right, Each-append}

@@ -1,5 +1,5 @@
 -- What is alone grows: all else is as it was, and the imports fit where they did.
-use Rattle.std.proofs.Common.{◌≡◌, ◌≢◌, ◌<◌, ◌⊎◌, inl, inr, ℕ, List, [], Some, None, slice_get, slice_set, refl, ap, sym, subst, ◌∙◌, arith}
+use Rattle.std.proofs.Common.{◌≡◌, ◌≢◌, ◌<◌, ◌⊎◌, inl, inr, ℕ, List, [], Some, None, slice_get, refl, ap, sym, subst, ◌∙◌, arith}
 use Rattle.std.proofs.lemmas.List.{length-map}
 use Rattle.std.specs.Option.{option_map_or}
 use Rattle.std.specs.Str.{bytes_eq}
@@ -9,7 +9,7 @@ use Rattle.wac_model.specs.Order.{Fits}
 use Rattle.wac_component.specs.Collection.{Collection, InterfaceContent}
 use Rattle.wac_component.specs.Entries.{entry_identifier, identifier_at}
 use Rattle.wac_component.specs.Id.{Id}
-use Rattle.wac_component.specs.Key.{Key, Sort, interface_sort, interface_entry, entry_at, entry_keys, import_keys, other_keys, optional_keys, next, value_keys, item_keys, named_keys, use_keys, interface_key, interface_keys, Each, Stands, AllStand}
+use Rattle.wac_component.specs.Key.{Key, interface_entry, entry_at, entry_keys, import_keys, other_keys, optional_keys, next, value_keys, item_keys, named_keys, use_keys, interface_key, interface_keys, Each, Stands, AllStand}
 use Rattle.wac_component.specs.Open.{import_next, open_next, OpenReaches}
 use Rattle.wac_component.specs.Open as walk
 use Rattle.wac_component.specs.Reach.{IsAmong, Reaches, stay, step}
@@ -28,16 +28,14 @@ use Rattle.wac_component.proofs.OpenWalks.{imports_stand, import_in_next, open_i
 use Rattle.wac_component.proofs.Replaced.{Puts}
 use Rattle.wac_component.proofs.Replacing.{Puts-replaced, IsSound-replaced, Replaces-replaced}
 use Rattle.wac_component.proofs.Walks.{next_stands}
-use Rattle.wac_checker_parts.specs.Externs.{AreServed}
 use Rattle.wac_merge.specs.Items.{entry_item}
 use Rattle.wac_merge.proofs.ItemKeys.{each_entry_item}
 use Rattle.wac_aggregator_narrowing.specs.Alone.{LeavesOut, IsUnnamed, IsAlone, CanGrowAlone}
 use Rattle.wac_aggregator_narrowing.specs.Apart.{IsKeyApart, AreKeysApart, IsGood}
 use Rattle.wac_aggregator_narrowing.specs.Identified.{use_names, use_names_at, StopsAt, stop, goes_on, IsUnstopped, IsCovered}
-use Rattle.wac_aggregator_narrowing.specs.Imports.{ImportsFit}
 use Rattle.wac_aggregator_narrowing.specs.Narrows.{grown}
 use Rattle.wac_aggregator_narrowing.specs.Remembers.{IsRememberedAs, RemembersTruly}
-use Rattle.wac_aggregator_narrowing.specs.Standing.{StandsFor, KeepsNames, IsCopy}
+use Rattle.wac_aggregator_narrowing.specs.Standing.{StandsFor, IsCopy}
 use Rattle.wac_aggregator_narrowing.specs.State.{State, IsStateKept}
 use Rattle.wac_aggregator_narrowing.proofs.Adding.{fits_if_same}
 use Rattle.wac_aggregator_narrowing.proofs.Alone.{not_among, unnamed_reached}
@@ -297,9 +295,6 @@ module _ (s : State) (kept : IsStateKept s) (e : Id) (old new : InterfaceContent
     copies = λ theirs own is number. alone_copy g theirs own (copied_another theirs own is) (h.copies theirs own is number);
     closed = h.closed;
   }
-
-  pub alone_imports : ImportsFit c s.imports d s.imports
-  alone_imports n x is = record { import = x; is = is; fits = alone_fits x (kept.imports n x is) }
 
   -- ---- it is alone still, and so are others
 

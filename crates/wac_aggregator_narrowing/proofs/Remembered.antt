@@ -12,7 +12,7 @@ use Rattle.wac_component.specs.Sound.{IsSound}
 use Rattle.wac_component.specs.Tree.{item_tree}
 use Rattle.wac_component.specs.Open.{open_next, OpenReaches, stay, step}
 use Rattle.wac_component.specs.Entries.{entry_identifier, identifier_at}
-use Rattle.wac_component.specs.Memo.{AddsPair, Remembered}
+use Rattle.wac_aggregator_memo.specs.Memo.{AddsPair, Remembered}
 use Rattle.wac_component.proofs.OpenWalks.{open_stands, opens_stand}
 use Rattle.wac_merge.specs.Items.{entry_item}
 use Rattle.wac_merge.proofs.ItemKeys.{each_entry_item}

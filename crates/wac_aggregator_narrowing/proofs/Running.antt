@@ -5,7 +5,7 @@ use Rattle.wac_model.specs.Text.{Text}
 use Rattle.wac_model.proofs.ItemOrder.{Fits-refl, Fits-trans}
 use Rattle.wac_component.specs.Collection.{Collection}
 use Rattle.wac_component.specs.Key.{Key, item_keys, Each, Stands, AllStand}
-use Rattle.wac_component.specs.Memo.{AddsPair, Remembered}
+use Rattle.wac_aggregator_memo.specs.Memo.{AddsPair, Remembered}
 use Rattle.wac_component.specs.Reach.{stay}
 use Rattle.wac_component.specs.Tree.{item_tree}
 use Rattle.wac_component.specs.declared.items.ItemKind.{ItemKind}
@@ -18,7 +18,7 @@ use Rattle.wac_aggregator_narrowing.specs.Imports.{NamedImports, ImportsStand, I
 use Rattle.wac_aggregator_narrowing.specs.Narrows.{Narrows, KeepsStops, IsGoodStep}
 use Rattle.wac_aggregator_narrowing.specs.Standing.{StandsFor, IsCopy}
 use Rattle.wac_aggregator_narrowing.specs.State.{State, IsStateKept, IsStateTrueOf, IsOneWith, RunsTaking}
-use Rattle.wac_aggregator_narrowing.proofs.Adding.{Narrows-refl, Narrows-trans, Narrows-all_stand, fits_if_same}
+use Rattle.wac_aggregator_narrowing.proofs.Adding.{Narrows-refl, Narrows-trans, Narrows-all_stand}
 use Rattle.wac_aggregator_narrowing.proofs.Stopping.{KeepsStops-refl, KeepsStops-trans}
 
 -- a pair stays true
@@ -43,15 +43,6 @@ IsCopy-step f c d ss ts theirs own n k h = record {
     uses = ap (λ o. option_map_or use_names o []) (n.entries own h.own_stands (λ m. h.apart own m stay)) ∙ h.names.uses;
     stops = λ t m w. h.names.stops t m (k.stops own t m h.own_stands w);
   };
-}
-
--- a copy stands for what it is one of
-pub IsCopy-StandsFor : (f c : Collection) (ss : List Key) (theirs own : Key) → IsCopy f c ss theirs own → StandsFor f c theirs own
-IsCopy-StandsFor f c ss theirs own h = record {
-  sort = h.sort;
-  theirs_stands = h.theirs_stands;
-  own_stands = h.own_stands;
-  fits = λ k. fits_if_same (item_tree c (entry_item k own)) (item_tree f (entry_item k theirs)) (h.same k);
 }
 
 pub ImportsStand-Narrows : (c d : Collection) (ss ts : List Key) (is : NamedImports) → Narrows c ss d ts → ImportsStand c is → ImportsStand d is

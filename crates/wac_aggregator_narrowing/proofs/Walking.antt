@@ -5,17 +5,14 @@ use Rattle.wac_component.specs.Key.{Key, next, Stands}
 use Rattle.wac_component.specs.Open.{import_next, open_next, OpenReaches}
 use Rattle.wac_component.specs.Open as walk
 use Rattle.wac_component.specs.Reach.{IsAmong, Reaches, stay, step}
-use Rattle.wac_component.proofs.Among.{among_each, each_among}
+use Rattle.wac_component.proofs.Among.{among_each}
 use Rattle.wac_component.proofs.OpenWalks.{import_or_open}
 use Rattle.wac_component.proofs.Walks.{next_stands}
-use Rattle.wac_aggregator_narrowing.specs.Apart.{IsKeyApart, AreKeysApart, IsGood}
+use Rattle.wac_aggregator_narrowing.specs.Apart.{IsKeyApart, IsGood}
 
 -- parts of what is apart are apart
 pub apart_next : (c : Collection) (ss : List Key) (k j : Key) → IsKeyApart c ss k → IsAmong j (next c k) → IsKeyApart c ss j
 apart_next c ss k j h m s ms w = h s ms (step m w)
-
-pub all_apart_next : (c : Collection) (ss : List Key) (k : Key) → IsKeyApart c ss k → AreKeysApart c ss (next c k)
-all_apart_next c ss k h = each_among (IsKeyApart c ss) (next c k) (λ j m. apart_next c ss k j h m)
 
 -- a walk to a shared entry is an open one
 pub reaches_openly : (c : Collection) (ss : List Key) → IsGood c ss → (k t : Key) → Stands c k → IsAmong t ss → Reaches c k t → OpenReaches c k t

@@ -7,7 +7,7 @@ use Rattle.wac_component.specs.Growth.{with_entry}
 use Rattle.wac_component.specs.Key.{Key, Entry, entry_keys, other_keys, import_keys, interface_key, world_key, use_keys, named_keys, Stands, AllStand}
 use Rattle.wac_component.specs.Sound.{IsSound}
 use Rattle.wac_component.specs.Entries.{entry_identifier, identifier_at}
-use Rattle.wac_component.specs.Memo.{AddsPair}
+use Rattle.wac_aggregator_memo.specs.Memo.{AddsPair}
 use Rattle.wac_component.specs.Open.{open_next}
 use Rattle.wac_aggregator_narrowing.specs.Apart.{AreKeysApart}
 use Rattle.wac_aggregator_narrowing.specs.Identified.{used_names, use_names, use_names_at, IsQuiet}

@@ -16,7 +16,7 @@ use Rattle.wac_component.specs.declared.items.ValueType.{ValueType}
 use Rattle.wac_component.specs.declared.items.ValueType.TheVariants.{Defined}
 use Rattle.wac_component.specs.Open.{open_next, OpenReaches}
 use Rattle.wac_component.specs.Entries.{entry_identifier, identifier_at}
-use Rattle.wac_component.specs.Memo.{AddsPair, Remembered}
+use Rattle.wac_aggregator_memo.specs.Memo.{AddsPair, Remembered}
 use Rattle.wac_checker_parts.specs.Externs.{AreServed}
 use Rattle.wac_merge.specs.Built.{Builds}
 use Rattle.wac_names.specs.Class.{Class, class_of}

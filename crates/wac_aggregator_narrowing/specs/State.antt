@@ -2,7 +2,7 @@
 use Rattle.std.specs.Prelude.{◌≡◌, List, Some}
 use Rattle.wac_component.specs.Collection.{Collection}
 use Rattle.wac_component.specs.Key.{Key, Stands}
-use Rattle.wac_component.specs.Memo.{Remembered}
+use Rattle.wac_aggregator_memo.specs.Memo.{Remembered}
 use Rattle.wac_aggregator_narrowing.specs.Apart.{IsKeyApart, IsGood}
 use Rattle.wac_aggregator_narrowing.specs.Identified.{IsCovered}
 use Rattle.wac_aggregator_narrowing.specs.Imports.{NamedImports, ImportsStand, ImportsCovered, ImportsFit}

@@ -8,7 +8,7 @@ use Rattle.wac_component.specs.Key.{Key, Each, AllStand, item_keys}
 use Rattle.wac_component.specs.Tree.{item_tree}
 use Rattle.wac_component.specs.declared.items.ItemKind.{ItemKind}
 use Rattle.wac_component.specs.Entries.{identifier_at}
-use Rattle.wac_component.specs.Memo.{Remembered}
+use Rattle.wac_aggregator_memo.specs.Memo.{Remembered}
 use Rattle.wac_component.specs.Open.{OpenReaches}
 use Rattle.wac_merge.specs.Items.{entry_item}
 use Rattle.wac_aggregator_narrowing.specs.Apart.{AreKeysApart}

@@ -7,7 +7,7 @@ use Rattle.wac_component.specs.Collection.{Collection, InterfaceContent}
 use Rattle.wac_component.specs.Entries.{identifier_at}
 use Rattle.wac_component.specs.Growth.{Extends}
 use Rattle.wac_component.specs.Key.{Key, Entry, interface_entry, entry_keys, other_keys, import_keys, interface_key, interface_keys, item_keys, Each, Stands, AllStand}
-use Rattle.wac_component.specs.Memo.{AddsPair, Remembered}
+use Rattle.wac_aggregator_memo.specs.Memo.{AddsPair, Remembered}
 use Rattle.wac_component.specs.Open.{open_next, OpenReaches, step}
 use Rattle.wac_component.specs.Reach.{IsAmong, Reaches}
 use Rattle.wac_component.specs.Replacing.{NamesReach}

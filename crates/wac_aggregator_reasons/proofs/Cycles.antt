@@ -18,7 +18,7 @@ use Rattle.wac_aggregator_promises.specs.Entries.{IsIdentifiedOn}
 use Rattle.wac_aggregator_promises.specs.Compatible.{LeadsOver}
 use Rattle.wac_aggregator_promises.specs.Compatible as tracks
 use Rattle.wac_aggregator_promises.specs.Reason.{TrackLeads, IsReason, cycle}
-use Rattle.wac_aggregator_narrowing.specs.Traced.{OpenlyLeads, Root, IsAmongRoots, Arrow, Arrows}
+use Rattle.wac_aggregator_narrowing.specs.Traced.{Root, Arrow, Arrows}
 use Rattle.wac_aggregator_narrowing.specs.Traced as arrow
 use Rattle.wac_aggregator_reasons.specs.Roots.{RootsAreSources}
 use Rattle.wac_aggregator_reasons.proofs.Moving.{identifier_is}

@@ -1,10 +1,10 @@
 -- What is alone grows: what is open, and what comes from sources, is and does so still.
-use Rattle.std.proofs.Common.{◌≡◌, ◌≢◌, ◌⊎◌, inl, inr, List, [], Some, None, refl, ap, sym, subst, ◌∙◌, Contains}
+use Rattle.std.proofs.Common.{◌≡◌, ◌≢◌, inl, inr, [], Some, ap, sym, subst, ◌∙◌, Contains}
 use Rattle.std.specs.Option.{option_map_or}
 use Rattle.std.specs.Str.{bytes_eq}
 use Rattle.wac_model.specs.Text.{Text, lookup}
 use Rattle.wac_component.specs.Collection.{Collection, UseContent, InterfaceContent}
-use Rattle.wac_component.specs.Entries.{entry_exports, entry_uses, exports_at, uses_at, HasUse, identifier_at}
+use Rattle.wac_component.specs.Entries.{entry_exports, entry_uses, exports_at, uses_at, HasUse}
 use Rattle.wac_component.specs.Id.{Id}
 use Rattle.wac_component.specs.Key.{Key, interface_entry, other_keys, import_keys, optional_keys, item_keys, named_keys, use_keys, interface_key, interface_keys, Each, Stands, AllStand}
 use Rattle.wac_component.specs.Open.{import_next, open_next, OpenReaches}
@@ -12,21 +12,21 @@ use Rattle.wac_component.specs.Open as walk
 use Rattle.wac_component.specs.Reach.{IsAmong}
 use Rattle.wac_component.specs.Tree.{item_tree}
 use Rattle.wac_component.specs.declared.items.ItemKind.{ItemKind}
-use Rattle.wac_component.proofs.Among.{among_each, each_among, each_found}
+use Rattle.wac_component.proofs.Among.{among_each, each_found}
 use Rattle.wac_component.proofs.Keys.{Each-right, Key-discrete}
-use Rattle.wac_component.proofs.OpenWalks.{imports_stand, import_in_next, open_in_next, open_stands, opens_stand}
+use Rattle.wac_component.proofs.OpenWalks.{imports_stand, import_in_next, open_in_next, opens_stand}
 use Rattle.wac_component.proofs.Reading.{interface_at}
 use Rattle.wac_aggregator_promises.specs.Attempt.{Sources, IsSource, IsBelowImport}
 use Rattle.wac_aggregator_promises.proofs.Read.{use_opens}
-use Rattle.wac_aggregator_narrowing.specs.Alone.{CanGrowAlone, GrowsTo, nothing, one}
+use Rattle.wac_aggregator_narrowing.specs.Alone.{CanGrowAlone, GrowsTo, nothing}
 use Rattle.wac_aggregator_narrowing.specs.Narrows.{grown}
 use Rattle.wac_aggregator_narrowing.specs.State.{State, IsStateKept}
 use Rattle.wac_aggregator_narrowing.proofs.GrownAlone.{grown_state, alone_standing, alone_stood, alone_other, alone_entry, next_another, opens_another, alone_reaches, alone_forward, alone_opens, alone_identifier, alone_tree, alone_kept}
-use Rattle.wac_aggregator_narrowing.proofs.GrowsTo.{grows_by, grows_stood}
+use Rattle.wac_aggregator_narrowing.proofs.GrowsTo.{grows_by}
 use Rattle.wac_aggregator_reasons.specs.Entering.{IsFromSources}
-use Rattle.wac_aggregator_reasons.specs.Sharing.{IsOpenRoot, of_shared, of_import, of_taken, IsSharer, AreSourced, AreHeld}
+use Rattle.wac_aggregator_reasons.specs.Sharing.{IsOpenRoot, of_shared, of_import, of_taken, AreSourced, AreHeld}
 use Rattle.wac_aggregator_reasons.specs.Sourced.{IsExportFrom, IsUseFrom, IsSourced}
-use Rattle.wac_aggregator_reasons.specs.Split.{IsLow, of_copy, of_import as low_import, IsOpenKey, AreSplit, IsSharedOrBelow, AreSharedOrBelow, AddsSharedOrBelow}
+use Rattle.wac_aggregator_reasons.specs.Split.{IsLow, of_copy, of_import as low_import, IsOpenKey, AreSplit, AreSharedOrBelow}
 use Rattle.wac_aggregator_reasons.proofs.Exported.{export_each}
 use Rattle.wac_aggregator_reasons.proofs.Moving.{use_moves, export_stands, use_stands}
 use Rattle.wac_aggregator_reasons.proofs.Splitting.{held_again}
@@ -193,17 +193,3 @@ module _ (s : State) (kept : IsStateKept s) (e : Id) (old new : InterfaceContent
 module _ (s : State) (d : Collection) (kept : IsStateKept s) (g : GrowsTo s d) where
   pub grows_shared_or_below : AreSharedOrBelow s → AreSharedOrBelow (record s { own = d })
   grows_shared_or_below = grows_by s d (λ c. AreSharedOrBelow s → AreSharedOrBelow (record s { own = c })) g (λ h. h) (alone_shared_or_below s kept)
-
-  pub grows_adds : AddsSharedOrBelow s (record s { own = d })
-  grows_adds k n st is = inl (grows_stood s d kept g k st)
-
-  -- what new exports and uses come from sources
-  abbrev pub ComeFrom : Sources → Type 0
-  ComeFrom sources = (e : Id) (old new : InterfaceContent) → CanGrowAlone s e old new → d ≡ grown s.own e new → (¬ (IsLow s (interface_key e))) × Each (IsOpenKey s) (interface_keys new) × IsFromSources (IsSource sources) s.own (interface_entry new)
-
--- then all that open walks lead to is apart from what is below imports, and held
-pub grows_held : (s : State) (d : Collection) (kept : IsStateKept s) (g : GrowsTo s d) (sources : Sources) → ComeFrom s d kept g sources → AreSplit s → AreSourced sources s → AreSplit (record s { own = d }) × AreHeld (record s { own = d })
-grows_held s d kept (nothing is) sources from split h = subst (λ c. AreSplit (record s { own = c }) × AreHeld (record s { own = c })) (sym is) (split, held_again sources s kept split h)
-grows_held s d kept (one e old new can is) sources from split h =
-    let r = from e old new can is in
-    subst (λ c. AreSplit (record s { own = c }) × AreHeld (record s { own = c })) (sym is) (alone_split s kept e old new can r.0 r.1 split, alone_held s kept e old new can sources r.0 r.1 r.2 split h)

@@ -10,7 +10,7 @@ use Rattle.wac_component.specs.Key.{Key, Entry, interface_entry, entry_keys, int
 use Rattle.wac_component.specs.Reach.{IsAmong}
 use Rattle.wac_component.specs.Replacing.{NamesReach}
 use Rattle.wac_component.specs.Entries.{entry_identifier, identifier_at}
-use Rattle.wac_component.specs.Memo.{AddsPair}
+use Rattle.wac_aggregator_memo.specs.Memo.{AddsPair}
 use Rattle.wac_component.specs.declared.items.ItemKind.{ItemKind}
 use Rattle.wac_component.proofs.Adding.{Extends-with_entry}
 use Rattle.wac_names.specs.Class.{class_of}

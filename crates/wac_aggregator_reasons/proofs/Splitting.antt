@@ -6,7 +6,7 @@ use Rattle.wac_component.specs.Collection.{Collection, UseContent, InterfaceCont
 use Rattle.wac_component.specs.Implicit.{identifier, HasIdentifier}
 use Rattle.wac_component.specs.Growth.{Extends, with_entry}
 use Rattle.wac_component.specs.Key.{Key, Entry, entry_keys, other_keys, import_keys, optional_keys, interface_key, interface_keys, item_keys, next, Each, Stands, AllStand}
-use Rattle.wac_component.specs.Memo.{AddsPair, Remembered}
+use Rattle.wac_aggregator_memo.specs.Memo.{AddsPair, Remembered}
 use Rattle.wac_component.specs.Reach.{IsAmong, Reaches, stay, step}
 use Rattle.wac_component.specs.Replacing.{NamesReach}
 use Rattle.wac_component.specs.Sound.{IsSound}

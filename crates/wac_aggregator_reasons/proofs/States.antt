@@ -6,7 +6,7 @@ use Rattle.wac_component.specs.Implicit.{identifier, HasIdentifier}
 use Rattle.wac_component.specs.Key.{Key, interface_key, item_keys, Stands}
 use Rattle.wac_component.specs.Reach.{IsAmong}
 use Rattle.wac_component.specs.Entries.{HasUse, identifier_at}
-use Rattle.wac_component.specs.Memo.{AddsPair, Remembered}
+use Rattle.wac_aggregator_memo.specs.Memo.{AddsPair, Remembered}
 use Rattle.wac_component.specs.Open.{stay}
 use Rattle.wac_component.specs.declared.items.ItemKind.{ItemKind}
 use Rattle.wac_component.proofs.Among.{among_each}

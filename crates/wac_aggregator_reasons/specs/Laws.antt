@@ -13,7 +13,7 @@ use Rattle.wac_component.specs.Replacing.{NamesReach}
 use Rattle.wac_component.specs.Sound.{IsSound}
 use Rattle.wac_component.specs.Tree.{item_tree}
 use Rattle.wac_component.specs.Entries.{exports_at, uses_at, HasUse, identifier_at}
-use Rattle.wac_component.specs.Memo.{AddsPair}
+use Rattle.wac_aggregator_memo.specs.Memo.{AddsPair}
 use Rattle.wac_component.specs.Open.{open_next}
 use Rattle.wac_component.specs.declared.items.ItemKind.{ItemKind}
 use Rattle.wac_names.specs.Class.{class_of}

@@ -10,7 +10,7 @@ use Rattle.wac_component.specs.Collection.{Collection, DefinedContent, ResourceC
 use Rattle.wac_component.specs.Entries.{identifier_at, owner_at}
 use Rattle.wac_component.specs.Height.{height, keys_height}
 use Rattle.wac_component.specs.Key.{Key, Sort, defined_sort, resource_sort, func_sort, interface_sort, world_sort, module_sort, defined_entry, resource_entry, optional_keys, other_keys, alias_keys, resource_key, defined_key, interface_key, Stands, Each, AllStand, item_keys, named_keys, use_keys}
-use Rattle.wac_component.specs.Memo.{AddsPair, Remembered, memo_of}
+use Rattle.wac_aggregator_memo.specs.Memo.{AddsPair, Remembered, memo_of}
 use Rattle.wac_component.specs.Open.{open_next, OpenReaches, stay, step}
 use Rattle.wac_component.specs.Reach.{IsAmong, here, there}
 use Rattle.wac_component.specs.Sound.{IsSound}
@@ -41,16 +41,16 @@ use Rattle.wac_aggregator_promises.specs.Attempt.{Attempt}
 use Rattle.wac_aggregator_reasons.specs.Sharing.{of_shared}
 use Rattle.wac_aggregator_reasons.specs.Trial.{IsAccounted, IsOpenSource}
 use Rattle.wac_aggregator_reasons.proofs.Accounts.{root_open, part_open, accounted_then, accounted_taken}
-use Rattle.wac_component.specs.declared.memo.Memo.{Memo}
+use Rattle.wac_aggregator_memo.specs.declared.memo.Memo.{Memo}
 use Rattle.wac_aggregator_alike.specs.Alike.{made_keys, made_next, IsTypeMadeOf, itself, part, AreOwnersIdentified, AreTypesAlike, AreOwnedIn}
 use Rattle.wac_aggregator_alike.proofs.MadeOf.{IsTypeKey, is_type_sort, made_opens, made_types, made_stands, made_unidentified, made_or_owned, no_identifier}
 use Rattle.wac_aggregator_taking.specs.Takes.{state_of, MayTake, IsOwnEntry, IsNear, IsNearest, near_keys, AreNear, NearNames, AreWithin, TakesBy, Takes, owners_keys, LeadsToOwner, OwnersImported, IsOwnerImported, IsTakenOwner, AreOwnersTaken}
 use Rattle.wac_aggregator_taking.specs.declared.state.Merging.{Merging}
 use Rattle.wac_aggregator_taking.proofs.Alone.{alone_noted}
-use Rattle.wac_aggregator_taking.proofs.TakeLemmas.{Takes-near, Takes-more, Takes-then, still_none, known_within, known_still, noted_known, trial_within, near_still, near_none, owners_import_still, owners_import_within, shared_from_still, shared_from_within, shared_stands}
+use Rattle.wac_aggregator_taking.proofs.TakeLemmas.{still_none, known_within, known_still, noted_known, trial_within, near_still, near_none, owners_import_still, owners_import_within, shared_from_still, shared_from_within, shared_stands}
 use Rattle.wac_aggregator_taking.proofs.Plain.{plain_within}
 use Rattle.wac_aggregator_taking.proofs.Parts.{owner_still}
-use Rattle.wac_aggregator_taking.proofs.Within.{within_all, owned_within}
+use Rattle.wac_aggregator_taking.proofs.Within.{owned_within}
 
 -- ---- equal trees of entries
 
@@ -288,10 +288,6 @@ module _ (f : Collection) (sound : IsSound f) (a b : Merging) (now : Memo) (thei
   made : (r : Id) → Contains rs r → IsTypeMadeOf f theirs (resource_key r)
   made r m = (owned.each r m).0
 
-  -- it wasn't while its owners were taken in
-  pub alike_absent : memo_of a.taken theirs ≡ None → memo_of b.taken theirs ≡ None
-  alike_absent none = g.low theirs (owners_lower f sound theirs rs stands is_type made) none
-
   pub Takes-alike : AddsPair (memo_of b.taken) (memo_of now) theirs ours → memo_of b.taken theirs ≡ None → TakesBy (ours ∷ []) f a (record b { taken = now }) (height f theirs) (theirs ∷ []) (λ t. Unit {0})
   Takes-alike adds none =
       let s = state_of a in
@@ -403,14 +399,6 @@ near_nearest at a near (Some i) kept h all by = elim (h i refl) [
   | inr shared ↦ record { stand = (shared_stands (state_of a) kept (interface_key i) shared, tt); opens = (root_open at (state_of a) (interface_key i) all (of_shared shared), tt) }
 ]
 
--- it is so still once more was taken in
-pub nearest_still : {by : List Key} (f : Collection) (a b : Merging) (top : ℕ) (ks : List Key) (Q : State → Type 0) (near nearest : Option Id) → MayTake f a → TakesBy by f a b top ks Q → IsNearest a near nearest → IsNearest b near nearest
-nearest_still f a b top ks Q near nearest may g h i is = elim (h i is) [ inl same ↦ inl same | inr shared ↦ inr ((g.run.stops may.kept).shared (interface_key i) shared) ]
-
--- what was taken in near the nearest interface was so near the one that it was found from
-pub Takes-nearest : (f : Collection) (near nearest : Option Id) (a b : Merging) (top : ℕ) (ks : List Key) (Q : State → Type 0) → MayTake f a → IsNearest a near nearest → TakesBy (near_keys nearest) f a b top ks Q → TakesBy (near_keys near) f a b top ks Q
-Takes-nearest f near nearest a b top ks Q may h g = Takes-near f (near_keys nearest) (near_keys near) a b top ks Q (λ at all by. near_nearest at a near nearest may.kept h all by) g
-
 -- ---- the owners of a list of resources, one by one
 
 -- those of the first i were taken in
@@ -461,17 +449,7 @@ among_resources (x ∷ xs) (suc i) r at = there (among_resources xs i r at)
 pub within_resources : (f : Collection) (rs : List Id) (i : ℕ) (r : Id) → slice_get rs i ≡ Some r → AreWithin f (resource_key r ∷ []) (map resource_key rs)
 within_resources f rs i r at k m = (resource_key r, among_resources rs i r at, subst (λ x. OpenReaches f (resource_key r) x) (sym (among_single (resource_key r) m)) stay)
 
-pub owner_stands : (f : Collection) (q : Option Id) → IfSome q (λ o. Stands f (interface_key o)) → AllStand f (optional_keys (λ o. interface_key o ∷ []) q)
-owner_stands f None h = tt
-owner_stands f (Some o) h = (h, tt)
-
 -- nothing is remembered for an id for which nothing is found
 pub absent_of : {A B : Type 0} (g : A → B) (o : Option A) → is_some o ≡ false → option_map g o ≡ None
 absent_of g None h = refl
 absent_of g (Some x) h = absurd (cc)
-
--- one more is taken in, with nothing to be said of it
-pub Takes-also : {near : List Key} (f : Collection) (a b c : Merging) (top low : ℕ) (ks js : List Key) → low ≤ top → AreWithin f js ks → MayTake f a → TakesBy near f a b top ks (λ t. Unit {0}) → TakesBy near f b c low js (λ t. Unit {0}) → TakesBy near f a c top ks (λ t. Unit {0})
-Takes-also f a b c top low ks js lower within may g h =
-    Takes-more f a c top top ks ks (λ s. Unit {0} × Unit {0}) (λ s. Unit {0}) (omega arith) (within_all f ks) may (λ s kept q. tt)
-    (Takes-then f a b c top low top ks js ks (λ s. Unit {0}) (λ s. Unit {0}) (omega arith) lower (within_all f ks) within may (λ s u kept run h. tt) g h)

@@ -1,11 +1,11 @@
 -- What is alone stays so where more is taken in.
-use Rattle.std.proofs.Common.{◌≡◌, inl, inr, List, Some, refl, ap, sym, subst, ◌∙◌}
+use Rattle.std.proofs.Common.{◌≡◌, inl, inr, Some, refl, ap, sym, subst, ◌∙◌}
 use Rattle.wac_component.specs.Collection.{Collection, InterfaceContent}
 use Rattle.wac_component.specs.Entries.{identifier_at}
 use Rattle.wac_component.specs.Growth.{with_entry}
 use Rattle.wac_component.specs.Id.{Id}
-use Rattle.wac_component.specs.Key.{Key, Entry, Each, Stands, interface_entry, entry_keys, import_keys, other_keys, next, interface_key, interface_keys}
-use Rattle.wac_component.specs.Memo.{AddsPair}
+use Rattle.wac_component.specs.Key.{Key, Entry, Stands, interface_entry, entry_keys, import_keys, other_keys, next, interface_key, interface_keys}
+use Rattle.wac_aggregator_memo.specs.Memo.{AddsPair}
 use Rattle.wac_component.specs.Open.{open_next}
 use Rattle.wac_component.specs.Reach.{IsAmong}
 use Rattle.wac_component.proofs.Among.{among_each, each_among}

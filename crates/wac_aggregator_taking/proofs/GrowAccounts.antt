@@ -7,7 +7,7 @@ use Rattle.wac_component.specs.Collection.{Collection, UseContent, InterfaceCont
 use Rattle.wac_component.specs.Entries.{identifier_at, exports_at, uses_at, entry_exports, entry_uses}
 use Rattle.wac_component.specs.Id.{Id}
 use Rattle.wac_component.specs.Key.{Key, Each, Stands, AllStand, interface_entry, interface_key, interface_keys, item_keys, named_keys, use_keys}
-use Rattle.wac_component.specs.Memo.{AddsPair}
+use Rattle.wac_aggregator_memo.specs.Memo.{AddsPair}
 use Rattle.wac_component.specs.Open.{open_next}
 use Rattle.wac_component.specs.Reach.{IsAmong}
 use Rattle.wac_component.specs.declared.items.ItemKind.{ItemKind}

@@ -388,8 +388,3 @@ found_by es h = found_among (named (λ k. k) es) (IsDistinct-shown string_bytes 
 -- uses that were put last
 pub uses_put : (us vs : List (String Global × UsedType)) → named use_content (with_new (λ s t. bytes_eq (string_bytes s) (string_bytes t)) us vs) ≡ uses_of_both (named use_content us) (named use_content vs)
 uses_put us vs = with_new-shown string_bytes use_content (λ s t. bytes_eq (string_bytes s) (string_bytes t)) bytes_eq (λ k l. refl) us vs
-
--- so what both name is what either does
-pub with_new_named : (us vs ws : List (String Global × UsedType)) → ws ≡ with_new (λ s t. bytes_eq (string_bytes s) (string_bytes t)) us vs → (P : Key → Type 0)
-    → Each P (named_keys use_keys (named use_content us)) → Each P (named_keys use_keys (named use_content vs)) → Each P (named_keys use_keys (named use_content ws))
-with_new_named us vs ws is P h g = subst (λ l. Each P (named_keys use_keys (named use_content l))) (sym is) (each_used P _ us vs h g)

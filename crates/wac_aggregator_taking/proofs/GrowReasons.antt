@@ -13,7 +13,7 @@ use Rattle.wac_names.specs.Class.{class_of}
 use Rattle.wac_aggregator_narrowing.specs.State.{State}
 use Rattle.wac_aggregator_errors.specs.declared.error.AggregateError.{AggregateError}
 use Rattle.wac_aggregator_taking.specs.Growing.{AreMetWith}
-use Rattle.wac_aggregator_errors.specs.Differ.{AreRefusedLists}
+use Rattle.wac_aggregator_uses.specs.Differ.{AreRefusedLists}
 use Rattle.wac_aggregator_errors.specs.Said.{said}
 use Rattle.wac_aggregator_taking.specs.Refused.{MayRefuse, AreRefusedItems}
 use Rattle.wac_aggregator_taking.specs.Takes.{state_of, shared_in, shared_keys, MayTake, MayPut}

@@ -5,7 +5,7 @@ use Rattle.std.specs.Option.{option_map_or}
 use Rattle.std.specs.Str.{bytes_eq}
 use Rattle.wac_model.specs.Text.{Text, lookup}
 use Rattle.wac_model.specs.CoreTree.{Serves}
-use Rattle.wac_model.specs.ItemTree.{ItemTree, item, composite, interface, no_items, item_at}
+use Rattle.wac_model.specs.ItemTree.{item, composite, interface, no_items, item_at}
 use Rattle.wac_model.specs.Order.{Fits}
 use Rattle.wac_bounds.specs.MeetIn.{IsMeetIn}
 use Rattle.wac_bounds.proofs.CompositeBounds.{composite_meet}
@@ -13,7 +13,7 @@ use Rattle.wac_component.specs.Collection.{Collection, InterfaceContent}
 use Rattle.wac_component.specs.Entries.{entry_identifier, identifier_at}
 use Rattle.wac_component.specs.Growth.{with_entry}
 use Rattle.wac_component.specs.Id.{Id}
-use Rattle.wac_component.specs.Key.{Key, Each, Stands, AllStand, interface_entry, entry_keys, optional_keys, item_keys, named_keys, use_keys, interface_key, interface_keys}
+use Rattle.wac_component.specs.Key.{Key, Each, Stands, AllStand, interface_entry, entry_keys, optional_keys, named_keys, use_keys, interface_key, interface_keys}
 use Rattle.wac_component.specs.Sound.{IsSound}
 use Rattle.wac_component.specs.Tree.{item_tree, items_of}
 use Rattle.wac_component.specs.declared.items.ItemKind.{ItemKind}

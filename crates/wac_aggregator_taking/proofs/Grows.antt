@@ -8,7 +8,7 @@ use Rattle.wac_component.specs.Growth.{Extends}
 use Rattle.wac_component.specs.Height.{height}
 use Rattle.wac_component.specs.Id.{Id}
 use Rattle.wac_component.specs.Key.{Key, Each, Stands, AllStand, interface_entry, entry_at, interface_key, interface_keys, named_keys, use_keys, optional_keys, entry_keys, other_keys}
-use Rattle.wac_component.specs.Memo.{AddsPair, memo_of}
+use Rattle.wac_aggregator_memo.specs.Memo.{AddsPair, memo_of}
 use Rattle.wac_component.specs.Open.{open_next, step}
 use Rattle.wac_component.specs.Reach.{IsAmong}
 use Rattle.wac_component.specs.Replacing.{NamesReach}
@@ -34,7 +34,7 @@ use Rattle.wac_aggregator_narrowing.proofs.Mapped.{mapped_more, taken_keys_still
 use Rattle.wac_aggregator_narrowing.proofs.Remembered.{RemembersTruly-step}
 use Rattle.wac_aggregator_narrowing.proofs.Running.{RunsTaking-step, RunsTaking-trans}
 use Rattle.wac_aggregator_reasons.specs.Split.{AddsSharedOrBelow}
-use Rattle.wac_component.specs.declared.memo.Memo.{Memo}
+use Rattle.wac_aggregator_memo.specs.declared.memo.Memo.{Memo}
 use Rattle.wac_aggregator_taking.specs.Growing.{AreMetWith}
 use Rattle.wac_aggregator_taking.specs.Takes.{shared_in, state_of, MayTake, MayPut, Takes}
 use Rattle.wac_aggregator_taking.specs.declared.state.Merging.{Merging}
@@ -119,9 +119,6 @@ module _ (f : Collection) (a : Merging) (may : MayTake f a) (p e : Id) (name : T
 
   old_stands : Stands a.types (interface_key e)
   old_stands = shared_stands (state_of a) may.kept (interface_key e) among
-
-  pub still_stands : Stands d (interface_key e)
-  still_stands = met.on.grows.standing (interface_key e) old_stands
 
   pub can : CanGrow d (state_of a).shared e old new
   can = record {

@@ -5,15 +5,15 @@ use Rattle.wac_model.specs.CoreTree.{ModuleTree}
 use Rattle.wac_model.specs.Text.{Text}
 use Rattle.wac_component.specs.Collection.{Collection, DefinedContent, ResourceContent, AliasContent, FuncContent, UseContent, InterfaceContent, WorldContent}
 use Rattle.wac_component.specs.Entries.{identifier_at, owner_at, entry_uses, entry_exports, uses_at, exports_at}
-use Rattle.wac_component.specs.EntryOrder.{HasOwn}
+use Rattle.wac_aggregator_memo.specs.EntryOrder.{HasOwn}
 use Rattle.wac_component.specs.Growth.{with_entry}
 use Rattle.wac_component.specs.Height.{height}
 use Rattle.wac_component.specs.Id.{Id}
 use Rattle.wac_component.specs.Key.{Key, Entry, Each, Stands, AllStand, entry_at, defined_entry, resource_entry, func_entry, entry_keys, optional_keys, next, alias_keys, named_keys, use_keys, item_keys, defined_keys, resource_keys, func_keys, defined_key, resource_key, func_key, interface_key, world_key, module_key, module_entry}
-use Rattle.wac_component.specs.Memo.{AddsPair, memo_of}
+use Rattle.wac_aggregator_memo.specs.Memo.{AddsPair, memo_of}
 use Rattle.wac_component.specs.Open.{open_next, OpenReaches, stay, step}
 use Rattle.wac_component.specs.Reach.{IsAmong}
-use Rattle.wac_component.specs.Renamed.{renamed_defined, renamed_resource, renamed_func, renamed_use, renamed_item, with_values}
+use Rattle.wac_aggregator_memo.specs.Renamed.{renamed_defined, renamed_resource, renamed_func, renamed_use, renamed_item, with_values}
 use Rattle.wac_component.specs.Sound.{IsSound}
 use Rattle.wac_component.specs.declared.items.ItemKind.{ItemKind}
 use Rattle.wac_component.proofs.Among.{among_single}

@@ -15,7 +15,7 @@ use Rattle.wac_component.specs.Collection.{Collection, UseContent, InterfaceCont
 use Rattle.wac_component.specs.Entries.{entry_uses, HasUse, uses_at, exports_at, identifier_at}
 use Rattle.wac_component.specs.Id.{Id}
 use Rattle.wac_component.specs.Key.{Key, Each, Stands, AllStand, interface_entry, interface_key, interface_keys, item_keys, named_keys, use_keys}
-use Rattle.wac_component.specs.Memo.{AddsPair, memo_of}
+use Rattle.wac_aggregator_memo.specs.Memo.{AddsPair, memo_of}
 use Rattle.wac_component.specs.Replacing.{NamesReach}
 use Rattle.wac_component.specs.Sound.{IsSound}
 use Rattle.wac_component.specs.Tree.{item_tree}
@@ -40,19 +40,19 @@ use Rattle.wac_aggregator_promises.proofs.Members.{one_track}
 use Rattle.wac_aggregator_promises.proofs.Read.{exports_of_entry, lookup_contains}
 use Rattle.wac_aggregator_promises.proofs.TakenIn.{sharing_goes_on}
 use Rattle.wac_aggregator_promises.proofs.WitReasons.{clashing_exports}
-use Rattle.wac_component.specs.declared.memo.Memo.{Memo}
+use Rattle.wac_aggregator_memo.specs.declared.memo.Memo.{Memo}
 use Rattle.wac_aggregator_narrowing.specs.Laws.{IsArrowed}
 use Rattle.wac_aggregator_narrowing.specs.Narrows.{grown}
 use Rattle.wac_aggregator_errors.specs.declared.error.AggregateError.{AggregateError}
 use Rattle.wac_aggregator_errors.specs.declared.error.AggregateError.TheVariants.{Memory}
 use Rattle.wac_aggregator_taking.specs.Growing.{AreMetWith}
 use Rattle.wac_aggregator_taking.specs.Members.{HasTakenIn, TakesMembers, at_entry, in_cycle, IsNotTaken, IsMemberRefusal, roots_of}
-use Rattle.wac_aggregator_errors.specs.Differ.{SaysUsesDiffer, of_interfaces, of_names, AreRefusedLists}
+use Rattle.wac_aggregator_uses.specs.Differ.{SaysUsesDiffer, of_interfaces, of_names, AreRefusedLists}
 use Rattle.wac_aggregator_alike.proofs.Answering.{filter_to}
 use Rattle.wac_aggregator_errors.proofs.Saying.{not_memory}
 use Rattle.wac_aggregator_taking.specs.Refused.{HasApartLeaves, AreRefusedItems}
 use Rattle.wac_aggregator_taking.specs.Takes.{MayTake, MayPut, shared_in, shared_keys, state_of}
-use Rattle.wac_aggregator_errors.specs.Uses.{AreOfOne, UsesAgree}
+use Rattle.wac_aggregator_uses.specs.Uses.{AreOfOne, UsesAgree}
 use Rattle.wac_aggregator_taking.specs.declared.state.Merging.{Merging}
 use Rattle.wac_aggregator_taking.proofs.Identifiers.{has_identifier}
 use Rattle.wac_aggregator_taking.proofs.MemberParts.{IsLeafTree, AreLeaves, leaf_tree, leaf_is, leaf_fits, taken_leaves, taken_trees, used_of, used_by, AreMore-put, TakesMembers-put}

@@ -17,7 +17,7 @@ use Rattle.wac_component.specs.Id.{Id}
 use Rattle.wac_component.specs.Implicit.{identifier}
 use Rattle.wac_component.specs.Key.{Key, Stands, AllStand, entry_at, interface_entry, interface_key, interface_keys, item_keys, named_keys, use_keys}
 use Rattle.wac_component.specs.Laws.{HasLeavesOf}
-use Rattle.wac_component.specs.Memo.{AddsPair, memo_of}
+use Rattle.wac_aggregator_memo.specs.Memo.{AddsPair, memo_of}
 use Rattle.wac_component.specs.Reach.{IsAmong}
 use Rattle.wac_component.specs.Sound.{IsSound}
 use Rattle.wac_component.specs.Tree.{item_tree, items_of}

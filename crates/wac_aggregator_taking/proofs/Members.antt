@@ -16,7 +16,7 @@ use Rattle.wac_aggregator_promises.specs.WitList.{AreWit}
 use Rattle.wac_aggregator_promises.proofs.ByUses.{ByUses-trans}
 use Rattle.wac_aggregator_promises.proofs.Read.{use_opens}
 use Rattle.wac_aggregator_promises.proofs.TakenIn.{sharing_goes_on}
-use Rattle.wac_component.specs.Memo.{memo_of}
+use Rattle.wac_aggregator_memo.specs.Memo.{memo_of}
 use Rattle.wac_aggregator_narrowing.specs.State.{IsOneWith, IsStateKept, RunsTaking}
 use Rattle.wac_aggregator_narrowing.specs.Remembers.{RemembersTruly}
 use Rattle.wac_aggregator_narrowing.specs.Laws.{IsArrowed}

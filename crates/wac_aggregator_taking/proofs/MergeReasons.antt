@@ -1,20 +1,19 @@
 -- What is met is open where both items are, and what can't be met gives a reason.
 use Rattle.std.proofs.Common.{◌≡◌, ◌⊎◌, inl, inr, All, Contains, List, [], ◌∷◌, Some, None, refl, ap, sym, subst, ◌∙◌}
-use Rattle.wac_model.specs.Text.{Text}
+use Rattle.wac_model.specs.Text.{Text, lookup}
 use Rattle.wac_component.specs.Collection.{Collection, UseContent}
 use Rattle.wac_component.specs.Entries.{uses_at}
 use Rattle.wac_component.specs.Key.{Key, Each, Stands, AllStand, item_keys}
 use Rattle.wac_component.specs.declared.items.ItemKind.{ItemKind}
-use Rattle.wac_component.proofs.Among.{among_each, each_among}
+use Rattle.wac_component.proofs.Among.{among_each, each_among, Contains-first, each_found}
 use Rattle.wac_aggregator_promises.specs.Attempt.{Attempt, IsSource, Touches}
 use Rattle.wac_aggregator_promises.specs.Reason.{CallRefusal, IsImportedOrTouches, IsReason, mismatch, used_interface, used_name}
-use Rattle.wac_names.specs.Class.{Class}
+use Rattle.wac_names.specs.Class.{Class, class_of}
 use Rattle.wac_aggregator_narrowing.specs.Apart.{IsGood}
 use Rattle.wac_aggregator_narrowing.specs.Laws.{LeadsAlongArrows}
 use Rattle.wac_aggregator_narrowing.specs.State.{State, IsStateKept}
 use Rattle.wac_aggregator_narrowing.specs.Traced.{Root, Arrows}
 use Rattle.wac_aggregator_narrowing.proofs.Tracing.{built_along}
-use Rattle.wac_names.specs.Class.{class_of}
 use Rattle.wac_aggregator_reasons.specs.Sourced.{IsSourced}
 use Rattle.wac_aggregator_reasons.specs.Split.{IsOpenKey}
 use Rattle.wac_aggregator_reasons.specs.Trial.{IsAccounted, IsOpenSource, IsOpenItem, AreOpenUses}
@@ -29,16 +28,14 @@ use Rattle.wac_component.specs.Tree.{item_tree}
 use Rattle.wac_aggregator_promises.specs.TreeSets.{HaveNoLowerBound}
 use Rattle.std.proofs.lemmas.List.Elements.{All-head}
 use Rattle.std.specs.Str.{bytes_eq}
-use Rattle.wac_model.specs.Text.{lookup}
-use Rattle.wac_component.proofs.Among.{Contains-first, each_found}
 use Rattle.wac_aggregator_promises.specs.WitList.{IsLeafItem}
 use Rattle.wac_aggregator_promises.proofs.ByUses.{leaf_item, leaf_uses}
 use Rattle.wac_merge.specs.Items.{ExternKinds, extern_keys}
-use Rattle.wac_aggregator_errors.proofs.UseLemmas.{second_uses}
-use Rattle.wac_aggregator_errors.proofs.UseLists.{one_alone}
+use Rattle.wac_aggregator_uses.proofs.UseLemmas.{second_uses}
+use Rattle.wac_aggregator_uses.proofs.UseLists.{one_alone}
 use Rattle.wac_aggregator_taking.proofs.GrowLemmas.{below_both}
 use Rattle.wac_aggregator_taking.specs.Growing.{IsOwnMeet, AreMetWith, AreApartIn, with_own, StaysAlong}
-use Rattle.wac_aggregator_errors.specs.Differ.{SaysUsesDiffer, of_interfaces, of_names, UsesDiffer}
+use Rattle.wac_aggregator_uses.specs.Differ.{SaysUsesDiffer, of_interfaces, of_names, UsesDiffer}
 use Rattle.wac_aggregator_errors.specs.Said.{said}
 use Rattle.wac_aggregator_taking.specs.Refused.{HasReason, SaysMismatch, HasApartLeaves}
 

@@ -14,8 +14,8 @@ use Rattle.wac_aggregator_narrowing.specs.Identified.{used_names, use_names, use
 use Rattle.wac_aggregator_narrowing.specs.State.{State}
 use Rattle.wac_aggregator_narrowing.specs.Taking.{AreTakenKeys, no_keys, one_key, IsTakenItem, IsTakenKey}
 use Rattle.wac_aggregator_errors.specs.declared.error.AggregateError.{AggregateError}
-use Rattle.wac_aggregator_errors.specs.Differ.{UsesDiffer}
-use Rattle.wac_aggregator_errors.proofs.UseLemmas.{second_uses}
+use Rattle.wac_aggregator_uses.specs.Differ.{UsesDiffer}
+use Rattle.wac_aggregator_uses.proofs.UseLemmas.{second_uses}
 use Rattle.wac_aggregator_taking.proofs.Identifiers.{is_interface, has_identifier}
 use Rattle.wac_aggregator_taking.proofs.Plain.{plain_within}
 use Rattle.wac_aggregator_taking.proofs.Within.{within_left, within_right}

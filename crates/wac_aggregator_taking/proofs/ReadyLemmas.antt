@@ -1,6 +1,7 @@
 -- What is taken in without a step.
-use Rattle.std.proofs.Common.{◌≡◌, ◌≤◌, ◌<◌, ◌⊎◌, ◌∙◌, refl, ap, sym, subst, List, [], ◌∷◌, ◌++◌, ℕ, String, Global, Option, Some, None, slice_get, arith}
+use Rattle.std.proofs.Common.{◌≡◌, ◌≤◌, ◌<◌, ◌+◌, ◌⊎◌, ◌∙◌, suc, true, is_some, length, refl, ap, sym, subst, List, [], ◌∷◌, ◌++◌, ℕ, String, Global, Option, Some, None, slice_get, arith}
 use Rattle.std.proofs.lemmas.List.Elements.{All-weaker}
+use borrow.Author.Count.{below_more}
 use Rattle.wac_component.specs.Collection.{Collection, InterfaceContent, WorldContent}
 use Rattle.wac_component.specs.Content.{named, types_of}
 use Rattle.wac_component.specs.Height.{height, keys_height}
@@ -15,7 +16,9 @@ use Rattle.wac_component.specs.declared.items.Type.{«Type» as TypeOf}
 use Rattle.wac_component.proofs.Keys.{Each-append, Each-left, Each-right, largest-append}
 use Rattle.wac_component.proofs.Members.{world_exports_lower}
 use Rattle.wac_component.proofs.Reading.{interface_lower, world_lower}
-use Rattle.wac_aggregator_taking.specs.Steps.{AreNext, IsNext, IsStepOf, step_key, step_near}
+use Rattle.wac_aggregator_memo.specs.EntryOrder.{HasOwn}
+use Rattle.wac_aggregator_memo.specs.Memo.{Remembered}
+use Rattle.wac_aggregator_taking.specs.Steps.{AreItemsNoted, AreNext, IsNext, IsStepOf, step_key, step_near}
 use Rattle.wac_aggregator_taking.specs.Takes.{MayTake, AreWithin, TakesBy, Takes}
 use Rattle.wac_aggregator_taking.specs.declared.state.Merging.{Merging}
 use Rattle.wac_aggregator_taking.specs.declared.steps.TakeStep.{TakeStep}
@@ -42,6 +45,34 @@ keys_of_type (Value v) = refl
 -- the step that takes in what an item of this type names
 pub typed_step : (k : ItemKind) (t : TypeOf) (near : Option Id) (s : TakeStep) → t ≡ type_of k → step_key s ∷ [] ≡ type_keys t → (step_near s ≡ None) ⊎ (step_near s ≡ near) → IsStepOf (item_keys k) near s
 typed_step k t near s is keys by = record { among = subst (IsAmong (step_key s)) (keys ∙ ap type_keys is ∙ sym (keys_of_type k)) here; by = by }
+
+-- what stands for ids is kept where a memo only gets more
+module _ (m n : Remembered) (stays : (k o : Key) → m k ≡ Some o → n k ≡ Some o) where
+  own_still : (k : Key) → HasOwn m k → HasOwn n k
+  own_still k has = by (m k) refl has
+    where
+      by : (o : Option Key) → m k ≡ o → is_some o ≡ true → HasOwn n k
+      by None is h = absurd (cc)
+      by (Some o) is h = ap (λ q. is_some q) (stays k o is)
+
+  each_still : (ks : List Key) → Each (HasOwn m) ks → Each (HasOwn n) ks
+  each_still [] h = tt
+  each_still (k ∷ ks) h = (own_still k h.0, each_still ks h.1)
+
+  module _ (ks : List ItemKind) (from i : ℕ) where
+    pub items_still : AreItemsNoted m ks from i → AreItemsNoted n ks from i
+    items_still h j k after below at = each_still (item_keys k) (h j k after below at)
+
+-- one more item of which that is so
+pub items_next : (m n : Remembered) (ks : List ItemKind) (from i : ℕ) (k : ItemKind) → ((j o : Key) → m j ≡ Some o → n j ≡ Some o) → AreItemsNoted m ks from i → slice_get ks i ≡ Some k → Each (HasOwn n) (item_keys k) → AreItemsNoted n ks from (i + 1)
+items_next m n ks from i k stays before at last j l after below is =
+    below_more (λ j. (l : ItemKind) → from ≤ j → slice_get ks j ≡ Some l → Each (HasOwn n) (item_keys l)) i (λ j lower l after is. items_still m n stays ks from i before j l after lower is)
+    (λ l after is. let same : k ≡ l = let both : Some k ≡ Some l = sym at ∙ is in cc in subst (λ x. Each (HasOwn n) (item_keys x)) same last) j below l after is
+
+-- what all items of a map name was taken in
+pub each_noted : (m : Remembered) (es : List (String Global × ItemKind)) → ((i : ℕ) (k : ItemKind) → i < length es → slice_get (types_of es) i ≡ Some k → Each (HasOwn m) (item_keys k)) → Each (HasOwn m) (named_keys item_keys (named (λ v. v) es))
+each_noted m [] h = tt
+each_noted m (e ∷ es) h = Each-append (HasOwn m) (item_keys e.1) (named_keys item_keys (named (λ v. v) es)) (h 0 e.1 (omega arith) refl) (each_noted m es (λ i k below at. h (suc i) k (omega arith) at))
 
 -- the parts of an entry, taken in before it
 module _ (f : Collection) (a b : Merging) (k : Key) (ks : List Key) (within : AreWithin f ks (k ∷ [])) (low : keys_height f ks ≤ height f k) (may : MayTake f a) (g : Takes f a b (keys_height f ks) ks (λ t. Unit {0})) where

@@ -10,11 +10,11 @@ use Rattle.wac_component.specs.Entries.{entry_uses, entry_exports, identifier_at
 use Rattle.wac_component.specs.Height.{height}
 use Rattle.wac_component.specs.Id.{Id}
 use Rattle.wac_component.specs.Key.{AllStand, Stands, interface_key, interface_keys, named_keys, use_keys}
-use Rattle.wac_component.specs.Memo.{AddsPair, memo_of}
-use Rattle.wac_component.specs.Renamed.{renamed_item, renamed_use, with_values}
+use Rattle.wac_aggregator_memo.specs.Memo.{AddsPair, memo_of}
+use Rattle.wac_aggregator_memo.specs.Renamed.{renamed_item, renamed_use, with_values}
 use Rattle.wac_component.specs.Sound.{IsSound}
 use Rattle.wac_component.specs.declared.items.ItemKind.{ItemKind}
-use Rattle.wac_component.specs.declared.memo.Memo.{Memo}
+use Rattle.wac_aggregator_memo.specs.declared.memo.Memo.{Memo}
 use Rattle.wac_component.proofs.Keys.{Each-left, Each-right}
 use Rattle.wac_component.proofs.Members.{uses_stand, exports_stand}
 use Rattle.wac_component.proofs.Reading.{interface_at}

@@ -8,12 +8,12 @@ use Rattle.wac_component.specs.Content.{named, types_of, use_content}
 use Rattle.wac_component.specs.declared.interfaces.UsedType.{UsedType}
 use Rattle.wac_component.specs.declared.items.ItemKind.{ItemKind}
 use Rattle.wac_component.specs.Entries.{identifier_at, owner_at, entry_uses, entry_exports}
-use Rattle.wac_component.specs.EntryOrder.{HasOwn}
+use Rattle.wac_aggregator_memo.specs.EntryOrder.{HasOwn}
 use Rattle.wac_component.specs.Height.{height}
 use Rattle.wac_component.specs.Id.{Id}
 use Rattle.wac_component.specs.Key.{Key, Each, Stands, entry_keys, other_keys, interface_sort, next, optional_keys, named_keys, use_keys, item_keys, interface_keys, defined_entry, func_entry, defined_key, func_key, resource_key, interface_key, world_key, alias_keys}
-use Rattle.wac_component.specs.Memo.{AddsPair, Remembered, memo_of}
-use Rattle.wac_component.specs.declared.memo.Memo.{Memo}
+use Rattle.wac_aggregator_memo.specs.Memo.{AddsPair, Remembered, memo_of}
+use Rattle.wac_aggregator_memo.specs.declared.memo.Memo.{Memo}
 use Rattle.wac_component.specs.Open.{open_next, OpenReaches, stay, step}
 use Rattle.wac_component.specs.Reach.{IsAmong, here, there}
 use Rattle.wac_component.specs.Sound.{IsSound}

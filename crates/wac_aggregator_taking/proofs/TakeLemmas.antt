@@ -9,7 +9,7 @@ use Rattle.wac_component.specs.Growth.{Extends, with_entry}
 use Rattle.wac_component.specs.Height.{height}
 use Rattle.wac_component.specs.Id.{Id}
 use Rattle.wac_component.specs.Key.{Key, Entry, Each, Stands, AllStand, item_keys, import_keys, optional_keys, resource_key, interface_key}
-use Rattle.wac_component.specs.Memo.{AddsPair, Remembered, memo_of}
+use Rattle.wac_aggregator_memo.specs.Memo.{AddsPair, Remembered, memo_of}
 use Rattle.wac_component.specs.Open.{open_next, import_next, OpenReaches, stay, step}
 use Rattle.wac_component.specs.Sound.{IsSound}
 use Rattle.wac_component.specs.declared.items.ItemKind.{ItemKind}
@@ -43,7 +43,7 @@ use Rattle.wac_aggregator_reasons.proofs.EntryAccounts.{IsMadeFrom, made_account
 use Rattle.wac_aggregator_reasons.proofs.SharedOrBelow.{adds_none, adds_then}
 use Rattle.wac_aggregator_reasons.proofs.Splitting.{walk_on}
 use Rattle.wac_aggregator_copies.specs.Copies.{IsState, MayCopy, IsBelowCopy, Copies}
-use Rattle.wac_component.specs.declared.memo.Memo.{Memo}
+use Rattle.wac_aggregator_memo.specs.declared.memo.Memo.{Memo}
 use Rattle.wac_aggregator_taking.specs.Takes.{shared_keys, shared_in, state_of, AreFiledIn, MayTake, AreWithin, LeadsToOwner, OwnersImported, IsOwnersImport, IsSharedFrom, IsOwnerImported, AreKnown, OnlyGrows, TakesBy, AreNear, Takes}
 use Rattle.wac_aggregator_taking.specs.declared.state.Merging.{Merging}
 use Rattle.wac_component.proofs.Adding.{Extends-with_entry}

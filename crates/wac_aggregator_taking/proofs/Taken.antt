@@ -6,8 +6,8 @@ use Rattle.wac_model.specs.ItemTree.{item, type_item}
 use Rattle.wac_component.specs.Collection.{DefinedContent, alias_of, composed, AliasContent, FuncContent, UseContent, Collection}
 use Rattle.wac_component.specs.Id.{Id}
 use Rattle.wac_component.specs.Key.{Key, Each, AllStand, value_keys, type_keys, item_keys, optional_keys, named_keys, use_keys, alias_keys, defined_keys, func_keys, defined_key, resource_key, func_key, interface_key, world_key, module_key}
-use Rattle.wac_component.specs.Memo.{memo_of}
-use Rattle.wac_component.specs.Renamed.{renamed_id, renamed_value, renamed_type, renamed_item, renamed_alias, renamed_use, renamed_defined, renamed_func, with_values}
+use Rattle.wac_aggregator_memo.specs.Memo.{memo_of}
+use Rattle.wac_aggregator_memo.specs.Renamed.{renamed_id, renamed_value, renamed_type, renamed_item, renamed_alias, renamed_use, renamed_defined, renamed_func, with_values}
 use Rattle.wac_component.specs.declared.items.ItemKind.{ItemKind}
 use Rattle.wac_component.specs.declared.items.ItemKind.TheVariants.{«Type» as OfType, Func, Instance, Component, Module, Value}
 use Rattle.wac_component.specs.declared.items.Type.{«Type» as TypeOf}

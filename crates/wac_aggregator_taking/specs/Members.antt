@@ -1,18 +1,16 @@
 -- What taking in does to interfaces as WIT gives them: each is taken in by
 -- the shared entry on its track.
 use Rattle.std.specs.Prelude.{◌≡◌, ◌⊎◌, IsSome, Some, Contains, List, map, Result, MatchResult}
-use Rattle.wac_model.specs.Text.{Text}
-use Rattle.wac_component.specs.Collection.{Collection, UseContent}
+use Rattle.wac_component.specs.Collection.{Collection}
 use Rattle.wac_component.specs.Id.{Id}
 use Rattle.wac_component.specs.Implicit.{HasIdentifier}
 use Rattle.wac_component.specs.Key.{interface_key}
 use Rattle.wac_component.specs.Reach.{IsAmong}
 use Rattle.wac_names.specs.Class.{Class, class_of}
-use Rattle.wac_aggregator_promises.specs.Entries.{ReachesByUses}
 use Rattle.wac_aggregator_promises.specs.Reason.{CallRefusal, mismatch, used_interface, used_name, cycle}
 use Rattle.wac_aggregator_promises.specs.Shared.{TakenIds, SharedEntries, AreShared, CannotTake}
 use Rattle.wac_aggregator_promises.specs.WitList.{AreWit}
-use Rattle.wac_component.specs.Memo.{memo_of}
+use Rattle.wac_aggregator_memo.specs.Memo.{memo_of}
 use Rattle.wac_aggregator_narrowing.specs.Laws.{IsArrowed}
 use Rattle.wac_aggregator_narrowing.specs.State.{IsOneWith}
 use Rattle.wac_aggregator_narrowing.specs.Traced.{Root, Arrows}
@@ -77,10 +75,3 @@ IsMemberRefusal f P taken e = (r : CallRefusal) → said e ≡ Some r → IsOfMe
 -- before, that is what is answered
 abbrev pub AnswersMembers : {T : Type 0} → Result T AggregateError → Collection → Merging → Merging → (Id → Type 0) → Type 0
 AnswersMembers answer f a b P = (taken : TakenIds) → AreWit f P → HasTakenIn a taken → HasAllOf f a taken → MatchResult answer (λ r. TakesMembers f a b P taken) (IsMemberRefusal f P taken)
-
--- the interface is reached by uses from one of these
-pub record IsUsedBy (f : Collection) (us : List (Text × UseContent)) (i : Id) : Type 0 where
-  pub name : Text
-  pub content : UseContent
-  pub among : Contains us (name, content)
-  pub walk : ReachesByUses f content.interface i

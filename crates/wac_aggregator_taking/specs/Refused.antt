@@ -21,7 +21,7 @@ use Rattle.wac_aggregator_reasons.specs.Trial.{IsTrial, IsAccounted, AreOpenItem
 use Rattle.wac_aggregator_errors.specs.declared.error.AggregateError.{AggregateError}
 use Rattle.wac_aggregator_errors.specs.declared.error.AggregateError.TheVariants.{Memory}
 use Rattle.wac_aggregator_errors.specs.Said.{said}
-use Rattle.wac_aggregator_errors.specs.Differ.{UsesDiffer}
+use Rattle.wac_aggregator_uses.specs.Differ.{UsesDiffer}
 use Rattle.wac_aggregator_taking.specs.Growing.{with_own, AreAllOpen, put_keys}
 use Rattle.wac_aggregator_taking.specs.Takes.{AreKnown, AreNear, TakesBelow, TakesKeys, state_of}
 use Rattle.wac_aggregator_taking.specs.declared.state.Merging.{Merging}

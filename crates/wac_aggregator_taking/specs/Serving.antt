@@ -6,12 +6,12 @@ use Rattle.wac_component.specs.Distinct.{HasDistinctNames}
 use Rattle.wac_component.specs.Entries.{uses_at, exports_at}
 use Rattle.wac_component.specs.Id.{Id}
 use Rattle.wac_component.specs.Key.{AllStand, interface_entry, interface_key, interface_keys}
-use Rattle.wac_component.specs.Memo.{memo_of}
-use Rattle.wac_component.specs.Renamed.{renamed_item, renamed_use, with_values}
+use Rattle.wac_aggregator_memo.specs.Memo.{memo_of}
+use Rattle.wac_aggregator_memo.specs.Renamed.{renamed_item, renamed_use, with_values}
 use Rattle.wac_component.specs.Sound.{IsSound}
 use Rattle.wac_merge.specs.Built.{uses_of_both}
 use Rattle.wac_merge.specs.Items.{ExternKinds, AreUnhidden}
-use Rattle.wac_aggregator_errors.specs.Uses.{UsesAgree}
+use Rattle.wac_aggregator_uses.specs.Uses.{UsesAgree}
 use Rattle.wac_aggregator_taking.specs.Growing.{AreMetWith}
 use Rattle.wac_aggregator_taking.specs.declared.state.Merging.{Merging}
 

@@ -1,16 +1,18 @@
 -- Steps of taking in, and what they leave to be done.
-use Rattle.std.specs.Prelude.{◌≡◌, ◌⊎◌, ◌++◌, ℕ, List, [], ◌∷◌, All, Option, Some, None, Result, MatchResult, map, slice_get}
+use Rattle.std.specs.Prelude.{◌≡◌, ◌<◌, ◌≤◌, ◌⊎◌, ◌++◌, ℕ, List, [], ◌∷◌, All, Option, Some, None, Result, MatchResult, map, slice_get}
 use Rattle.std.specs.declared.vec.Vec.{Vec}
 use Rattle.std.specs.declared.alloc.Global.{Global}
 use Rattle.wac_component.specs.Collection.{Collection, AliasContent, UseContent}
 use Rattle.wac_component.specs.Entries.{uses_at, exports_at, owner_at}
-use Rattle.wac_component.specs.EntryOrder.{HasOwn}
+use Rattle.wac_aggregator_memo.specs.EntryOrder.{HasOwn}
 use Rattle.wac_component.specs.Height.{keys_height}
 use Rattle.wac_component.specs.Id.{Id}
 use Rattle.wac_component.specs.Implicit.{HasIdentifier}
 use Rattle.wac_component.specs.Key.{Key, Each, Stands, AllStand, item_keys, named_keys, defined_key, resource_key, func_key, interface_key, world_key, module_key}
-use Rattle.wac_component.specs.Memo.{Remembered}
+use Rattle.wac_aggregator_memo.specs.Memo.{Remembered}
+use Rattle.wac_aggregator_memo.specs.Renamed.{renamed_item}
 use Rattle.wac_component.specs.Open.{OpenReaches}
+use Rattle.wac_component.specs.declared.items.ItemKind.{ItemKind}
 use Rattle.wac_component.specs.Reach.{IsAmong}
 use Rattle.wac_component.specs.Sound.{IsSound}
 use Rattle.wac_model.specs.Text.{Text}
@@ -127,6 +129,10 @@ pub record AreContentsNoted (f : Collection) (m : Remembered) (k : Key) : Type 0
   pub uses : AreUsesNoted f m (uses_at f k)
   pub exports : Each (HasOwn m) (named_keys item_keys (exports_at f k))
 
+-- what each item from an index on to before another names was taken in
+abbrev pub AreItemsNoted : Remembered → List ItemKind → ℕ → ℕ → Type 0
+AreItemsNoted m ks from to = (i : ℕ) (k : ItemKind) → from ≤ i → i < to → slice_get ks i ≡ Some k → Each (HasOwn m) (item_keys k)
+
 -- ---- from the start of a call on
 
 -- these ids of f, near to which own ones are, are being taken in: from a on, now at b
@@ -153,6 +159,11 @@ AnswersOnWay f near ks a b answer = MatchResult answer (λ _. AreUnderWay f near
 -- the same, with steps left that are due
 abbrev pub AnswersLeft : {T : Type 0} → Collection → List Key → List Key → Merging → Merging → List TakeStep → Result T AggregateError → Type 0
 AnswersLeft f near ks a b ss answer = MatchResult answer (λ _. AreUnderWay f near ks a b × All (IsStepDue f near ks a b) ss) (AreRefusedFrom f near ks a)
+
+-- what the item names was taken in, and the own item is of that
+pub record IsOwnItem (m : Remembered) (kind own : ItemKind) : Type 0 where
+  pub has : Each (HasOwn m) (item_keys kind)
+  pub renamed : own ≡ renamed_item m kind
 
 -- a turn from b to c, with these steps before and after it
 abbrev pub GoesOnTaking : {T : Type 0} → Collection → List Key → List Key → Merging → List TakeStep → Merging → List TakeStep → Result T AggregateError → Type 0

@@ -28,7 +28,7 @@ use Rattle.wac_aggregator_narrowing.specs.Taking.{AreMapped, AreTakenKeys, IsTak
 use Rattle.wac_aggregator_narrowing.specs.Values.{IfAny}
 use Rattle.wac_aggregator_reasons.specs.Split.{AddsSharedOrBelow}
 use Rattle.wac_aggregator_reasons.specs.Trial.{IsTrial, IsAccounted, IsOpenSource, StaysAccounted}
-use Rattle.wac_component.specs.Memo.{memo_of}
+use Rattle.wac_aggregator_memo.specs.Memo.{memo_of}
 use Rattle.wac_aggregator_imports.specs.Import.{ImportContent, import_of, import_at}
 use Rattle.wac_aggregator_taking.specs.declared.state.Merging.{Merging}
 

@@ -1,7 +1,7 @@
 //! Interfaces and worlds all of whose parts were taken in.
 
 ghost use Rattle.std.specs.Prelude.{◌≡◌, [], ◌∷◌, None, Some, MatchResult, string_bytes};
-ghost use Rattle.std.specs.Option.{option_map};
+ghost use Rattle.std.specs.Option.{option_and_then, option_map};
 ghost use Rattle.wac_component.specs.Content.{named, use_content};
 ghost use Rattle.wac_component.specs.Entries.{identifier_at};
 ghost use Rattle.wac_component.specs.Key.{Stands, interface_key, world_key};
@@ -27,9 +27,11 @@ pub(crate) fn put_interface(
     types: &Types,
     id: InterfaceId,
     class: Option<NameClass>,
+    shared: &Option<InterfaceId>,
     interface: Interface,
 ) -> Result<InterfaceId, AggregateError>
     requires state { MayTake types.now state.old }
+    requires shared { shared.now ≡ option_and_then (shared_in state.old.shared.entries) class }
     requires named { option_map string_bytes interface.id ≡ identifier_at types.now (interface_key id) }
     requires class { class ≡ option_map class_of (identifier_at types.now (interface_key id)) }
     requires taken { MayPut types.now state.old id (named use_content interface.uses.entries) (named (λ k. k) interface.exports.entries) }
@@ -44,7 +46,7 @@ pub(crate) fn put_interface(
         } = interface;
         return put_plain(state, types, id, uses, exports);
     };
-    match state.shared.get(&class).copied() {
+    match *shared {
         Some(own) => {
             let Interface {
                 id: _,

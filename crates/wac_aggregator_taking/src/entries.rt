@@ -2,9 +2,9 @@
 
 ghost use Rattle.std.specs.Prelude.{◌≡◌, [], ◌∷◌, None, IsTrue, IfOk, OnOk, MatchResult};
 ghost use Rattle.wac_component.specs.Entries.{owner_at};
-ghost use Rattle.wac_component.specs.EntryOrder.{HasOwn};
+ghost use Rattle.wac_aggregator_memo.specs.EntryOrder.{HasOwn};
 ghost use Rattle.wac_component.specs.Key.{Each, Stands, next, defined_key, resource_key, func_key, module_key};
-ghost use Rattle.wac_component.specs.Memo.{memo_of};
+ghost use Rattle.wac_aggregator_memo.specs.Memo.{memo_of};
 ghost use Rattle.wac_component.specs.Naming.{key_of};
 ghost use Rattle.wac_aggregator_taking.specs.Members.{AnswersMembers};
 ghost use Rattle.wac_aggregator_taking.specs.Refused.{MayRefuse};
@@ -17,8 +17,9 @@ use super::state::Merging;
 use super::steps::{TakeStep, has_all, push_before, push_ids, push_step};
 use std::alloc::{AllocError, Global};
 use wac_aggregator_errors::AggregateError;
+use wac_aggregator_memo::Memo;
 use wac_component::valid::add_valid_module_type;
-use wac_component::{DefinedTypeId, EntryId, FuncTypeId, Memo, ModuleTypeId, ResourceId, Types};
+use wac_component::{DefinedTypeId, EntryId, FuncTypeId, ModuleTypeId, ResourceId, Types};
 
 // Whether all that an entry names was taken in; if not, puts the step of the entry last again,
 // and those of what it names behind it.
@@ -135,7 +136,8 @@ pub(crate) fn make_func(
     requires state { MayTake types.now state.old }
     requires parts { Each (HasOwn (memo_of state.old.taken)) (next types.now (func_key id)) }
     requires new { memo_of state.old.taken (func_key id) ≡ None }
-    ensures { OnOk result (TakesBelow [] types.now state.old state.new (func_key id)) }
+    ensures taken { OnOk result (TakesBelow [] types.now state.old state.new (func_key id)) }
+    ensures noted { OnOk result (HasOwn (memo_of state.new.taken) (func_key id)) }
 {
     types.sound();
     let renamed = state.taken.renamed_func(&types[id])?;

@@ -20,7 +20,8 @@ use super::meeting::meet_own;
 use super::state::Merging;
 use indexmap::IndexMap;
 use std::alloc::{AllocError, Global};
-use wac_aggregator_errors::{AggregateError, MergeFrame, check_uses, check_uses_of, mismatch};
+use wac_aggregator_errors::{AggregateError, MergeFrame, mismatch};
+use wac_aggregator_uses::{check_uses, check_uses_of};
 use wac_component::laws::names_in_an_interface_are_distinct;
 use wac_component::{
     InterfaceId, ItemKind, Type, Types, UsedType, contents_ids, lead_to, put_back, take_out,
@@ -56,16 +57,17 @@ fn place_of(state: &Merging, types: &Types, name: &String) -> Result<Place, Allo
 
 // Whether the interface that was handed in has an identifier on the track of this one.
 fn is_handed_in(state: &Merging, types: &Types, name: &String) -> Result<bool, AllocError> {
-    let Some(id) = state.handed_in else {
+    let Some(handed_in) = &state.handed_in else {
         return Ok(false);
     };
+    let id = handed_in.interface();
     if !types.contains(Type::Interface(id)) {
         return Ok(false);
     }
-    let Some(handed_in) = &types[id].id else {
+    let Some(identifier) = &types[id].id else {
         return Ok(false);
     };
-    are_semver_compatible(state.alloc(), handed_in.as_str(), name.as_str())
+    are_semver_compatible(state.alloc(), identifier.as_str(), name.as_str())
 }
 
 // Merges an interface of which all parts were taken in into the shared entry on its track, which

@@ -6,7 +6,8 @@ ghost use Rattle.wac_component.specs.Entries.{identifier_at};
 ghost use Rattle.wac_component.specs.Key.{Stands, interface_key};
 ghost use Rattle.wac_names.specs.Class.{class_of};
 
-use std::alloc::{AllocError, Global};
+use super::state::Merging;
+use std::alloc::AllocError;
 use wac_component::{InterfaceId, Types};
 use wac_names::NameClass;
 
@@ -21,7 +22,7 @@ pub(crate) fn identifier(types: &Types, id: InterfaceId) -> Result<String, Alloc
 
 // The class of an identifier, if there is one.
 pub(crate) fn class_of_identifier(
-    alloc: Global,
+    state: &Merging,
     identifier: &Option<String>,
 ) -> Result<Option<NameClass>, AllocError>
     ensures { IfOk result (λ c. c ≡ option_map class_of (option_map string_bytes identifier.now)) }
@@ -29,6 +30,16 @@ pub(crate) fn class_of_identifier(
     let Some(name) = identifier else {
         return Ok(None);
     };
-    let class = NameClass::of(alloc, name.as_str())?;
+    let class = class_of_name(state, name.as_str())?;
     Ok(Some(class))
+}
+
+// The class of a name: it was read already, if an interface was handed in under the name.
+fn class_of_name(state: &Merging, name: &str) -> Result<NameClass, AllocError>
+    ensures { IfOk result (λ c. c ≡ class_of name.now) }
+{
+    match &state.handed_in {
+        Some(handed_in) => handed_in.class_of(state.alloc(), name),
+        None => NameClass::of(state.alloc(), name),
+    }
 }

@@ -3,13 +3,13 @@
 ghost use Rattle.std.specs.Prelude.{◌≡◌, ◌<◌, [], ◌∷◌, None, Some, IsTrue, IfErr, IfOk, OnOk, MatchResult, length, slice_get};
 ghost use Rattle.std.specs.Option.{option_map};
 ghost use Rattle.wac_component.specs.Content.{named, types_of, use_content};
-ghost use Rattle.wac_component.specs.EntryOrder.{HasOwn};
+ghost use Rattle.wac_aggregator_memo.specs.EntryOrder.{HasOwn};
 ghost use Rattle.wac_component.specs.Key.{Each, Stands, AllStand, item_keys, named_keys, use_keys, interface_key};
-ghost use Rattle.wac_component.specs.Memo.{memo_of};
+ghost use Rattle.wac_aggregator_memo.specs.Memo.{memo_of};
 ghost use Rattle.wac_aggregator_promises.specs.Entries.{ReachesByUses};
 ghost use Rattle.wac_aggregator_taking.specs.Members.{AnswersMembers};
 ghost use Rattle.wac_aggregator_taking.specs.Refused.{AnswersBelow, AreRefusedUses, MayRefuse, IsUnidentified, SaysOfUse};
-ghost use Rattle.wac_aggregator_taking.specs.Steps.{IsReachedFrom, AreNext, IsUseNoted, AreUsesNoted, AreContentsNoted};
+ghost use Rattle.wac_aggregator_taking.specs.Steps.{IsReachedFrom, AreItemsNoted, AreNext, IsUseNoted, AreUsesNoted, AreContentsNoted};
 ghost use Rattle.wac_aggregator_taking.specs.Takes.{TakesBelow, MayTake, IsNear, near_keys, Takes};
 ghost use Rattle.wac_aggregator_taking.specs.declared.state.Merging.{Merging};
 
@@ -17,7 +17,7 @@ use super::entering::put_interface;
 use super::identity::class_of_identifier;
 use super::near::{near_interface, nearest_of, nth_extern};
 use super::ready::{has_externs, take_ready};
-use super::serving::serving_entry;
+use super::serving::{serving_entry, shared_entry};
 use super::state::Merging;
 use super::steps::{
     TakeStep, alike_step, exports_step, push_before, push_item, push_step, uses_step,
@@ -25,7 +25,8 @@ use super::steps::{
 use indexmap::IndexMap;
 use std::alloc::AllocError;
 use wac_aggregator_errors::AggregateError;
-use wac_component::{InterfaceId, ItemKind, Memo, Types, UsedType};
+use wac_aggregator_memo::Memo;
+use wac_component::{InterfaceId, ItemKind, Types, UsedType};
 
 // Takes in what an interface uses at an index, and goes on to the next; then to its exports, with
 // the nearest interface near to it.
@@ -57,7 +58,7 @@ pub(crate) fn take_uses(
     }
     let nearest = nearest_of(state, interface, *near)?;
     if nearest.is_none() {
-        return take_exports(state, types, steps, id, &None, 0);
+        return take_new_exports(state, types, steps, id, &None, 0);
     }
     push_step(steps, alike_step(id, &nearest))?;
     Ok(())
@@ -123,6 +124,26 @@ pub(crate) fn take_exports(
     if state.taken.interface(id).is_some() {
         return Ok(());
     }
+    take_new_exports(state, types, steps, id, near, next)
+}
+
+// The same of an interface that wasn't taken in.
+fn take_new_exports(
+    state: &mut Merging,
+    types: &Types,
+    steps: &mut Vec<TakeStep>,
+    id: InterfaceId,
+    near: &Option<InterfaceId>,
+    next: usize,
+) -> Result<(), AggregateError>
+    requires source { Stands types.now (interface_key id) }
+    requires state { MayTake types.now state.old }
+    requires near { IsNear state.old near.now }
+    requires new { memo_of state.old.taken (interface_key id) ≡ None }
+    ensures taken { AnswersBelow (near_keys near.now) types.now state.old state.new (interface_key id) result }
+    ensures members { AnswersMembers result types.now state.old state.new (IsReachedFrom types.now (interface_key id)) }
+    ensures steps { OnOk result (AreNext types.now state.new (interface_key id) near.now steps.old.items steps.new.items) }
+{
     types.sound();
     let interface = &types[id];
     let at = take_ready(state, types, &interface.exports, next)?;
@@ -132,24 +153,36 @@ pub(crate) fn take_exports(
         push_item(steps, &nth_extern(&interface.exports, at), &below)?;
         return Ok(());
     }
-    if !has_contents(&state.taken, types, &interface.uses, &interface.exports) {
+    if !has_contents(
+        &state.taken,
+        types,
+        &interface.uses,
+        &interface.exports,
+        next,
+    ) {
         push_step(steps, uses_step(id, near, 0))?;
         return Ok(());
     }
     make_interface(state, types, id)
 }
 
-// Whether all that an interface or a world uses and exports was taken in.
+// Whether all that an interface or a world uses and exports was taken in, where what it exports from
+// an index on was.
 pub(crate) fn has_contents(
     taken: &Memo,
     types: &Types,
     uses: &IndexMap<String, UsedType>,
     exports: &IndexMap<String, ItemKind>,
+    next: usize,
 ) -> bool
     requires source { AllStand types.now (named_keys use_keys (named use_content uses.now.entries)) }
+    requires noted { AreItemsNoted (memo_of taken.now) (types_of exports.now.entries) next (length exports.now.entries) }
     ensures uses { IsTrue result → AreUsesNoted types.now (memo_of taken.now) (named use_content uses.now.entries) }
     ensures exports { IsTrue result → Each (HasOwn (memo_of taken.now)) (named_keys item_keys (named (λ k. k) exports.now.entries)) }
 {
+    if next == 0 {
+        return has_uses(taken, types, uses);
+    }
     has_externs(taken, exports) && has_uses(taken, types, uses)
 }
 
@@ -190,13 +223,14 @@ fn make_interface(state: &mut Merging, types: &Types, id: InterfaceId) -> Result
     ensures members { AnswersMembers result types.now state.old state.new (ReachesByUses types.now id) }
 {
     types.sound();
-    let class = class_of_identifier(state.alloc(), &types[id].id)?;
-    if let Some(own) = serving_entry(state, &class, types, id) {
+    let class = class_of_identifier(state, &types[id].id)?;
+    let shared = shared_entry(state, &class);
+    if let Some(own) = serving_entry(state, &shared, types, id) {
         state.taken.put_interface(id, own)?;
         return Ok(());
     }
     let interface = state.taken.renamed_interface(&types[id])?;
-    match put_interface(state, types, id, class, interface) {
+    match put_interface(state, types, id, class, &shared, interface) {
         Ok(_) => Ok(()),
         Err(refusal) => Err(refusal),
     }

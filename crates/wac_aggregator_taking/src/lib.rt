@@ -4,6 +4,7 @@
 mod entering;
 mod entries;
 mod growing;
+mod handed_in;
 mod identity;
 mod interfaces;
 mod meeting;
@@ -17,6 +18,7 @@ mod steps;
 mod worlds;
 
 pub use growing::put_apart;
+pub use handed_in::HandedIn;
 pub use meeting::meet_own;
 pub use state::Merging;
 pub use steps::take_item;

@@ -30,7 +30,7 @@ pub(crate) fn nearest_of(
     if !asks_near(&interface.exports) {
         return Ok(None);
     }
-    let class = class_of_identifier(state.alloc(), &interface.id)?;
+    let class = class_of_identifier(state, &interface.id)?;
     Ok(nearest(state, &class, near))
 }
 

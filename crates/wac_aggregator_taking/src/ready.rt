@@ -1,11 +1,12 @@
 //! What needs no step: all that is named was taken in, or is made at once.
 
-ghost use Rattle.std.specs.Prelude.{◌<◌, [], IsTrue, OnOk};
-ghost use Rattle.wac_component.specs.Content.{named};
-ghost use Rattle.wac_component.specs.EntryOrder.{HasOwn};
+ghost use Rattle.std.specs.Prelude.{◌<◌, [], IsTrue, IfOk, OnOk};
+ghost use Rattle.wac_component.specs.Content.{named, types_of};
+ghost use Rattle.wac_aggregator_memo.specs.EntryOrder.{HasOwn};
 ghost use Rattle.wac_component.specs.Height.{keys_height};
 ghost use Rattle.wac_component.specs.Key.{Each, Stands, AllStand, item_keys, value_keys, named_keys, next, func_key};
-ghost use Rattle.wac_component.specs.Memo.{memo_of};
+ghost use Rattle.wac_aggregator_memo.specs.Memo.{memo_of};
+ghost use Rattle.wac_aggregator_taking.specs.Steps.{AreItemsNoted};
 ghost use Rattle.wac_aggregator_taking.specs.Takes.{TakesKeys, TakesBelow, MayTake, Takes, OnlyGrows};
 
 use super::entries::make_func;
@@ -13,7 +14,8 @@ use super::near::nth_extern;
 use super::state::Merging;
 use indexmap::IndexMap;
 use std::alloc::AllocError;
-use wac_component::{FuncTypeId, ItemKind, Memo, Type, Types, ValueType};
+use wac_aggregator_memo::Memo;
+use wac_component::{FuncTypeId, ItemKind, Type, Types, ValueType};
 
 // Takes in what items from an index on name, as long as that needs no step. Says which item needs
 // one, or how many there are.
@@ -27,6 +29,7 @@ pub(crate) fn take_ready(
     requires state { MayTake types.now state.old }
     ensures taken { OnOk result (TakesKeys [] types.now state.old state.new (named_keys item_keys (named (λ k. k) externs.now.entries)) (λ t. Unit {0})) }
     ensures grows { OnOk result (OnlyGrows types.now state.old state.new) }
+    ensures noted { IfOk result (AreItemsNoted (memo_of state.new.taken) (types_of externs.now.entries) next) }
 {
     for i in next..externs.len() {
         if !is_ready(state, types, nth_extern(externs, i))? {
@@ -42,6 +45,7 @@ fn is_ready(state: &mut Merging, types: &Types, kind: ItemKind) -> Result<bool, 
     requires state { MayTake types.now state.old }
     ensures taken { OnOk result (Takes types.now state.old state.new (keys_height types.now (item_keys kind)) (item_keys kind) (λ t. Unit {0})) }
     ensures grows { OnOk result (OnlyGrows types.now state.old state.new) }
+    ensures noted { IfOk result (λ ready. IsTrue ready → Each (HasOwn (memo_of state.new.taken)) (item_keys kind)) }
 {
     match kind {
         ItemKind::Func(id) => is_func_ready(state, types, id),
@@ -59,6 +63,7 @@ pub(crate) fn is_func_ready(
     requires state { MayTake types.now state.old }
     ensures taken { OnOk result (TakesBelow [] types.now state.old state.new (func_key id)) }
     ensures grows { OnOk result (OnlyGrows types.now state.old state.new) }
+    ensures noted { IfOk result (λ ready. IsTrue ready → HasOwn (memo_of state.new.taken) (func_key id)) }
 {
     if state.taken.func(id).is_some() {
         return Ok(true);

@@ -1,18 +1,19 @@
 //! Shared entries that serve as they stand what is merged into them.
 
 ghost use Rattle.std.specs.Prelude.{◌≡◌, Some, IfSome, IsTrue, string_bytes};
+ghost use Rattle.std.specs.Option.{option_and_then};
 ghost use Rattle.std.specs.Str.{bytes_eq};
 ghost use Rattle.wac_model.specs.Order.{Fits};
 ghost use Rattle.wac_model.specs.Text.{lookup};
 ghost use Rattle.wac_component.specs.Content.{named, use_content};
+ghost use Rattle.wac_component.specs.Id.{Id};
 ghost use Rattle.wac_component.specs.Key.{Stands, AllStand, item_keys, interface_key, named_keys, use_keys};
 ghost use Rattle.wac_component.specs.Tree.{item_tree};
 ghost use Rattle.wac_component.specs.declared.items.ItemKind.{ItemKind as Kind};
 ghost use Rattle.wac_checker.specs.Compared.{KnowsTruly};
 ghost use Rattle.wac_core_merge.specs.Names.{with_new};
-ghost use Rattle.wac_names.specs.Class.{Class};
 ghost use Rattle.wac_merge.specs.Items.{AreUnhidden, extern_keys, extern_list};
-ghost use Rattle.wac_aggregator_errors.specs.Uses.{UsesAgree};
+ghost use Rattle.wac_aggregator_uses.specs.Uses.{UsesAgree};
 ghost use Rattle.wac_aggregator_taking.specs.Growing.{AreMetWith};
 ghost use Rattle.wac_aggregator_taking.specs.Serving.{AreUsesKept, IsServing, own_exports, own_items, own_used, own_uses};
 ghost use Rattle.wac_aggregator_taking.specs.Takes.{MayTake, shared_in};
@@ -20,31 +21,41 @@ ghost use Rattle.wac_aggregator_taking.specs.Takes.{MayTake, shared_in};
 use super::state::Merging;
 use indexmap::IndexMap;
 use std::alloc::Global;
-use wac_aggregator_errors::{check_uses, check_uses_of};
+use wac_aggregator_uses::{check_uses, check_uses_of};
 use wac_checker::Compared;
 use wac_component::laws::names_in_an_interface_are_distinct;
 use wac_component::{InterfaceId, ItemKind, Types, UsedType};
 use wac_merge::extern_named;
 use wac_names::NameClass;
 
-// The shared entry of a class that serves an interface whose parts were taken in, if there is one.
-pub(crate) fn serving_entry(
-    state: &Merging,
-    class: &Option<NameClass>,
-    types: &Types,
-    id: InterfaceId,
-) -> Option<InterfaceId>
-    requires state { MayTake types.now state.now }
-    requires source { Stands types.now (interface_key id) }
-    requires uses { AllStand state.now.types (named_keys use_keys (own_uses types.now state.now id)) }
-    requires exports { AllStand state.now.types (extern_keys (own_exports types.now state.now id)) }
-    ensures class { IfSome result (λ own. (q : Class) × (class.now ≡ Some q) × (shared_in state.now.shared.entries q ≡ Some own)) }
-    ensures serves { IfSome result (λ own. IsServing state.now.types own (own_uses types.now state.now id) (own_exports types.now state.now id)) }
+// The shared entry of a class, if there is one.
+pub(crate) fn shared_entry(state: &Merging, class: &Option<NameClass>) -> Option<InterfaceId>
+    ensures { result ≡ option_and_then (shared_in state.now.shared.entries) class.now }
 {
     let Some(class) = class else {
         return None;
     };
-    let own = state.shared.get(class).copied()?;
+    state.shared.get(class).copied()
+}
+
+// The shared entry on an interface's track, if it serves that, whose parts were taken in.
+pub(crate) fn serving_entry(
+    state: &Merging,
+    own: &Option<InterfaceId>,
+    types: &Types,
+    id: InterfaceId,
+) -> Option<InterfaceId>
+    requires state { MayTake types.now state.now }
+    requires own { (i : Id) → own.now ≡ Some i → Stands state.now.types (interface_key i) }
+    requires source { Stands types.now (interface_key id) }
+    requires uses { AllStand state.now.types (named_keys use_keys (own_uses types.now state.now id)) }
+    requires exports { AllStand state.now.types (extern_keys (own_exports types.now state.now id)) }
+    ensures own { IfSome result (λ i. own.now ≡ Some i) }
+    ensures serves { IfSome result (λ own. IsServing state.now.types own (own_uses types.now state.now id) (own_exports types.now state.now id)) }
+{
+    let Some(own) = *own else {
+        return None;
+    };
     if serves(state, own, types, id) {
         return Some(own);
     }

@@ -1,9 +1,11 @@
 //! The state of merging.
 
+use super::handed_in::HandedIn;
 use indexmap::IndexMap;
 use std::alloc::Global;
 use wac_aggregator_imports::ImportList;
-use wac_component::{InterfaceId, Memo, Types};
+use wac_aggregator_memo::Memo;
+use wac_component::{InterfaceId, Types};
 use wac_mismatch::SubtypeCheck;
 use wac_names::NameClass;
 
@@ -23,7 +25,7 @@ pub struct Merging {
     /// The direction in which a mismatch is told.
     pub check: SubtypeCheck,
     /// The interface that was handed in, if it is one.
-    pub handed_in: Option<InterfaceId>,
+    pub handed_in: Option<HandedIn>,
 }
 
 // By hand, as of `Types`.

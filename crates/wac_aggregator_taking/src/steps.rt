@@ -1,16 +1,16 @@
 //! Taking in, step by step: an entry after all that it names, without the machine's stack.
 
 ghost use Rattle.std.specs.Prelude.{◌≡◌, ◌++◌, ◌⊎◌, [], ◌∷◌, All, None, map, IsTrue, IfOk, IfSome, OnOk, MatchResult};
-ghost use Rattle.wac_component.specs.EntryOrder.{HasOwn};
+ghost use Rattle.wac_aggregator_memo.specs.EntryOrder.{HasOwn};
 ghost use Rattle.wac_component.specs.Id.{Id};
 ghost use Rattle.wac_component.specs.Key.{Each, AllStand, item_keys, value_keys, interface_key};
-ghost use Rattle.wac_component.specs.Memo.{memo_of};
+ghost use Rattle.wac_aggregator_memo.specs.Memo.{memo_of};
 ghost use Rattle.wac_component.specs.Naming.{key_of};
 ghost use Rattle.wac_component.specs.declared.items.ItemKind.TheVariants.{Instance};
 ghost use Rattle.wac_aggregator_promises.specs.Entries.{ReachesByUses};
 ghost use Rattle.wac_aggregator_taking.specs.Members.{AnswersMembers};
 ghost use Rattle.wac_aggregator_taking.specs.Refused.{AnswersBelow, IsRefusedBy};
-ghost use Rattle.wac_aggregator_taking.specs.Steps.{AnswersOnWay, step_key, step_near, MayStep, IsReachedFrom, IsStepOf, ArePut, AreNext, AnswersLeft, GoesOnTaking};
+ghost use Rattle.wac_aggregator_taking.specs.Steps.{AnswersOnWay, IsOwnItem, step_key, step_near, MayStep, IsReachedFrom, IsStepOf, ArePut, AreNext, AnswersLeft, GoesOnTaking};
 ghost use Rattle.wac_aggregator_taking.specs.Takes.{TakesItemAs, MayTake, IsNear, near_keys};
 
 use super::entries::{take_defined, take_func, take_module, take_resource};
@@ -22,9 +22,10 @@ use super::state::Merging;
 use super::worlds::{take_world_exports, take_world_uses};
 use std::alloc::AllocError;
 use wac_aggregator_errors::AggregateError;
+use wac_aggregator_memo::Memo;
 use wac_component::{
-    DefinedTypeId, EntryId, FuncTypeId, InterfaceId, ItemKind, Memo, ModuleTypeId, ResourceId,
-    Type, Types, ValueType, WorldId,
+    DefinedTypeId, EntryId, FuncTypeId, InterfaceId, ItemKind, ModuleTypeId, ResourceId, Type,
+    Types, ValueType, WorldId,
 };
 
 // What is to be taken in, or gone on with. To an interface another one may be near, by which it
@@ -65,30 +66,32 @@ pub fn take_item(
     ensures members { (i : Id) → kind ≡ Instance i → AnswersMembers result types.now state.old state.new (ReachesByUses types.now i) }
 {
     let mut steps = Vec::new(state.alloc());
-    take_steps(state, types, &mut steps, &kind, &near)?;
-    Ok(state.taken.renamed_item(kind))
+    take_steps(state, types, &mut steps, &kind, &near)
 }
 
-// Takes steps until what the item names was taken in. Each turn takes a step to its end or adds one:
-// memory ends long before the turns do.
+// Takes steps until what the item names was taken in, and answers the own item. Each turn takes a
+// step to its end or adds one: memory ends long before the turns do.
 fn take_steps(
     state: &mut Merging,
     types: &Types,
     steps: &mut Vec<TakeStep>,
     kind: &ItemKind,
     near: &Option<InterfaceId>,
-) -> Result<(), AggregateError>
+) -> Result<ItemKind, AggregateError>
     requires source { AllStand types.now (item_keys kind.now) }
     requires state { MayTake types.now state.old }
     requires near { IsNear state.old near.now }
     requires no_steps { steps.old.items ≡ [] }
     ensures way { AnswersOnWay types.now (near_keys near.now) (item_keys kind.now) state.old state.new result }
-    ensures has { OnOk result (Each (HasOwn (memo_of state.new.taken)) (item_keys kind.now)) }
+    ensures own { IfOk result (IsOwnItem (memo_of state.new.taken) kind.now) }
 {
     types.sound();
     match take_first(state, types, steps, kind, near) {
         Ok(()) => {}
         Err(refusal) => return Err(refusal),
+    }
+    if let Some(own) = own_instance(&state.taken, kind) {
+        return Ok(own);
     }
     for _turn in 0..u64::MAX {
         let done = match turn(state, types, steps, kind, near) {
@@ -96,10 +99,21 @@ fn take_steps(
             Err(refusal) => return Err(refusal),
         };
         if done {
-            return Ok(());
+            return Ok(state.taken.renamed_item(*kind));
         }
     }
     Err(AggregateError::Memory)
+}
+
+// The own item of an instance, once that was taken in: mostly the first step is enough for it.
+fn own_instance(taken: &Memo, kind: &ItemKind) -> Option<ItemKind>
+    ensures { IfSome result (IsOwnItem (memo_of taken.now) kind.now) }
+{
+    let ItemKind::Instance(id) = kind else {
+        return None;
+    };
+    let own = taken.interface(*id)?;
+    Some(ItemKind::Instance(own))
 }
 
 // Takes the first step of an item, if it names an entry. Most items are taken in by it, and no list

@@ -2,7 +2,7 @@
 
 ghost use Rattle.std.specs.Prelude.{◌≡◌, [], ◌∷◌, None, OnOk, MatchResult};
 ghost use Rattle.wac_component.specs.Key.{Stands, world_key};
-ghost use Rattle.wac_component.specs.Memo.{memo_of};
+ghost use Rattle.wac_aggregator_memo.specs.Memo.{memo_of};
 ghost use Rattle.wac_aggregator_taking.specs.Members.{AnswersMembers};
 ghost use Rattle.wac_aggregator_taking.specs.Refused.{MayRefuse};
 ghost use Rattle.wac_aggregator_taking.specs.Steps.{IsReachedFrom, AreNext, AreContentsNoted};
@@ -71,7 +71,7 @@ pub(crate) fn take_world_exports(
         push_item(steps, &nth_extern(&world.exports, at), &None)?;
         return Ok(());
     }
-    if !has_contents(&state.taken, types, &world.uses, &world.exports) {
+    if !has_contents(&state.taken, types, &world.uses, &world.exports, next) {
         push_step(steps, TakeStep::WorldUses(id, 0))?;
         return Ok(());
     }

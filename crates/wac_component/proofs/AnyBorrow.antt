@@ -19,10 +19,6 @@ or_true : (a : Bool) → (a || true) ≡ true
 or_true true = refl
 or_true false = refl
 
-or_false : (a : Bool) → (a || false) ≡ a
-or_false true = refl
-or_false false = refl
-
 or_assoc : (a b d : Bool) → ((a || b) || d) ≡ (a || (b || d))
 or_assoc true b d = refl
 or_assoc false b d = refl
@@ -31,9 +27,6 @@ module _ (f : ValueType → ValueTree) where
   -- a borrowed handle stands in one of the types
   abbrev pub any_borrows : List ValueType → Bool
   any_borrows vs = have_borrow (parts_of (map f vs))
-
-  pub any_borrows-one : (v : ValueType) → any_borrows (v ∷ []) ≡ has_borrow (f v)
-  any_borrows-one v = or_false (has_borrow (f v))
 
   pub any_borrows-append : (vs ws : List ValueType) → any_borrows (vs ++ ws) ≡ (any_borrows vs || any_borrows ws)
   any_borrows-append [] ws = refl

@@ -48,9 +48,6 @@ use-stands c (e ∷ es) (suc i) u at h = use-stands c es i u at h.1
 pub identifier-entry : (c : Collection) (i : Id) (e : InterfaceContent) → slice_get c.interfaces i.index ≡ Some e → identifier c i ≡ e.id
 identifier-entry c i e at = ap (option_and_then (λ x. x.id)) at
 
-pub used_by_import-entry : (c : Collection) (i : Id) (e : InterfaceContent) → slice_get c.interfaces i.index ≡ Some e → used_by_import c (Instance i) ≡ used_by e.uses
-used_by_import-entry c i e at = ap (λ o. option_map_or (λ x. used_by x.uses) o []) at
-
 -- what a map shows once an instance is inserted
 pub instances-insert : (es : List (Bor Text × ItemKind)) (k : Bor Text) (v : ItemKind) → instances (insert_entry (λ x y. bytes_eq x.now y.now) es k v) ≡ insert_entry bytes_eq (instances es) k.now v
 instances-insert [] k v = refl

@@ -7,13 +7,12 @@ use Rattle.std.specs.Option.{option_map}
 use Rattle.std.specs.declared.string.String.{String}
 use Rattle.std.specs.declared.alloc.Global.{Global}
 use Rattle.wac_component.specs.Content.{named, types_of, case_types}
-use Rattle.wac_component.specs.Key.{Key, named_keys, optional_keys, item_keys, type_keys, value_keys, defined_keys}
+use Rattle.wac_component.specs.Key.{Key, named_keys, optional_keys, item_keys, value_keys, defined_keys}
 use Rattle.wac_component.specs.Parts.{placed, places_keys, place_keys, members_of}
 use Rattle.wac_component.specs.declared.items.ValueType.{ValueType}
 use Rattle.wac_component.specs.declared.items.ItemKind.{ItemKind}
-use Rattle.wac_component.specs.declared.items.ItemKind.TheVariants.{«Type» as OfType, Func, Instance, Component, Module, Value}
+use Rattle.wac_component.specs.declared.items.ItemKind.TheVariants.{Value}
 use Rattle.wac_component.specs.Collection.{DefinedContent, alias_of, composed}
-use Rattle.wac_component.specs.Items.{type_of}
 use Rattle.wac_component.proofs.Lists.{slice_get-map, append_nil}
 
 -- what stands at a place of a list stands there in what is made of it
@@ -79,15 +78,6 @@ drop-past (x ∷ xs) (suc i) l = drop-past xs i (omega arith)
 
 pub listed_all : {X A : Type 0} (f : X → List A) (xs : List X) (i : ℕ) → length xs ≤ i → (given all : List A) → given ++ flat_map f (drop i xs) ≡ all → given ≡ all
 listed_all f xs i l given all so_far = sym (append_nil given) ∙ ap (λ ys. given ++ flat_map f ys) (sym (drop-past xs i l)) ∙ so_far
-
--- the item that an item is as a type has its ids
-pub type_keys-type_of : (k : ItemKind) → type_keys (type_of k) ≡ item_keys k
-type_keys-type_of (OfType t) = refl
-type_keys-type_of (Func f) = refl
-type_keys-type_of (Instance i) = refl
-type_keys-type_of (Component w) = refl
-type_keys-type_of (Module m) = refl
-type_keys-type_of (Value v) = refl
 
 -- the ids in a list that stands alone
 pub alone_keys : (ps : List (Option ItemKind)) → places_keys (ps ++ None ∷ None ∷ None ∷ None ∷ []) ≡ places_keys ps

@@ -4,7 +4,7 @@ use denote.Param.Always.{always_mut, mut_next}
 use Rattle.std.specs.Fn.{Mut, Takes}
 use Rattle.std.specs.Borrow.{Bor}
 use Rattle.std.specs.List.{flat_map}
-use Rattle.std.specs.Option.{option_to_list, option_map}
+use Rattle.std.specs.Option.{option_map}
 use Rattle.std.specs.declared.string.String.{String}
 use Rattle.std.specs.declared.alloc.Global.{Global}
 use Rattle.wac_model.specs.Text.{Text}
@@ -103,10 +103,6 @@ append-nil (x ∷ xs) = ap (λ ys. x ∷ ys) (append-nil xs)
 append-assoc : (xs ys zs : List Id) → ((xs ++ ys) ++ zs) ≡ (xs ++ (ys ++ zs))
 append-assoc [] ys zs = refl
 append-assoc (x ∷ xs) ys zs = ap (λ ts. x ∷ ts) (append-assoc xs ys zs)
-
-pub optional_ids-alone : (t : Option ValueType) → flat_map own_id (option_to_list t) ≡ optional_ids t
-optional_ids-alone None = refl
-optional_ids-alone (Some v) = append-nil (own_id v)
 
 pub flat_map-cases : (es : List (String Global × Option ValueType)) → flat_map own_id (case_types es) ≡ flat_map optional_ids (types_of es)
 flat_map-cases [] = refl

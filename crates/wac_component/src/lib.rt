@@ -12,10 +12,7 @@ pub mod implicit;
 pub mod interfaces;
 pub mod items;
 pub mod laws;
-pub mod memo;
-pub mod order;
 mod parts;
-pub mod renamed;
 pub mod resources;
 pub mod valid;
 pub mod visits;
@@ -31,6 +28,5 @@ pub use ids::{DefinedTypeId, FuncTypeId, InterfaceId, ModuleTypeId, ResourceId, 
 pub use implicit::TargetError;
 pub use interfaces::{Interface, UsedType};
 pub use items::{ItemKind, Type, ValueType};
-pub use memo::Memo;
 pub use resources::{Resource, ResourceAlias};
 pub use worlds::{ExternKind, World};

@@ -251,10 +251,6 @@ module _ {K V : Type 0} (eq : K → K → Bool) (f : Interning K) (same : IsEqui
 -- ---- a look-up
 
 module _ {K V : Type 0} (eq : K → K → Bool) (f : Interning K) (law : IsLawful eq f) (m : NameMap K V) (ps : List (List ℕ × V)) (name : List ℕ) (s : Represents eq f m ps) where
-  -- the value at the name itself
-  pub found_exact : (k : K) (v : V) → f name k ≡ true → lookup (eq k) m.definitions.entries ≡ Some v → IsFound ps name (Some v)
-  found_exact k v key e = rw (sym (lookup_agrees law m.definitions.entries ps name k s.defined key) ∙ e) refl
-
   -- there is no value at the name itself
   pub absent_at : (k : K) → f name k ≡ true → lookup (eq k) m.definitions.entries ≡ None → value_at ps name ≡ None
   absent_at k key e = sym (lookup_agrees law m.definitions.entries ps name k s.defined key) ∙ e

@@ -6,18 +6,23 @@ ghost use Rattle.wac_names.specs.ClassLaws.{class_eq_equiv, classes_fed_alike};
 ghost use Rattle.std.specs.Cmp.{partial_equiv_from_equiv};
 
 use crate::track::track_of;
+use smallvec::SmallVec;
 use std::alloc::{AllocError, Global};
 use std::hash::{Hash, Hasher};
 use std::marker::Model;
+use std::{fmt, str};
 
 /// What a name is compatible with, as a key for an index: the classes of two names are equal
 /// exactly where the names are compatible.
-#[derive(Debug, Drop)]
+///
+/// A text of up to 32 bytes asks for no memory, as of the interfaces of WASI: most classes are made
+/// to look something up and are dropped again.
+#[derive(Drop)]
 pub struct NameClass {
     // Whether it is the class of the names on a track.
     on_track: bool,
-    // The track key, or the one name of the class.
-    text: String,
+    // The bytes of the track key, or of the one name of the class.
+    text: SmallVec<u8, 32>,
 }
 
 impl Model for NameClass {
@@ -25,17 +30,16 @@ impl Model for NameClass {
 
     ghost Value = { Class };
 
-    ghost use Rattle.std.specs.Prelude.{string_bytes};
     ghost use Rattle.wac_names.specs.Class.{class_from};
 
-    ghost view = { λ c. class_from c.on_track (string_bytes c.text) };
+    ghost view = { λ c. class_from c.on_track c.text.items };
 }
 
 impl NameClass {
     fn new(alloc: Global, on_track: bool, text: &str) -> Result<NameClass, AllocError>
         ensures { IfOk result (λ c. c ≡ class_from on_track text.now) }
     {
-        let text = String::from_str(alloc, text)?;
+        let text = SmallVec::from_slice(alloc, text.as_bytes())?;
         Ok(NameClass { on_track, text })
     }
 
@@ -56,8 +60,17 @@ impl Clone for NameClass {
     fn clone(&self) -> Result<NameClass, AllocError> {
         Ok(NameClass {
             on_track: self.on_track,
-            text: self.text.clone()?,
+            text: SmallVec::from_slice(*self.text.allocator(), self.text.as_slice())?,
         })
+    }
+}
+
+impl fmt::Debug for NameClass {
+    fn fmt<W: fmt::Write>(&self, f: &mut fmt::Formatter<W>) -> fmt::Result {
+        f.debug_struct("NameClass")
+            .field("on_track", &self.on_track)
+            .field("text", &str::from_utf8(self.text.as_slice()))
+            .finish()
     }
 }
 
@@ -67,7 +80,7 @@ impl PartialEq for NameClass {
     ghost laws = { partial_equiv_from_equiv class_eq_equiv };
 
     fn eq(&self, other: &NameClass) -> bool {
-        self.on_track == other.on_track && self.text == other.text
+        self.on_track == other.on_track && self.text.as_slice() == other.text.as_slice()
     }
 }
 
@@ -82,6 +95,7 @@ impl Hash for NameClass {
 
     fn hash<H: Hasher>(&self, state: &mut H) {
         self.on_track.hash(state);
-        self.text.hash(state);
+        state.write(self.text.as_slice());
+        state.write(&[0xff]);
     }
 }

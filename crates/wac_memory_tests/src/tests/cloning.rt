@@ -75,8 +75,9 @@ fn clone_with_parts(types: &Types, trial: &mut Trial) {
     }
 }
 
+// Clones a class whose text is too long to lie in the value.
 fn clone_class(trial: &mut Trial) {
-    match NameClass::of(trial.alloc, "a:b/c@1.2.3") {
+    match NameClass::of(trial.alloc, "wasi:sockets/instance-network-provider@1.2.3") {
         Ok(class) => clone(&class, trial),
         Err(_) => trial.refuse(),
     }

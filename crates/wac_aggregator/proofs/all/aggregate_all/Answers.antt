@@ -1,10 +1,10 @@
 use Rattle.std.proofs.Common.{◌≡◌, ◌∙◌, Some, ap, sym, subst, add-one, arith, take}
 use Rattle.std.proofs.lemmas.List.{drop_all, length-map, take_all}
-use Rattle.std.proofs.lemmas.List.Elements.{All-contains}
+use Rattle.std.proofs.lemmas.List.Elements.{All-contains, All-nil}
 use Rattle.wac_component.specs.Collection.{Collection}
 use Rattle.wac_aggregator_promises.specs.Aggregated.{track_imports}
 use Rattle.wac_aggregator_promises.specs.Answer.{accepted, refused}
-use Rattle.wac_aggregator_promises.specs.Call.{Call}
+use Rattle.wac_aggregator_promises.specs.Call.{Call, IsSoundCall, AreSoundCalls}
 use Rattle.wac_aggregator_promises.specs.Holding.{HoldsReached}
 use Rattle.wac_aggregator_promises.specs.PlainList.{IsPlain}
 use Rattle.wac_aggregator_promises.proofs.PlainRuns.{plain_runs_answer}
@@ -22,8 +22,6 @@ use Rattle.wac_aggregator.proofs.Front.{none_served, all_aggregated}
 use Rattle.wac_aggregator.proofs.Held.{reached_after}
 use Rattle.wac_aggregator.proofs.Handing.{refused_reason}
 use Rattle.wac_aggregator.proofs.Listing.{Contains-at, take-next, called_at, may_try, advances_in_order, advances_number, may_take, one_more}
-use Rattle.std.proofs.lemmas.List.Elements.{All-nil}
-use Rattle.wac_aggregator_promises.specs.Call.{IsSoundCall, AreSoundCalls}
 use Rattle.wac_aggregator.specs.Wit.{IsWitAfter}
 use Rattle.wac_aggregator.proofs.Wit.{wit_start}
 use Rattle.wac_aggregator.proofs.WitRuns.{one_more_sound, one_more_wit, wit_accepted, one_refused}

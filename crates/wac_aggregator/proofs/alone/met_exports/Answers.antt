@@ -6,7 +6,7 @@ use Rattle.std.specs.Str.{bytes_eq}
 use Rattle.indexmap.specs.IndexMap.{insert_entry}
 use Rattle.wac_component.specs.Content.{named}
 use Rattle.wac_component.specs.Key.{interface_key, item_keys}
-use Rattle.wac_component.proofs.Extended.{AllStand-Extends}
+use Rattle.wac_component.proofs.Extended.{AllStand-Extends, Extends-trans}
 use Rattle.wac_checker_parts.proofs.ExternLemmas.{named_stands}
 use Rattle.wac_merge.specs.Items.{ExternKinds, extern_list}
 use Rattle.wac_merge.specs.Reads.{exports_at}
@@ -16,7 +16,6 @@ use Rattle.wac_aggregator_taking.specs.Growing.{AreAllPut, AreMetWith, with_put}
 use Rattle.wac_model.specs.Text.{lookup}
 use Rattle.wac_aggregator_taking.proofs.GrowLemmas.{met_none, met_then, done_inside}
 use Rattle.wac_aggregator_taking.proofs.PutLemmas.{with_put-put, with_put-absent, names_put, all_put}
-use Rattle.wac_component.proofs.Extended.{Extends-trans}
 use Rattle.wac_aggregator.specs.Advances.{IsMetThereIfAny}
 use Rattle.wac_aggregator.proofs.alone.met_exports.Goals as goal
 

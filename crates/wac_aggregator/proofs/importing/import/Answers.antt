@@ -8,7 +8,7 @@ pub merge_import-requires-clause-found : goal.merge_import-requires-clause-found
 merge_import-requires-clause-found c = sym c.kind_of.ensures ∙ c.in-Some.is
 
 pub add_import-requires-clause-new : goal.add_import-requires-clause-new
-add_import-requires-clause-new c = import_none (import_of c.args.state.now.imports c.in_ok-class.class) (sym c.kind_of.ensures ∙ c.in-None.is)
+add_import-requires-clause-new c = import_none (import_of c.args.state.now.imports c.args.class) (sym c.kind_of.ensures ∙ c.in-None.is)
 
 pub returns-in-None-clause-alone : goal.returns-in-None-clause-alone
 returns-in-None-clause-alone c = IfOk-weaker c.add_import.result _ _ (λ u h. h c.args.alone.now.entries c.requires.alone) c.add_import.ensures.alone

@@ -1,5 +1,5 @@
 use Rattle.std.proofs.Common.{ap, ◌∙◌}
-use Rattle.wac_component.specs.Memo.{Remembered}
+use Rattle.wac_aggregator_memo.specs.Memo.{Remembered}
 use Rattle.wac_aggregator.proofs.Beginning.{starts}
 use Rattle.wac_aggregator.proofs.start.no_imports.Goals as goal
 

@@ -3,9 +3,9 @@ use Rattle.std.proofs.lemmas.Result.{IfOk-weaker}
 use Rattle.wac_model.specs.Text.{Text}
 use Rattle.wac_component.specs.Content.{named}
 use Rattle.wac_component.specs.Key.{item_keys, named_keys}
-use Rattle.wac_component.specs.Memo.{memo_of}
+use Rattle.wac_aggregator_memo.specs.Memo.{memo_of}
 use Rattle.wac_component.specs.Naming.{key_of}
-use Rattle.wac_component.specs.Renamed.{renamed_item, with_values}
+use Rattle.wac_aggregator_memo.specs.Renamed.{renamed_item, with_values}
 use Rattle.wac_component.specs.declared.items.ItemKind.{ItemKind}
 use Rattle.wac_aggregator_narrowing.specs.Taking.{AreMapped, IsCopiedItem}
 use Rattle.wac_aggregator_copies.specs.Copies.{HasCopies}

@@ -1,8 +1,8 @@
 use Rattle.std.proofs.Common.{◌≡◌, map, ap, subst, ◌∙◌}
 use Rattle.wac_component.specs.Key.{item_keys}
-use Rattle.wac_component.specs.Memo.{memo_of}
+use Rattle.wac_aggregator_memo.specs.Memo.{memo_of}
 use Rattle.wac_component.specs.Naming.{key_of}
-use Rattle.wac_component.specs.Renamed.{renamed_item}
+use Rattle.wac_aggregator_memo.specs.Renamed.{renamed_item}
 use Rattle.wac_aggregator_narrowing.specs.Taking.{IsCopiedItem}
 use Rattle.wac_aggregator_copies.specs.Copies.{HasCopies}
 use Rattle.wac_aggregator_copies.proofs.CopyLemmas.{Copies-gives}

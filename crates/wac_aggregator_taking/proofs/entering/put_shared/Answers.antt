@@ -4,7 +4,7 @@ use Rattle.indexmap.proofs.CallerLemmas.{insert_entry-new}
 use Rattle.wac_component.specs.Content.{interface_content}
 use Rattle.wac_component.specs.Entries.{entry_identifier, identifier_at}
 use Rattle.wac_component.specs.Key.{Stands, interface_entry, interface_key}
-use Rattle.wac_component.specs.Memo.{AddsPair, memo_of}
+use Rattle.wac_aggregator_memo.specs.Memo.{AddsPair, memo_of}
 use Rattle.wac_names.specs.Class.{class_eq, class_of}
 use Rattle.wac_aggregator_narrowing.specs.Entering.{AddsEntry, IsEntered}
 use Rattle.wac_aggregator_narrowing.specs.Last.{last_key}

@@ -1,7 +1,7 @@
 use Rattle.std.proofs.Common.{◌∷◌, None, map, inl, ap, sym, subst, ◌∙◌}
-use Rattle.wac_component.specs.EntryOrder.{HasOwn}
+use Rattle.wac_aggregator_memo.specs.EntryOrder.{HasOwn}
 use Rattle.wac_component.specs.Key.{Each, next}
-use Rattle.wac_component.specs.Memo.{memo_of}
+use Rattle.wac_aggregator_memo.specs.Memo.{memo_of}
 use Rattle.wac_component.specs.Naming.{key_of}
 use Rattle.wac_component.specs.Reach.{IsAmong, here, there}
 use Rattle.wac_aggregator_taking.specs.Steps.{ArePut}

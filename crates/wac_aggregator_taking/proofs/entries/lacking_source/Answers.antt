@@ -1,9 +1,9 @@
 use Rattle.std.proofs.Common.{◌≡◌, None, Some, refl, sym, subst, ◌∙◌}
 use Rattle.wac_component.specs.Collection.{AliasContent}
 use Rattle.wac_component.specs.Content.{alias_content}
-use Rattle.wac_component.specs.EntryOrder.{HasOwn}
+use Rattle.wac_aggregator_memo.specs.EntryOrder.{HasOwn}
 use Rattle.wac_component.specs.Key.{resource_key}
-use Rattle.wac_component.specs.Memo.{memo_of}
+use Rattle.wac_aggregator_memo.specs.Memo.{memo_of}
 use Rattle.wac_aggregator_taking.proofs.StepAnswers.{noted_by}
 use Rattle.wac_aggregator_taking.proofs.entries.lacking_source.Goals as goal
 

@@ -1,13 +1,11 @@
-use Rattle.std.proofs.Common.{◌≡◌, None, sym, ◌∙◌}
-use Rattle.wac_component.specs.Key.{interface_sort, defined_sort, defined_key}
+use Rattle.std.proofs.Common.{◌≡◌, None, sym, ◌∙◌, ◌∷◌}
+use Rattle.wac_component.specs.Key.{interface_sort, defined_sort, defined_key, next}
 use Rattle.wac_aggregator_taking.specs.Steps.{IsReachedFrom}
 use Rattle.wac_aggregator_taking.proofs.Alike.{IsNear-none, absent_of}
 use Rattle.wac_aggregator_taking.proofs.Members.{TakesMembers-none}
 use Rattle.wac_aggregator_taking.proofs.StepAnswers.{made_members, next_opens, defined_opens}
 use Rattle.wac_aggregator_taking.proofs.StepLemmas.{put_next, next_none, on_ok}
 use Rattle.wac_aggregator_taking.proofs.TakeLemmas.{Takes-none}
-use Rattle.wac_component.specs.Key.{next}
-use Rattle.std.proofs.Common.{◌∷◌}
 use Rattle.wac_aggregator_taking.proofs.entries.take_defined.Goals as goal
 
 pub returns-then-is_some-clause-taken : goal.returns-then-is_some-clause-taken

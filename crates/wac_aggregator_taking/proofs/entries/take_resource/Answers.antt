@@ -1,8 +1,7 @@
 use Rattle.std.proofs.Common.{None, refl, subst, sym, ◌∙◌, arith}
 use Rattle.wac_component.specs.Entries.{owner_at}
 use Rattle.wac_component.specs.Key.{resource_key, interface_key}
-use Rattle.wac_aggregator_taking.specs.Steps.{IsReachedFrom}
-use Rattle.wac_aggregator_taking.specs.Steps.{IsOwnerTold}
+use Rattle.wac_aggregator_taking.specs.Steps.{IsReachedFrom, IsOwnerTold}
 use Rattle.wac_aggregator_taking.specs.Takes.{state_of}
 use Rattle.wac_aggregator_taking.specs.declared.steps.TakeStep.TheVariants.{Resource, Uses}
 use Rattle.wac_aggregator_taking.proofs.Alike.{IsNear-none, absent_of}

@@ -1,4 +1,4 @@
-use Rattle.std.proofs.Common.{◌≡◌, refl, subst}
+use Rattle.std.proofs.Common.{◌≡◌, refl, subst, None}
 use Rattle.wac_component.specs.Key.{interface_sort, resource_sort, resource_key}
 use Rattle.wac_component.specs.Open.{OpenReaches}
 use Rattle.wac_aggregator_taking.specs.Steps.{IsReachedFrom}
@@ -9,7 +9,6 @@ use Rattle.wac_aggregator_taking.proofs.Members.{TakesMembers-none}
 use Rattle.wac_aggregator_taking.proofs.StepAnswers.{made_members, source_walk}
 use Rattle.wac_aggregator_taking.proofs.StepLemmas.{goes_on_after, next_none, on_ok}
 use Rattle.wac_aggregator_taking.proofs.TakeLemmas.{Takes-none}
-use Rattle.std.proofs.Common.{None}
 use Rattle.wac_aggregator_taking.proofs.entries.take_source.Goals as goal
 
 pub make_resource-requires-clause-parts : goal.make_resource-requires-clause-parts

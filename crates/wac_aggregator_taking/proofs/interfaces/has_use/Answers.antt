@@ -1,11 +1,11 @@
 use Rattle.std.proofs.Common.{ap, sym, subst, ◌∙◌, refl}
 use Rattle.std.specs.Option.{option_and_then}
 use Rattle.wac_component.specs.Collection.{InterfaceContent}
-use Rattle.wac_component.specs.EntryOrder.{HasOwn}
+use Rattle.wac_aggregator_memo.specs.EntryOrder.{HasOwn}
 use Rattle.wac_component.specs.Id.{Id}
 use Rattle.wac_component.specs.Implicit.{HasIdentifier}
 use Rattle.wac_component.specs.Key.{interface_key}
-use Rattle.wac_component.specs.Memo.{memo_of}
+use Rattle.wac_aggregator_memo.specs.Memo.{memo_of}
 use Rattle.wac_aggregator_taking.proofs.PartHeights.{used_stands}
 use Rattle.wac_aggregator_taking.proofs.StepAnswers.{noted_by, use_is}
 use Rattle.wac_aggregator_taking.proofs.TakeLemmas.{some_name}

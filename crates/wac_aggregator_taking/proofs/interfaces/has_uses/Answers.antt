@@ -1,6 +1,6 @@
 use Rattle.std.proofs.Common.{inl, inr, subst, sym, arith}
 use Rattle.wac_component.specs.Content.{named, use_content}
-use Rattle.wac_component.specs.Memo.{memo_of}
+use Rattle.wac_aggregator_memo.specs.Memo.{memo_of}
 use Rattle.wac_aggregator_taking.specs.Steps.{IsUseNoted}
 use Rattle.wac_aggregator_taking.proofs.Alike.{less_or_same}
 use Rattle.wac_aggregator_taking.proofs.PartHeights.{length-named}

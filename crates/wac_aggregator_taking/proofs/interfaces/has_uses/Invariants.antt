@@ -1,6 +1,6 @@
 use Rattle.std.proofs.Common.{◌<◌, ℕ}
 use Rattle.wac_component.specs.Content.{named, use_content}
-use Rattle.wac_component.specs.Memo.{memo_of}
+use Rattle.wac_aggregator_memo.specs.Memo.{memo_of}
 use Rattle.wac_aggregator_taking.specs.Steps.{IsUseNoted}
 use Rattle.wac_aggregator_taking.proofs.interfaces.has_uses.Given as goal
 

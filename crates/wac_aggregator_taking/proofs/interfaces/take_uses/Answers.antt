@@ -1,4 +1,4 @@
-use Rattle.std.proofs.Common.{[], ap, refl}
+use Rattle.std.proofs.Common.{[], ap, refl, sym, ◌∙◌}
 use Rattle.std.specs.Option.{option_map_or}
 use Rattle.wac_component.specs.Content.{interface_content}
 use Rattle.wac_component.specs.Entries.{entry_uses}
@@ -11,7 +11,7 @@ use Rattle.wac_aggregator_taking.specs.Members.{IsMemberRefusal}
 use Rattle.wac_aggregator_taking.specs.Steps.{IsReachedFrom}
 use Rattle.wac_aggregator_taking.specs.Takes.{near_keys}
 use Rattle.wac_aggregator_taking.specs.declared.steps.TakeStep.TheVariants.{Uses}
-use Rattle.wac_aggregator_taking.proofs.Alike.{IsNear-none, near_nearest}
+use Rattle.wac_aggregator_taking.proofs.Alike.{IsNear-none, absent_of, near_nearest}
 use Rattle.wac_aggregator_taking.proofs.Members.{TakesMembers-none, member_refused_unidentified}
 use Rattle.wac_aggregator_taking.proofs.Refusals.{refused_uses}
 use Rattle.wac_aggregator_taking.proofs.ReadyLemmas.{next_apart}
@@ -58,14 +58,17 @@ returns-then-next-len-clause-steps c =
     goes_on_after f c.args.state.now k (interface_key o) c.args.near.now c.args.steps.now.items c.push_before.new.steps.items c.uses_step-again.result (Uses o 0) c.in_ok-push_before.ensures c.uses_step-again.ensures.key c.uses_step-again.ensures.near refl refl
     (use_walk f k c.index-interface.result.now.uses.entries c.args.next o (within_uses f c.args.id x c.index-interface.ensures.entry) c.in_ok-used.ensures.used) c.requires.near
 
-pub take_exports-requires-clause-near : goal.take_exports-requires-clause-near
-take_exports-requires-clause-near c = IsNear-none c.args.state.now
+pub take_new_exports-requires-clause-near : goal.take_new_exports-requires-clause-near
+take_new_exports-requires-clause-near c = IsNear-none c.args.state.now
+
+pub take_new_exports-requires-clause-new : goal.take_new_exports-requires-clause-new
+take_new_exports-requires-clause-new c = sym c.interface.ensures ∙ absent_of interface_key c.interface.result (sym c.is_some.ensures ∙ c.if-is_some.false)
 
 pub returns-then-is_none-clause-taken : goal.returns-then-is_none-clause-taken
-returns-then-is_none-clause-taken c = whatever_near c.args.types.now c.args.state.now c.take_exports.new.state (interface_key c.args.id) (near_keys c.args.near.now) c.take_exports.result c.take_exports.ensures.taken
+returns-then-is_none-clause-taken c = whatever_near c.args.types.now c.args.state.now c.take_new_exports.new.state (interface_key c.args.id) (near_keys c.args.near.now) c.take_new_exports.result c.take_new_exports.ensures.taken
 
 pub returns-then-is_none-clause-steps : goal.returns-then-is_none-clause-steps
-returns-then-is_none-clause-steps c = ok_then c.take_exports.result c.take_exports.ensures.steps (next_apart c.args.types.now c.take_exports.new.state (interface_key c.args.id) c.args.near.now c.args.steps.now.items c.take_exports.new.steps.items)
+returns-then-is_none-clause-steps c = ok_then c.take_new_exports.result c.take_new_exports.ensures.steps (next_apart c.args.types.now c.take_new_exports.new.state (interface_key c.args.id) c.args.near.now c.args.steps.now.items c.take_new_exports.new.steps.items)
 
 pub returns-clause-taken : goal.returns-clause-taken
 returns-clause-taken c = Takes-none c.args.types.now c.args.state.now _ _ (λ s. Unit {0}) c.requires.state tt

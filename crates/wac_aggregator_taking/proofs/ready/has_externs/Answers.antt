@@ -2,9 +2,9 @@ use Rattle.std.proofs.Common.{subst}
 use Rattle.std.proofs.lemmas.Map.Iter.{iter_end}
 use Rattle.std.specs.Map.Iter.{deref_pair}
 use Rattle.wac_component.specs.Content.{named}
-use Rattle.wac_component.specs.EntryOrder.{HasOwn}
+use Rattle.wac_aggregator_memo.specs.EntryOrder.{HasOwn}
 use Rattle.wac_component.specs.Key.{Each, item_keys, named_keys}
-use Rattle.wac_component.specs.Memo.{memo_of}
+use Rattle.wac_aggregator_memo.specs.Memo.{memo_of}
 use Rattle.wac_aggregator_taking.proofs.ready.has_externs.Goals as goal
 
 pub returns : goal.returns

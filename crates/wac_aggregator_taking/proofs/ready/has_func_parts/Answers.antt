@@ -2,9 +2,9 @@ use Rattle.std.proofs.Common.{ap, sym, subst}
 use Rattle.std.proofs.lemmas.Map.Iter.{iter_end}
 use Rattle.std.specs.Map.Iter.{deref_pair}
 use Rattle.wac_component.specs.Content.{func_content, named}
-use Rattle.wac_component.specs.EntryOrder.{HasOwn}
+use Rattle.wac_aggregator_memo.specs.EntryOrder.{HasOwn}
 use Rattle.wac_component.specs.Key.{Each, entry_keys, value_keys, named_keys, optional_keys}
-use Rattle.wac_component.specs.Memo.{memo_of}
+use Rattle.wac_aggregator_memo.specs.Memo.{memo_of}
 use Rattle.wac_component.proofs.Keys.{Each-append}
 use Rattle.wac_component.proofs.Reading.{func_at}
 use Rattle.wac_aggregator_taking.proofs.ready.has_func_parts.Goals as goal

@@ -1,11 +1,11 @@
-use Rattle.std.proofs.Common.{◌≡◌, ◌++◌, [], ◌∷◌, Some, None, map, string_bytes, subst, ap, sym, ◌∙◌}
+use Rattle.std.proofs.Common.{◌≡◌, ◌++◌, [], ◌∷◌, map, string_bytes, subst, ap, sym, ◌∙◌}
 use Rattle.std.proofs.lemmas.Map.Iter.{iter_end}
 use Rattle.std.specs.Map.Iter.{deref_pair}
 use Rattle.std.specs.Option.{option_map}
 use Rattle.wac_component.specs.Content.{named}
 use Rattle.wac_component.specs.Key.{AllStand, item_keys}
-use Rattle.wac_component.specs.Memo.{memo_of}
-use Rattle.wac_component.specs.Renamed.{renamed_item, with_values}
+use Rattle.wac_aggregator_memo.specs.Memo.{memo_of}
+use Rattle.wac_aggregator_memo.specs.Renamed.{renamed_item, with_values}
 use Rattle.wac_checker_parts.proofs.ExternLemmas.{named_stands}
 use Rattle.wac_merge.specs.Items.{ExternKinds, extern_list}
 use Rattle.wac_merge.proofs.LoopLemmas.{name_has, name_not_done, done_more}

@@ -1,8 +1,8 @@
 use Rattle.std.proofs.Common.{map}
 use Rattle.std.specs.Map.Iter.{deref_pair}
 use Rattle.wac_component.specs.Content.{named}
-use Rattle.wac_component.specs.Memo.{memo_of}
-use Rattle.wac_component.specs.Renamed.{renamed_item, with_values}
+use Rattle.wac_aggregator_memo.specs.Memo.{memo_of}
+use Rattle.wac_aggregator_memo.specs.Renamed.{renamed_item, with_values}
 use Rattle.wac_checker.specs.Compared.{KnowsTruly}
 use Rattle.wac_merge.specs.Items.{extern_list}
 use Rattle.wac_aggregator_taking.specs.Growing.{AreMetWith}

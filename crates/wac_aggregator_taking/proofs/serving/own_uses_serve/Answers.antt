@@ -1,7 +1,7 @@
 use Rattle.std.proofs.Common.{ap, sym, subst, ◌∙◌}
 use Rattle.wac_component.specs.Content.{named, use_content}
 use Rattle.wac_component.specs.Key.{AllStand, named_keys, use_keys}
-use Rattle.wac_aggregator_errors.specs.Uses.{UsesAgree}
+use Rattle.wac_aggregator_uses.specs.Uses.{UsesAgree}
 use Rattle.wac_aggregator_taking.specs.Serving.{AreUsesKept}
 use Rattle.wac_aggregator_taking.proofs.GrowLemmas.{uses_put}
 use Rattle.wac_aggregator_taking.proofs.serving.own_uses_serve.Goals as goal

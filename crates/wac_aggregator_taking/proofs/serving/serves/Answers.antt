@@ -3,7 +3,7 @@ use Rattle.wac_component.specs.Content.{interface_content}
 use Rattle.wac_component.specs.Key.{Stands, AllStand, named_keys, use_keys}
 use Rattle.wac_component.proofs.Keys.{Each-left, Each-right}
 use Rattle.wac_merge.specs.Items.{ExternKinds, AreUnhidden, extern_keys}
-use Rattle.wac_aggregator_errors.specs.Uses.{UsesAgree}
+use Rattle.wac_aggregator_uses.specs.Uses.{UsesAgree}
 use Rattle.wac_aggregator_taking.specs.Growing.{AreMetWith}
 use Rattle.wac_aggregator_taking.specs.Serving.{AreUsesKept}
 use Rattle.wac_aggregator_taking.proofs.Served.{own_exports-at, own_uses-at}

@@ -1,6 +1,6 @@
 use Rattle.std.proofs.Common.{sym, ◌∙◌}
 use Rattle.wac_component.specs.Content.{named, use_content}
-use Rattle.wac_aggregator_errors.specs.Uses.{UsesAgree}
+use Rattle.wac_aggregator_uses.specs.Uses.{UsesAgree}
 use Rattle.wac_aggregator_taking.proofs.ServingLemmas.{when_ok}
 use Rattle.wac_aggregator_taking.proofs.serving.uses_serve.Goals as goal
 

@@ -1,8 +1,8 @@
 use Rattle.std.proofs.Common.{◌≡◌, ◌≤◌, ◌+◌, ◌++◌, [], ◌∷◌, length, map, take, subst, sym, ◌∙◌, add-one, arith}
 use Rattle.std.proofs.lemmas.List.{length-map, take_all}
-use Rattle.wac_component.specs.EntryOrder.{HasOwn}
+use Rattle.wac_aggregator_memo.specs.EntryOrder.{HasOwn}
 use Rattle.wac_component.specs.Key.{Each}
-use Rattle.wac_component.specs.Memo.{memo_of}
+use Rattle.wac_aggregator_memo.specs.Memo.{memo_of}
 use Rattle.wac_component.specs.Naming.{key_of}
 use Rattle.wac_component.proofs.Keys.{Each-append}
 use Rattle.wac_component.proofs.PartLemmas.{map_at}

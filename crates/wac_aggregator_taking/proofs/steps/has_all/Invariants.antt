@@ -1,7 +1,7 @@
 use Rattle.std.proofs.Common.{map, take}
-use Rattle.wac_component.specs.EntryOrder.{HasOwn}
+use Rattle.wac_aggregator_memo.specs.EntryOrder.{HasOwn}
 use Rattle.wac_component.specs.Key.{Each}
-use Rattle.wac_component.specs.Memo.{memo_of}
+use Rattle.wac_aggregator_memo.specs.Memo.{memo_of}
 use Rattle.wac_component.specs.Naming.{key_of}
 use Rattle.wac_aggregator_taking.proofs.steps.has_all.Given as goal
 

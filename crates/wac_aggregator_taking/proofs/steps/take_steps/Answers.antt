@@ -25,11 +25,14 @@ loop-turn-preserved c =
 pub returns-then-done-clause-way : goal.returns-then-done-clause-way
 returns-then-done-clause-way c = (c.in-Ok-turn.ensures.goes_on c.args.state.now c.requires.state c.sound.ensures c.requires.source c.loop-turn.invariant.way c.loop-turn.invariant.due).0
 
-pub returns-then-done-clause-has : goal.returns-then-done-clause-has
-returns-then-done-clause-has c = c.in-Ok-turn.ensures.has c.if-done.true
+pub returns-then-done-clause-own : goal.returns-then-done-clause-own
+returns-then-done-clause-own c = record { has = c.in-Ok-turn.ensures.has c.if-done.true; renamed = c.renamed_item.ensures }
 
 pub returns-in-Err-turn-clause-way : goal.returns-in-Err-turn-clause-way
 returns-in-Err-turn-clause-way c = c.in-Err-turn.ensures.goes_on c.args.state.now c.requires.state c.sound.ensures c.requires.source c.loop-turn.invariant.way c.loop-turn.invariant.due
 
 pub returns-clause-way : goal.returns-clause-way
 returns-clause-way c = memory_refused c.args.types.now (near_keys c.args.near.now) (item_keys c.args.kind.now) c.args.state.now
+
+pub returns-in-Some-clause-way : goal.returns-in-Some-clause-way
+returns-in-Some-clause-way c = c.in-Ok.ensures.0

@@ -2,7 +2,7 @@ use Rattle.std.proofs.Common.{◌≡◌, None, refl, sym, ◌∙◌, arith}
 use Rattle.wac_component.specs.Content.{world_content}
 use Rattle.wac_component.specs.Height.{height}
 use Rattle.wac_component.specs.Key.{interface_sort, world_sort, item_keys, named_keys, world_key}
-use Rattle.wac_component.specs.Memo.{memo_of}
+use Rattle.wac_aggregator_memo.specs.Memo.{memo_of}
 use Rattle.wac_component.proofs.Members.{world_uses_stand, world_exports_stand}
 use Rattle.wac_aggregator_taking.specs.Steps.{IsReachedFrom}
 use Rattle.wac_aggregator_taking.specs.declared.steps.TakeStep.TheVariants.{WorldUses, WorldExports}
@@ -51,7 +51,7 @@ returns-then-at-len-clause-steps c =
     (IsNear-none b) (λ at all by. by) c.in_ok-push_item.ensures)
 
 pub has_contents-requires : goal.has_contents-requires
-has_contents-requires c = record { source = world_uses_stand c.args.types.now (world_content c.index-world.result.now) c.index-world.ensures.standing }
+has_contents-requires c = record { source = world_uses_stand c.args.types.now (world_content c.index-world.result.now) c.index-world.ensures.standing; noted = λ i k after below at. c.in_ok-at.ensures.noted i k after (omega arith) at }
 
 pub returns-then-not-has_contents-clause-taken : goal.returns-then-not-has_contents-clause-taken
 returns-then-not-has_contents-clause-taken c =

@@ -1,0 +1,3 @@
+pub mod MemoLemmas
+pub mod RenamedLemmas
+pub mod Ordering

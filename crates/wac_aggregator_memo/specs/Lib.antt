@@ -1,0 +1,3 @@
+pub mod Memo
+pub mod Renamed
+pub mod EntryOrder

@@ -1,0 +1,3 @@
+pub mod UseLists
+pub mod UseLemmas
+pub mod Users
