@@ -3,3 +3,4 @@ pub mod Collections
 pub mod Places
 pub mod PlaceLaws
 pub mod Provided
+pub mod Props

@@ -5,7 +5,7 @@ use Rattle.std.proofs.lemmas.List.Quantifiers.{position-Some}
 use Rattle.std.specs.Cmp.Lexicographic.{bytes_decides}
 use Rattle.std.specs.Str.{bytes_eq}
 use Rattle.std.specs.String.{string_bytes}
-use Rattle.wac_names.specs.Interner.{IsLawful, IsValueAt}
+use Rattle.wac_names.specs.Interner.{IsLawful}
 use Rattle.wac_script_session.specs.Places.{counts_down_to, is_place, text_place}
 
 place_is : (o : Option ℕ) (key : ℕ) → is_place o key ≡ true → o ≡ Some key
@@ -35,11 +35,6 @@ numbers_lawful texts = record {
 } where
   some_same : {m n : ℕ} → ◌≡◌ {A = Option ℕ} (Some m) (Some n) → m ≡ n
   some_same e = cc e
-
--- what a search for a text's place answers
-pub value_at_place : (texts : List (String Global)) (text : List ℕ) (r : Option ℕ) → r ≡ text_place texts text → IsValueAt (λ t key. is_place (text_place texts t) key) text r
-value_at_place texts text None e = λ key. rw (sym e) refl
-value_at_place texts text (Some place) e = is_its_place (text_place texts text) place (sym e)
 
 -- counting down from 1000 comes to a key at one place
 down_is : (o : Option ℕ) (key : ℕ) → counts_down_to o key ≡ true → (place : ℕ) × (o ≡ Some place) × (place + key ≡ 1000)

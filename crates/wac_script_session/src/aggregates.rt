@@ -9,6 +9,7 @@ ghost use Rattle.wac_aggregator_narrowing.specs.State.{IsOneWith};
 ghost use Rattle.wac_aggregator.specs.Content.{state_in};
 ghost use Rattle.wac_aggregator.specs.HandedIn.{called, handed_in};
 ghost use Rattle.wac_script_session.specs.Calls.{IsCallIn, AreCallsIn, AreAsked};
+ghost use Rattle.wac_script_session.specs.Props.{props};
 
 use super::collections::Collections;
 use super::comparisons::push_path;
@@ -84,17 +85,32 @@ fn push_call<'a>(
     }
 }
 
-/// What a new aggregator makes of calls, with one checker for all of them.
-pub(crate) fn aggregate_calls<'a>(
-    alloc: Global,
-    collections: &Collections,
-    calls: &[ItemCall],
-) -> Result<Result<TypeAggregator, AggregateAllError>, ScriptError<'a>> {
-    let Some(number) = collections.free_number() else {
-        return Err(ScriptError::Memory);
-    };
-    let calls = calls_of(alloc, collections, calls)?;
-    Ok(aggregated(alloc, number, &calls, true))
+/// What calls hand to an aggregator, with a number for its collection.
+#[derive(Drop)]
+pub struct HandedCalls<'a> {
+    number: u64,
+    calls: Vec<Call<'a>>,
+    ghost asked: { AreAsked number (handed_in calls.items) } by { Prim.hlevel props },
+}
+
+impl<'a> HandedCalls<'a> {
+    /// What calls hand in. `Memory` is a failed allocation.
+    pub(crate) fn of<'b>(
+        alloc: Global,
+        collections: &'a Collections,
+        calls: &'a [ItemCall],
+    ) -> Result<HandedCalls<'a>, ScriptError<'b>> {
+        let Some(number) = collections.free_number() else {
+            return Err(ScriptError::Memory);
+        };
+        let calls = calls_of(alloc, collections, calls)?;
+        Ok(HandedCalls { number, calls })
+    }
+
+    /// What a new aggregator makes of them, with one checker and an empty cache for all of them.
+    pub fn aggregate(&self, alloc: Global) -> Result<TypeAggregator, AggregateAllError> {
+        aggregated(alloc, self.number, &self.calls, true)
+    }
 }
 
 /// Puts the answer to `aggregate` last: the imports that calls make, the names that lead to them,
@@ -107,16 +123,9 @@ pub(crate) fn aggregate<'a>(
     words: &[&'a str],
 ) -> Result<(), ScriptError<'a>> {
     let is_shared = read_is_shared(words)?;
-    let Some(number) = collections.free_number() else {
-        return Err(ScriptError::Memory);
-    };
-    let calls = calls_of(alloc, collections, calls)?;
-    Ok(push_outcome(
-        alloc,
-        text,
-        &calls,
-        aggregated(alloc, number, &calls, is_shared),
-    )?)
+    let handed = HandedCalls::of(alloc, collections, calls)?;
+    let outcome = aggregated(alloc, handed.number, &handed.calls, is_shared);
+    Ok(push_outcome(alloc, text, &handed.calls, outcome)?)
 }
 
 // Aggregates items with one checker, or with a new one for each.

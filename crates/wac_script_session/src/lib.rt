@@ -51,5 +51,6 @@ mod session;
 mod targets;
 mod visits;
 
+pub use aggregates::HandedCalls;
 pub use interners::{Countdown, Numbers};
 pub use session::Session;

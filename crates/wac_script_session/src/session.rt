@@ -1,6 +1,6 @@
 //! What a script has built so far.
 
-use super::aggregates::{aggregate, aggregate_calls, call_of};
+use super::aggregates::{HandedCalls, aggregate, call_of};
 use super::answers::answer;
 use super::collections::Collections;
 use super::comparisons::{Cache, subtype};
@@ -8,7 +8,6 @@ use super::growth::read_growth;
 use std::alloc::{AllocError, Global};
 use std::collections::HashSet;
 use std::mem;
-use wac_aggregator::{AggregateAllError, TypeAggregator};
 use wac_script_entries::Replacement;
 use wac_script_syntax::{Command, Content, ItemCall, Query, ScriptError, read_entry};
 
@@ -76,15 +75,10 @@ impl Session {
         Ok(None)
     }
 
-    /// Hands the items of all calls to a new aggregator, with one checker and an empty cache for
-    /// all of them. The calls stay, so the next aggregator is handed the same.
-    ///
-    /// Gives what the aggregator answers; `Memory` is an allocation that failed before it is asked.
-    pub fn aggregate_calls<'a>(
-        &self,
-        alloc: Global,
-    ) -> Result<Result<TypeAggregator, AggregateAllError>, ScriptError<'a>> {
-        aggregate_calls(alloc, &self.collections, &self.calls)
+    /// What all calls hand in, for as many aggregators as are asked. `Memory` is a failed
+    /// allocation.
+    pub fn handed_calls<'a>(&self, alloc: Global) -> Result<HandedCalls<'_>, ScriptError<'a>> {
+        HandedCalls::of(alloc, &self.collections, &self.calls)
     }
 
     // Forgets everything, and gives the line that says which script begins.

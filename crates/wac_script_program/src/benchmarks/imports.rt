@@ -3,7 +3,7 @@
 use super::error::BenchError;
 use super::measuring::Work;
 use std::alloc::Global;
-use wac_script_session::Session;
+use wac_script_session::{HandedCalls, Session};
 use wac_script_syntax::read_line;
 use wac_types::{AggregateError, TypeAggregator};
 
@@ -52,15 +52,12 @@ fn push_instances(
     Ok(())
 }
 
-// Hands the instances of a session to an aggregator.
-fn aggregate(alloc: Global, session: &Session) -> Result<TypeAggregator, BenchError> {
-    match session.aggregate_calls(alloc) {
-        Ok(Ok(aggregator)) => Ok(aggregator),
-        Ok(Err(refusal)) if matches!(&refusal.error, AggregateError::Memory) => Err(
-            BenchError::Memory,
-        ),
-        Ok(Err(_)) => Err(BenchError::Answer),
-        Err(error) => Err(BenchError::from(error)),
+// Hands instances to a new aggregator.
+fn aggregate(alloc: Global, calls: &HandedCalls<'_>) -> Result<TypeAggregator, BenchError> {
+    match calls.aggregate(alloc) {
+        Ok(aggregator) => Ok(aggregator),
+        Err(refusal) if matches!(&refusal.error, AggregateError::Memory) => Err(BenchError::Memory),
+        Err(_) => Err(BenchError::Answer),
     }
 }
 
@@ -97,8 +94,9 @@ impl TwoVersions {
 
 impl Work for TwoVersions {
     fn run(&mut self, alloc: Global, times: u64) -> Result<(), BenchError> {
+        let calls = self.session.handed_calls(alloc)?;
         for _ in 0..times {
-            self.look_at(&aggregate(alloc, &self.session)?)?;
+            self.look_at(&aggregate(alloc, &calls)?)?;
         }
         Ok(())
     }
@@ -169,8 +167,9 @@ impl Growing {
 
 impl Work for Growing {
     fn run(&mut self, alloc: Global, times: u64) -> Result<(), BenchError> {
+        let calls = self.session.handed_calls(alloc)?;
         for _ in 0..times {
-            self.look_at(&aggregate(alloc, &self.session)?)?;
+            self.look_at(&aggregate(alloc, &calls)?)?;
         }
         Ok(())
     }
