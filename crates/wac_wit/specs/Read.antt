@@ -11,11 +11,11 @@ use Rattle.wac_wit_names.specs.declared.sources.SourceFile.{SourceFile}
 use Rattle.wac_wit_syntax.specs.declared.tree.Document.{Document}
 use Rattle.wac_wit_validation.specs.WorldChecking.{KnowsWorlds}
 use Rattle.wac_wit_scopes.specs.WitSources.{HasInterface, IsInGroup, IsScopeOf, PackageId, ScopeSyntax, WitSources, sources_of}
-use Rattle.wac_wit_validation.specs.OneMeaning.{ExportsStandForOne}
-use Rattle.wac_wit_validation.specs.Placed.{HasWorld, IsUnambiguous}
+use Rattle.wac_wit_validation_types.specs.OneMeaning.{ExportsStandForOne}
+use Rattle.wac_wit_validation_types.specs.Placed.{HasWorld, IsUnambiguous, package_text}
 use Rattle.wac_wit_syntax.specs.declared.tree.InterfaceDecl.{InterfaceDecl}
 use Rattle.wac_wit_syntax.specs.declared.tree.WorldDecl.{WorldDecl}
-use Rattle.wac_wit_validation.specs.Validated.{IsInterfaceOf, IsWorldOf, package_text}
+use Rattle.wac_wit_validation.specs.Validated.{IsInterfaceOf, IsWorldOf}
 use Rattle.wac_wit_validation.specs.declared.validator.Validator.{Validator}
 use Rattle.wac_wit_scopes.specs.Parsed.{AreParsed}
 use Rattle.wac_wit.specs.declared.packages.Wit.{Wit}

@@ -18,10 +18,10 @@ use Rattle.wac_wit.specs.Read.{AreOfTexts, IsReadPackage}
 use Rattle.wac_wit.specs.declared.packages.WitPackage.{WitPackage}
 use Rattle.wac_wit_names.specs.declared.features.Features.{Features}
 use Rattle.wac_wit_names.specs.declared.sources.SourceFile.{SourceFile}
-use Rattle.wac_wit_validation.specs.Interfaces.{IsInterfaceTree}
+use Rattle.wac_wit_validation_types.specs.Interfaces.{IsInterfaceTree}
 use Rattle.wac_wit_validation.specs.Validated.{IsInterfaceOf, IsWorldOf}
 use Rattle.wac_wit_scopes.specs.WitSources.{WitSources, sources_of}
-use Rattle.wac_wit_validation.specs.Worlds.{IsWorldTree}
+use Rattle.wac_wit_validation_types.specs.Worlds.{IsWorldTree}
 use Rattle.wac_wit_changes.specs.Comparing.{HasFitting, IsComparedInterface, IsComparedWorld, IsCounterpart, IsReportOfBoth, IsReportOfOne, IsReportOn}
 use Rattle.wac_wit_changes.specs.Texts.{ComparesTexts, DenotesInterface, DenotesWorld, IsTextItem, IsTextReportOfBoth, IsTextReportOn, IsTextVerdict, IsTextWorld, IsWorldVerdict, beside, gone, world_beside, world_gone}
 use Rattle.wac_wit_changes.specs.Worlds.{TreeRunsIn}

@@ -17,12 +17,12 @@ use Rattle.wac_wit_names.specs.declared.features.Features.{Features}
 use Rattle.wac_wit_names.specs.declared.sources.SourceFile.{SourceFile}
 use Rattle.wac_wit_syntax.specs.declared.tree.Document.{Document}
 use Rattle.wac_wit_syntax.specs.declared.tree.InterfaceDecl.{InterfaceDecl}
-use Rattle.wac_wit_validation.specs.Interfaces.{IsInterfaceTree}
-use Rattle.wac_wit_validation.specs.OneWorld.{HasOneExtern}
-use Rattle.wac_wit_validation.specs.Placed.{PlacedWorld}
-use Rattle.wac_wit_validation.specs.Validated.{IsWorldNamed, package_text}
+use Rattle.wac_wit_validation_types.specs.Interfaces.{IsInterfaceTree}
+use Rattle.wac_wit_validation_types.specs.OneWorld.{HasOneExtern}
+use Rattle.wac_wit_validation_types.specs.Placed.{PlacedWorld, package_text}
+use Rattle.wac_wit_validation.specs.Validated.{IsWorldNamed}
 use Rattle.wac_wit_scopes.specs.WitSources.{HasInterface, ScopeSyntax, WitSources, sources_of}
-use Rattle.wac_wit_validation.specs.Worlds.{IsWorldTree}
+use Rattle.wac_wit_validation_types.specs.Worlds.{IsWorldTree}
 use Rattle.wac_wit_changes.specs.Comparing.{IsCounterpart, IsPromiseOf, IsReportOfOne}
 use Rattle.wac_wit_changes.specs.Worlds.{TreeRunsIn}
 use Rattle.wac_wit_changes.specs.declared.report.ComparedItem.{ComparedItem}

@@ -4,10 +4,10 @@ use Rattle.wac_model.specs.Text.{Text}
 use Rattle.wac_wit_scopes.specs.WitSources.{HaveOneName, IsNamedPackage, IsPackageOf, IsScopeOf, PackageId, ScopeSyntax, WitSources, alone, exactly, package_id}
 use Rattle.wac_wit_scopes.specs.declared.scopes.ScopeItems.{ScopeItems}
 use Rattle.wac_wit_syntax.specs.declared.tree.PackageName.{PackageName}
-use Rattle.wac_wit_refusals.specs.Judging.{Judges}
-use Rattle.wac_wit_refusals.specs.Leading.{LacksMember}
-use Rattle.wac_wit_refusals.specs.declared.judge.Judge.{Judge}
-use Rattle.wac_wit_refusals.proofs.Known.{each_scope}
+use Rattle.wac_wit_refusals_sites.specs.Judging.{Judges}
+use Rattle.wac_wit_refusals.specs.PathSteps.{LacksMember}
+use Rattle.wac_wit_refusals_sites.specs.declared.judge.Judge.{Judge}
+use Rattle.wac_wit_refusals_sites.proofs.Known.{each_scope}
 
 named_one : (of : WitSources) (n : PackageName) (p : PackageId) → IsNamedPackage of n p → HaveOneName p (package_id n)
 named_one of n _ exactly = record { namespace = refl; name = refl }

@@ -1,9 +1,9 @@
 -- Names of packages, and where they stand.
-use Rattle.std.proofs.Common.{◌≡◌, ◌∙◌, ◌⊎◌, inl, inr, ℕ, ◌+◌, ◌<◌, ◌≤◌, false, arith, List, Some, None, length, get_or, refl, sym, ap}
+use Rattle.std.proofs.Common.{◌≡◌, ◌∙◌, ◌⊎◌, inl, inr, ℕ, ◌+◌, ◌<◌, ◌≤◌, false, arith, Some, None, length, refl, sym, ap}
 use Rattle.std.specs.Prelude.{slice_get}
 use Rattle.std.specs.Option.{is_some}
 use borrow.Author.Count.{below_more}
-use Rattle.std.proofs.lemmas.Option.{same_Some, slice_get_read, slice_get_within}
+use Rattle.std.proofs.lemmas.Option.{same_Some, slice_get_within}
 use Rattle.wac_wit_refusals.specs.Packages.{IsGroupNameless, IsNamedElsewhere, PackagePlace, by_file, by_nested}
 use Rattle.wac_wit_refusals.specs.Trees.{IsFileTree, IsPlacedName, package_place, tree_syntax, wit_sources}
 use Rattle.wac_wit_refusals.specs.declared.packages.FileTree.{FileTree}
@@ -15,10 +15,6 @@ use Rattle.wac_wit_scopes.specs.WitSources.{FileSyntax, WitSources, package_id}
 use Rattle.wac_wit_scopes.specs.declared.trees.SourceTrees.{SourceTrees}
 use Rattle.wac_wit_syntax.specs.declared.tree.NestedPackage.{NestedPackage}
 use Rattle.wac_wit_syntax.specs.declared.tree.PackageName.{PackageName}
-
--- an element that is read from the same list
-pub read_item : {A : Type 0} (xs ys : List A) (i : ℕ) (x : A) → ys ≡ xs → i < length ys → x ≡ get_or ys i x → slice_get xs i ≡ Some x
-read_item xs ys i x same within at = ap (λ l. slice_get l i) (sym same) ∙ slice_get_read ys (length ys) i x refl within at
 
 pub tree_at : (of : WitSources) (t : FileTree) (i : ℕ) → t.index ≡ i → IsFileTree of t → slice_get of.files i ≡ Some (tree_syntax t)
 tree_at of t i is at = ap (slice_get of.files) (sym is) ∙ at

@@ -1,6 +1,6 @@
 -- Imports and exports that aren't supported (WIT.md, "Item: `world`").
 use Rattle.std.specs.Prelude.{◌≡◌, ℕ, List, Contains}
-use Rattle.wac_wit_refusals.specs.Sites.{HasExternIn}
+use Rattle.wac_wit_refusals_sites.specs.Sites.{HasExternIn}
 use Rattle.wac_wit_scopes.specs.WitSources.{IsEnabled, IsScopeAt, ScopeSyntax, WitSources}
 use Rattle.wac_wit_syntax.specs.declared.positions.Span.{Span}
 use Rattle.wac_wit_syntax.specs.declared.tree.Extern.TheVariants as extern

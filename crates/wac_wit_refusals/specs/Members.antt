@@ -1,8 +1,8 @@
 -- Names that are given twice in files and in packages (WIT.md, "WIT Packages and `use`" and "Package Format").
 use Rattle.std.specs.Prelude.{◌≡◌, ℕ, List, Contains, Some, None, slice_get}
 use Rattle.wac_model.specs.Text.{Text}
-use Rattle.wac_wit_refusals.specs.Paths.{ident_of_item}
-use Rattle.wac_wit_refusals.specs.Sites.{alias_ident}
+use Rattle.wac_wit_refusals_sites.specs.Paths.{ident_of_item}
+use Rattle.wac_wit_refusals_sites.specs.Sites.{alias_ident}
 use Rattle.wac_wit_scopes.specs.WitSources.{IsScopeAt, IsScopeOf, PackageId, ScopeSyntax, WitSources, ident_text}
 use Rattle.wac_wit_syntax.specs.declared.positions.Span.{Span}
 use Rattle.wac_wit_syntax.specs.declared.tree.Ident.{Ident}

@@ -1,8 +1,8 @@
 -- What is wrong with a path (WIT.md, "WIT Packages and `use`", "Worlds" and "Feature Gates").
 use Rattle.std.specs.Prelude.{◌≡◌, ℕ, Contains, Some, None}
-use Rattle.wac_wit_refusals.specs.Paths.{IsItemEnabled, LeadsToItem, PathAt, SeeksMember, name_of_item}
-use Rattle.wac_wit_refusals.specs.declared.paths.Sought.{Sought}
-use Rattle.wac_wit_refusals.specs.declared.paths.Sought.TheVariants.{Interface, OtherName, World}
+use Rattle.wac_wit_refusals_sites.specs.Paths.{IsItemEnabled, LeadsToItem, PathAt, SeeksMember, name_of_item}
+use Rattle.wac_wit_refusals_sites.specs.declared.paths.Sought.{Sought}
+use Rattle.wac_wit_refusals_sites.specs.declared.paths.Sought.TheVariants.{Interface, OtherName, World}
 use Rattle.wac_wit_scopes.specs.WitSources.{IsNamedPackage, IsPackageOf, IsScopeOf, ScopeSyntax, WitSources, given_name, ident_text}
 use Rattle.wac_wit_syntax.specs.declared.positions.Span.{Span}
 use Rattle.wac_wit_syntax.specs.declared.tree.InterfaceDecl.{InterfaceDecl}

@@ -9,23 +9,23 @@ use Rattle.wac_wit_names.specs.declared.reason.Reason.{Reason}
 use Rattle.wac_wit_names.specs.declared.reason.Reason.TheVariants as why
 use Rattle.wac_wit_names.specs.declared.sources.SourceFile.{SourceFile}
 use Rattle.wac_wit_refusals.specs.Attributes.{IsTypeOfHidden, IsUnversioned, IsYounger}
-use Rattle.wac_wit_refusals.specs.Borrows.{IsBorrowReturned, IsBorrowSent}
-use Rattle.wac_wit_refusals.specs.Brought.{IsComingTwice, IsIncludedTwice}
-use Rattle.wac_wit_refusals.specs.CharStreams.{IsCharStream}
-use Rattle.wac_wit_refusals.specs.Constructors.{IsNotConstructed}
+use Rattle.wac_wit_refusals_types.specs.Borrows.{IsBorrowReturned, IsBorrowSent}
+use Rattle.wac_wit_refusals_worlds.specs.Brought.{IsComingTwice, IsIncludedTwice}
+use Rattle.wac_wit_refusals_types.specs.CharStreams.{IsCharStream}
+use Rattle.wac_wit_refusals_types.specs.Constructors.{IsNotConstructed}
 use Rattle.wac_wit_refusals.specs.Externs.{IsRenamedInterface}
-use Rattle.wac_wit_refusals.specs.Handles.{IsNotResource}
-use Rattle.wac_wit_refusals.specs.Includes.{IsUnknownRename}
+use Rattle.wac_wit_refusals_types.specs.Handles.{IsNotResource}
+use Rattle.wac_wit_refusals_worlds.specs.Includes.{IsUnknownRename}
 use Rattle.wac_wit_refusals.specs.Members.{IsMemberTwice, IsTakenByPackage, IsUseTwice}
-use Rattle.wac_wit_refusals.specs.NamesTwice.{IsNameTwice}
-use Rattle.wac_wit_refusals.specs.Needs.{IsNeedCycle}
-use Rattle.wac_wit_refusals.specs.NeededTwice.{IsNeededTwice}
+use Rattle.wac_wit_refusals_types.specs.NamesTwice.{IsNameTwice}
+use Rattle.wac_wit_refusals_worlds.specs.Needs.{IsNeedCycle}
+use Rattle.wac_wit_refusals_worlds.specs.NeededTwice.{IsNeededTwice}
 use Rattle.wac_wit_refusals.specs.Packages.{IsAnotherPackage, IsNameless, IsPackageTwice, IsUpperCase}
 use Rattle.wac_wit_refusals.specs.PathReasons.{IsForeignWorld, IsHiddenMember, IsNotInterface, IsNotWorld, IsOwnPackage, IsUnknownMember, IsUnknownPackage}
-use Rattle.wac_wit_refusals.specs.SaidTwice.{IsSaidTwice}
-use Rattle.wac_wit_refusals.specs.TypeCycles.{IsTypeCycle}
-use Rattle.wac_wit_refusals.specs.TypeNames.{IsHiddenType, IsUnknownType}
-use Rattle.wac_wit_refusals.specs.TypeReasons.{IsEmpty, IsManyFlags, IsNamedAsResource, IsZeroLength}
+use Rattle.wac_wit_refusals_worlds.specs.SaidTwice.{IsSaidTwice}
+use Rattle.wac_wit_refusals_types.specs.TypeCycles.{IsTypeCycle}
+use Rattle.wac_wit_refusals_types.specs.TypeNames.{IsHiddenType, IsUnknownType}
+use Rattle.wac_wit_refusals_types.specs.TypeReasons.{IsEmpty, IsManyFlags, IsNamedAsResource, IsZeroLength}
 use Rattle.wac_wit_refusals.specs.UsedReasons.{IsHiddenUsed, IsUnknownUsed}
 use Rattle.wac_wit_scopes.specs.Parsed.{AreParsed}
 use Rattle.wac_wit_scopes.specs.WitSources.{WitSources, sources_of}

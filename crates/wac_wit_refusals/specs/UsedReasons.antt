@@ -1,8 +1,8 @@
 -- What is wrong with a type that is used (WIT.md, "Item: `use`" and "Feature Gates").
 use Rattle.std.specs.Prelude.{◌≡◌, ℕ, Contains}
 use Rattle.wac_model.specs.Text.{Text}
-use Rattle.wac_wit_refusals.specs.Paths.{LeadsToItem}
-use Rattle.wac_wit_refusals.specs.Sites.{BodySyntax, HasBody, HasUseIn}
+use Rattle.wac_wit_refusals_sites.specs.Paths.{LeadsToItem}
+use Rattle.wac_wit_refusals_sites.specs.Sites.{BodySyntax, HasBody, HasUseIn}
 use Rattle.wac_wit_scopes.specs.WitSources.{IsEnabled, IsScopeAt, ScopeSyntax, WitSources, given_name, ident_text}
 use Rattle.wac_wit_syntax.specs.declared.positions.Span.{Span}
 use Rattle.wac_wit_syntax.specs.declared.tree.InterfaceDecl.{InterfaceDecl}

@@ -1,18 +1,20 @@
 //! Which refusals keep their reasons.
 
 ghost use Rattle.std.specs.Prelude.{◌≡◌, IfOk, IfSome, IsTrue, Some};
-ghost use Rattle.wac_wit_refusals.specs.Judging.{AreJudged, IsReasonOf, Judges};
+ghost use Rattle.wac_wit_names.specs.declared.reason.Reason.{Reason as Reasons};
+ghost use Rattle.wac_wit_refusals.specs.Judged.{AreJudged, IsReasonOf};
 ghost use Rattle.wac_wit_refusals.specs.Kept.{AreKeptRefusals, TellsStill};
 ghost use Rattle.wac_wit_refusals.specs.Reasons.{AreRefusedFor, IsWrong};
 ghost use Rattle.wac_wit_refusals.specs.Trees.{wit_sources};
+ghost use Rattle.wac_wit_refusals_sites.specs.Judging.{Judges};
 ghost use Rattle.wac_wit_scopes.specs.Parsed.{AreParsed};
 ghost use Rattle.wac_wit_scopes.specs.WitSources.{WitSources};
-ghost use Rattle.wac_wit_names.specs.declared.reason.Reason.{Reason as Reasons};
 
-use super::judge::Judge;
 use super::packages::{is_another_package, is_nameless, is_package_twice, is_upper_case};
+use super::reasons::holds;
 use std::alloc::{AllocError, Global};
 use wac_wit_names::{Reason, WitError, WitRefusal};
+use wac_wit_refusals_sites::Judge;
 use wac_wit_scopes::SourceTrees;
 use wac_wit_syntax::Span;
 
@@ -105,7 +107,7 @@ fn is_judged(
     ensures { IfOk result (λ is. IsTrue is → (of : WitSources) → IfSome judge.now (Judges of) → IsWrong of file span reason) }
 {
     match judge {
-        Some(judge) => judge.holds(file, span, reason),
+        Some(judge) => holds(judge, file, span, reason),
         None => Ok(false),
     }
 }

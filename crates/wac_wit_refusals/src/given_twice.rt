@@ -1,125 +1,122 @@
 //! Names that are given twice in files and in packages.
 
 ghost use Rattle.std.specs.Prelude.{◌≡◌, IfSome, IsTrue, Some};
-ghost use Rattle.wac_wit_refusals.specs.Judging.{Judges};
 ghost use Rattle.wac_wit_refusals.specs.Members.{GivesName, HasMember, HasMemberBeside, HasMemberElsewhere, HasMemberIn, HasMemberInOther, IsGivenElsewhere, IsGivenTwice, IsMemberTwice, IsTakenByPackage, IsTakenIn, IsTwiceIn, IsUseTwice, NamesMember, UsesOwn, used_ident};
-ghost use Rattle.wac_wit_refusals.specs.Paths.{ident_of_item};
+ghost use Rattle.wac_wit_refusals_sites.specs.Judging.{Judges};
+ghost use Rattle.wac_wit_refusals_sites.specs.Paths.{ident_of_item};
 ghost use Rattle.wac_wit_scopes.specs.Scopes.{scope_syntax};
 ghost use Rattle.wac_wit_scopes.specs.WitSources.{WitSources, ident_text, package_id};
 
-use super::judge::{Judge, is_at};
-use super::led::name_of;
+use wac_wit_refusals_sites::{Judge, is_at, name_of};
 use wac_wit_scopes::{ScopeItems, is_same_package};
 use wac_wit_syntax::{Ident, PackageName, Span, TopItem, TopUse};
 
-impl Judge<'_> {
-    /// Whether a file gives a name twice by `use`, once at this place.
-    pub(crate) fn is_use_twice(&self, file: usize, span: Span) -> bool
-        ensures { IsTrue result → (of : WitSources) → Judges of self.now → IsUseTwice of file span }
-    {
-        for scope in &self.scopes {
-            if scope.file == file && is_given_twice(scope.items, span) {
-                return true;
-            }
-        }
-        false
-    }
-
-    /// Whether a file gives a name by `use`, at this place, that the package has.
-    pub(crate) fn is_taken_by_package(&self, file: usize, span: Span) -> bool
-        ensures { IsTrue result → (of : WitSources) → Judges of self.now → IsTakenByPackage of file span }
-    {
-        for scope in &self.scopes {
-            if scope.file == file && self.is_taken_in(scope, span) {
-                return true;
-            }
-        }
-        false
-    }
-
-    fn is_taken_in(&self, scope: &ScopeItems<'_>, span: Span) -> bool
-        ensures { IsTrue result → (of : WitSources) → Judges of self.now → IsTakenIn of (scope_syntax scope.now) span }
-    {
-        for item in scope.items {
-            if let TopItem::Use(used) = item {
-                if self.is_taken(scope.package, used, span) {
-                    return true;
-                }
-            }
-        }
-        false
-    }
-
-    // Whether a package has the name that a `use` gives at a place.
-    fn is_taken(&self, package: &PackageName, used: &TopUse, span: Span) -> bool
-        ensures stands { IsTrue result → (used_ident used.now).span ≡ span }
-        ensures other { IsTrue result → UsesOwn used.now → ⊥ }
-        ensures taken { IsTrue result → (of : WitSources) → Judges of self.now → HasMember of (package_id «package».now) (ident_text (used_ident used.now)) }
-    {
-        let name = given_by(used);
-        is_at(name.span, span) && is_of_other(used, name) && self.has_member(package, name)
-    }
-
-    // Whether a package has an interface or a world of a name.
-    fn has_member(&self, package: &PackageName, name: &Ident) -> bool
-        ensures { IsTrue result → (of : WitSources) → Judges of self.now → HasMember of (package_id «package».now) (ident_text name.now) }
-    {
-        for scope in &self.scopes {
-            if is_same_package(scope.package, package) && has_member_in(scope.items, name) {
-                return true;
-            }
-        }
-        false
-    }
-
-    /// Whether a package has two interfaces or worlds of a name, one of them at this place.
-    pub(crate) fn is_member_twice(&self, file: usize, span: Span) -> bool
-        ensures { IsTrue result → (of : WitSources) → Judges of self.now → IsMemberTwice of file span }
-    {
-        for scope in &self.scopes {
-            if scope.file == file && self.is_twice_in(scope, span) {
-                return true;
-            }
-        }
-        false
-    }
-
-    fn is_twice_in(&self, scope: &ScopeItems<'_>, span: Span) -> bool
-        ensures { IsTrue result → (of : WitSources) → Judges of self.now → IsTwiceIn of scope.now.file (scope_syntax scope.now) span }
-    {
-        for (index, item) in scope.items.iter().enumerate() {
-            if let Some(name) = member_at(item, span) {
-                if self.is_elsewhere(scope, index, name) {
-                    return true;
-                }
-            }
-        }
-        false
-    }
-
-    // Whether an interface or a world of a name stands elsewhere in the package of a scope.
-    fn is_elsewhere(&self, scope: &ScopeItems<'_>, index: usize, name: &Ident) -> bool
-        ensures { IsTrue result → (of : WitSources) → Judges of self.now → HasMemberElsewhere of scope.now.file (scope_syntax scope.now) index (ident_text name.now) }
-    {
-        if has_member_beside(scope.items, index, name) {
+/// Whether a file gives a name twice by `use`, once at this place.
+pub(crate) fn is_use_twice(judge: &Judge<'_>, file: usize, span: Span) -> bool
+    ensures { IsTrue result → (of : WitSources) → Judges of judge.now → IsUseTwice of file span }
+{
+    for scope in &judge.scopes {
+        if scope.file == file && is_given_twice(scope.items, span) {
             return true;
         }
-        self.is_in_other_file(scope, name)
     }
+    false
+}
 
-    fn is_in_other_file(&self, scope: &ScopeItems<'_>, name: &Ident) -> bool
-        ensures { IsTrue result → (of : WitSources) → Judges of self.now → HasMemberInOther of scope.now.file (scope_syntax scope.now).package (ident_text name.now) }
-    {
-        for other in &self.scopes {
-            if other.file != scope.file
-                && is_same_package(other.package, scope.package)
-                && has_member_in(other.items, name)
-            {
+/// Whether a file gives a name by `use`, at this place, that the package has.
+pub(crate) fn is_taken_by_package(judge: &Judge<'_>, file: usize, span: Span) -> bool
+    ensures { IsTrue result → (of : WitSources) → Judges of judge.now → IsTakenByPackage of file span }
+{
+    for scope in &judge.scopes {
+        if scope.file == file && is_taken_in(judge, scope, span) {
+            return true;
+        }
+    }
+    false
+}
+
+fn is_taken_in(judge: &Judge<'_>, scope: &ScopeItems<'_>, span: Span) -> bool
+    ensures { IsTrue result → (of : WitSources) → Judges of judge.now → IsTakenIn of (scope_syntax scope.now) span }
+{
+    for item in scope.items {
+        if let TopItem::Use(used) = item {
+            if is_taken(judge, scope.package, used, span) {
                 return true;
             }
         }
-        false
     }
+    false
+}
+
+// Whether a package has the name that a `use` gives at a place.
+fn is_taken(judge: &Judge<'_>, package: &PackageName, used: &TopUse, span: Span) -> bool
+    ensures stands { IsTrue result → (used_ident used.now).span ≡ span }
+    ensures other { IsTrue result → UsesOwn used.now → ⊥ }
+    ensures taken { IsTrue result → (of : WitSources) → Judges of judge.now → HasMember of (package_id «package».now) (ident_text (used_ident used.now)) }
+{
+    let name = given_by(used);
+    is_at(name.span, span) && is_of_other(used, name) && has_member(judge, package, name)
+}
+
+// Whether a package has an interface or a world of a name.
+fn has_member(judge: &Judge<'_>, package: &PackageName, name: &Ident) -> bool
+    ensures { IsTrue result → (of : WitSources) → Judges of judge.now → HasMember of (package_id «package».now) (ident_text name.now) }
+{
+    for scope in &judge.scopes {
+        if is_same_package(scope.package, package) && has_member_in(scope.items, name) {
+            return true;
+        }
+    }
+    false
+}
+
+/// Whether a package has two interfaces or worlds of a name, one of them at this place.
+pub(crate) fn is_member_twice(judge: &Judge<'_>, file: usize, span: Span) -> bool
+    ensures { IsTrue result → (of : WitSources) → Judges of judge.now → IsMemberTwice of file span }
+{
+    for scope in &judge.scopes {
+        if scope.file == file && is_twice_in(judge, scope, span) {
+            return true;
+        }
+    }
+    false
+}
+
+fn is_twice_in(judge: &Judge<'_>, scope: &ScopeItems<'_>, span: Span) -> bool
+    ensures { IsTrue result → (of : WitSources) → Judges of judge.now → IsTwiceIn of scope.now.file (scope_syntax scope.now) span }
+{
+    for (index, item) in scope.items.iter().enumerate() {
+        if let Some(name) = member_at(item, span) {
+            if is_elsewhere(judge, scope, index, name) {
+                return true;
+            }
+        }
+    }
+    false
+}
+
+// Whether an interface or a world of a name stands elsewhere in the package of a scope.
+fn is_elsewhere(judge: &Judge<'_>, scope: &ScopeItems<'_>, index: usize, name: &Ident) -> bool
+    ensures { IsTrue result → (of : WitSources) → Judges of judge.now → HasMemberElsewhere of scope.now.file (scope_syntax scope.now) index (ident_text name.now) }
+{
+    if has_member_beside(scope.items, index, name) {
+        return true;
+    }
+    is_in_other_file(judge, scope, name)
+}
+
+fn is_in_other_file(judge: &Judge<'_>, scope: &ScopeItems<'_>, name: &Ident) -> bool
+    ensures { IsTrue result → (of : WitSources) → Judges of judge.now → HasMemberInOther of scope.now.file (scope_syntax scope.now).package (ident_text name.now) }
+{
+    for other in &judge.scopes {
+        if other.file != scope.file
+            && is_same_package(other.package, scope.package)
+            && has_member_in(other.items, name)
+        {
+            return true;
+        }
+    }
+    false
 }
 
 // Whether a name that a `use` gives at a place is given by another one too.

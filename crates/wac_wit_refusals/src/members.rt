@@ -1,128 +1,132 @@
 //! Paths that name no package, or nothing in it.
 
 ghost use Rattle.std.specs.Prelude.{◌≡◌, ◌↔◌, ℕ, Contains, IfOk, IsTrue, Some};
-ghost use Rattle.wac_wit_refusals.specs.Judging.{Judges};
-ghost use Rattle.wac_wit_refusals.specs.Leading.{IsKnownPath, LacksMember, LeadsNowhere};
 ghost use Rattle.wac_wit_refusals.specs.PathReasons.{IsOwnPackage, IsUnknownMember, IsUnknownPackage, LeadsDirectly};
-ghost use Rattle.wac_wit_refusals.specs.Paths.{name_of_item};
+ghost use Rattle.wac_wit_refusals.specs.PathSteps.{LacksMember, LeadsNowhere};
+ghost use Rattle.wac_wit_refusals_sites.specs.Judging.{Judges};
+ghost use Rattle.wac_wit_refusals_sites.specs.Leading.{IsKnownPath};
+ghost use Rattle.wac_wit_refusals_sites.specs.Paths.{name_of_item};
 ghost use Rattle.wac_wit_scopes.specs.Scopes.{scope_syntax};
 ghost use Rattle.wac_wit_scopes.specs.WitSources.{HaveOneName, IsPackageOf, IsScopeOf, ScopeSyntax, WitSources, given_name, ident_text, package_id};
 ghost use Rattle.wac_wit_scopes.specs.declared.scopes.ScopeItems.{ScopeItems as Scopes};
-ghost use Rattle.wac_wit_syntax.specs.declared.tree.TopUse.{TopUse as UseOf};
 ghost use Rattle.wac_wit_syntax.specs.declared.tree.TopItem.TheVariants as top;
+ghost use Rattle.wac_wit_syntax.specs.declared.tree.TopUse.{TopUse as UseOf};
 
-use super::judge::{Judge, is_at};
-use super::led::name_of;
-use super::naming::{is_named, is_package_of};
-use super::paths::{PlacedPath, Sought};
 use std::alloc::AllocError;
+use wac_wit_refusals_sites::{Judge, PlacedPath, Sought, is_at, is_named, is_package_of, name_of};
 use wac_wit_scopes::{ScopeItems, have_one_name, is_same_package, used_name};
 use wac_wit_syntax::{Ident, PackageName, Path, Span, TopItem};
 
-impl Judge<'_> {
-    /// Whether a path names a package that isn't there.
-    pub(crate) fn is_unknown_package(&self, file: usize, span: Span) -> Result<bool, AllocError>
-        ensures { IfOk result (λ is. IsTrue is → (of : WitSources) → Judges of self.now → IsUnknownPackage of file span) }
-    {
-        let paths = self.paths_in(file)?;
-        for path in &paths {
-            if self.is_path_unnamed(path, span) {
-                return Ok(true);
-            }
-        }
-        Ok(false)
-    }
-
-    fn is_path_unnamed(&self, of: &PlacedPath<'_>, span: Span) -> bool
-        ensures { IsTrue result → (sources : WitSources) → Judges sources self.now → (file : ℕ) → IsKnownPath sources file of.now → IsUnknownPackage sources file span }
-    {
-        match &of.path.package {
-            Some(named) => is_at(named.span, span) && self.is_unnamed(named),
-            None => false,
+/// Whether a path names a package that isn't there.
+pub(crate) fn is_unknown_package(
+    judge: &Judge<'_>,
+    file: usize,
+    span: Span,
+) -> Result<bool, AllocError>
+    ensures { IfOk result (λ is. IsTrue is → (of : WitSources) → Judges of judge.now → IsUnknownPackage of file span) }
+{
+    let paths = judge.paths_in(file)?;
+    for path in &paths {
+        if is_path_unnamed(judge, path, span) {
+            return Ok(true);
         }
     }
+    Ok(false)
+}
 
-    /// Whether a path names the package that it stands in.
-    pub(crate) fn is_own_package(&self, file: usize, span: Span) -> Result<bool, AllocError>
-        ensures { IfOk result (λ is. IsTrue is → (of : WitSources) → Judges of self.now → IsOwnPackage of file span) }
-    {
-        let paths = self.paths_in(file)?;
-        for path in &paths {
-            if names_own(path, span) {
-                return Ok(true);
-            }
-        }
-        Ok(false)
+fn is_path_unnamed(judge: &Judge<'_>, of: &PlacedPath<'_>, span: Span) -> bool
+    ensures { IsTrue result → (sources : WitSources) → Judges sources judge.now → (file : ℕ) → IsKnownPath sources file of.now → IsUnknownPackage sources file span }
+{
+    match &of.path.package {
+        Some(named) => is_at(named.span, span) && judge.is_unnamed(named),
+        None => false,
     }
+}
 
-    /// Whether a path leads to nothing in a package.
-    pub(crate) fn is_unknown_member(&self, file: usize, span: Span) -> Result<bool, AllocError>
-        ensures { IfOk result (λ is. IsTrue is → (of : WitSources) → Judges of self.now → IsUnknownMember of file span) }
-    {
-        let paths = self.paths_in(file)?;
-        for path in &paths {
-            if self.leads_nowhere(path, span) {
-                return Ok(true);
-            }
+/// Whether a path names the package that it stands in.
+pub(crate) fn is_own_package(judge: &Judge<'_>, file: usize, span: Span) -> Result<bool, AllocError>
+    ensures { IfOk result (λ is. IsTrue is → (of : WitSources) → Judges of judge.now → IsOwnPackage of file span) }
+{
+    let paths = judge.paths_in(file)?;
+    for path in &paths {
+        if names_own(path, span) {
+            return Ok(true);
         }
-        Ok(false)
     }
+    Ok(false)
+}
 
-    fn leads_nowhere(&self, of: &PlacedPath<'_>, span: Span) -> bool
-        ensures { IsTrue result → (sources : WitSources) → Judges sources self.now → (file : ℕ) → IsKnownPath sources file of.now → IsUnknownMember sources file span }
-    {
-        if !is_at(of.path.name.span, span) || !leads_directly(of) {
+/// Whether a path leads to nothing in a package.
+pub(crate) fn is_unknown_member(
+    judge: &Judge<'_>,
+    file: usize,
+    span: Span,
+) -> Result<bool, AllocError>
+    ensures { IfOk result (λ is. IsTrue is → (of : WitSources) → Judges of judge.now → IsUnknownMember of file span) }
+{
+    let paths = judge.paths_in(file)?;
+    for path in &paths {
+        if leads_nowhere(judge, path, span) {
+            return Ok(true);
+        }
+    }
+    Ok(false)
+}
+
+fn leads_nowhere(judge: &Judge<'_>, of: &PlacedPath<'_>, span: Span) -> bool
+    ensures { IsTrue result → (sources : WitSources) → Judges sources judge.now → (file : ℕ) → IsKnownPath sources file of.now → IsUnknownMember sources file span }
+{
+    if !is_at(of.path.name.span, span) || !leads_directly(of) {
+        return false;
+    }
+    has_package(judge, &of.scope, of.path) && lacks_member(judge, &of.scope, of.path)
+}
+
+// Whether the package of a path is there.
+fn has_package(judge: &Judge<'_>, from: &ScopeItems<'_>, path: &Path) -> bool
+    ensures { IsTrue result → (of : WitSources) → Judges of judge.now → (v : ScopeSyntax) × IsScopeOf of v × IsPackageOf of (scope_syntax from.now) path.now.package v.package }
+{
+    for scope in &judge.scopes {
+        if is_package_of(from, &path.package, scope) {
+            return true;
+        }
+    }
+    false
+}
+
+// Whether no package that a path may name has something of the path's name.
+fn lacks_member(judge: &Judge<'_>, from: &ScopeItems<'_>, path: &Path) -> bool
+    ensures { IsTrue result → (of : WitSources) → Judges of judge.now → LeadsNowhere of (scope_syntax from.now) path.now }
+{
+    match &path.package {
+        Some(named) if judge.is_exact(named) => is_lacking(judge, named, &path.name),
+        Some(named) => are_lacking(judge, named, &path.name),
+        None => is_lacking(judge, from.package, &path.name),
+    }
+}
+
+// Whether a package has nothing of a name.
+fn is_lacking(judge: &Judge<'_>, package: &PackageName, name: &Ident) -> bool
+    ensures { IsTrue result → (w : Scopes) → Contains judge.now.scopes.items w → package_id «package».now ≡ package_id w.package.now → LacksMember w.items.now (ident_text name.now) }
+{
+    for scope in &judge.scopes {
+        if is_same_package(package, scope.package) && !lacks(scope.items, name) {
             return false;
         }
-        self.has_package(&of.scope, of.path) && self.lacks_member(&of.scope, of.path)
     }
+    true
+}
 
-    // Whether the package of a path is there.
-    fn has_package(&self, from: &ScopeItems<'_>, path: &Path) -> bool
-        ensures { IsTrue result → (of : WitSources) → Judges of self.now → (v : ScopeSyntax) × IsScopeOf of v × IsPackageOf of (scope_syntax from.now) path.now.package v.package }
-    {
-        for scope in &self.scopes {
-            if is_package_of(from, &path.package, scope) {
-                return true;
-            }
-        }
-        false
-    }
-
-    // Whether no package that a path may name has something of the path's name.
-    fn lacks_member(&self, from: &ScopeItems<'_>, path: &Path) -> bool
-        ensures { IsTrue result → (of : WitSources) → Judges of self.now → LeadsNowhere of (scope_syntax from.now) path.now }
-    {
-        match &path.package {
-            Some(named) if self.is_exact(named) => self.is_lacking(named, &path.name),
-            Some(named) => self.are_lacking(named, &path.name),
-            None => self.is_lacking(from.package, &path.name),
+// The same of all versions of a package.
+fn are_lacking(judge: &Judge<'_>, package: &PackageName, name: &Ident) -> bool
+    ensures { IsTrue result → (w : Scopes) → Contains judge.now.scopes.items w → HaveOneName (package_id w.package.now) (package_id «package».now) → LacksMember w.items.now (ident_text name.now) }
+{
+    for scope in &judge.scopes {
+        if have_one_name(scope.package, package) && !lacks(scope.items, name) {
+            return false;
         }
     }
-
-    // Whether a package has nothing of a name.
-    fn is_lacking(&self, package: &PackageName, name: &Ident) -> bool
-        ensures { IsTrue result → (w : Scopes) → Contains self.now.scopes.items w → package_id «package».now ≡ package_id w.package.now → LacksMember w.items.now (ident_text name.now) }
-    {
-        for scope in &self.scopes {
-            if is_same_package(package, scope.package) && !lacks(scope.items, name) {
-                return false;
-            }
-        }
-        true
-    }
-
-    // The same of all versions of a package.
-    fn are_lacking(&self, package: &PackageName, name: &Ident) -> bool
-        ensures { IsTrue result → (w : Scopes) → Contains self.now.scopes.items w → HaveOneName (package_id w.package.now) (package_id «package».now) → LacksMember w.items.now (ident_text name.now) }
-    {
-        for scope in &self.scopes {
-            if have_one_name(scope.package, package) && !lacks(scope.items, name) {
-                return false;
-            }
-        }
-        true
-    }
+    true
 }
 
 fn names_own(of: &PlacedPath<'_>, span: Span) -> bool

@@ -5,7 +5,7 @@ ghost use Rattle.wac_wit_refusals.specs.Packages.{HasUpperCase, HasUpperCaseIn, 
 ghost use Rattle.wac_wit_refusals.specs.Trees.{IsFileTree, IsPlacedName, package_place, wit_sources};
 ghost use Rattle.wac_wit_scopes.specs.WitSources.{WitSources, package_id, version_text};
 
-use super::judge::is_at;
+use wac_wit_refusals_sites::is_at;
 use wac_wit_scopes::{SourceTrees, is_same_package};
 use wac_wit_syntax::{Document, Ident, PackageName, Span};
 

@@ -2,45 +2,43 @@
 
 ghost use Rattle.std.specs.Prelude.{◌≡◌, ◌⊎◌, Contains, IfSome, IsTrue};
 ghost use Rattle.wac_wit_refusals.specs.Attributes.{IsAbovePackage, IsUnversioned, IsUnversionedIn, IsVersionAbove, IsYounger, IsYoungerIn, SaysSince, SinceIn, SinceInWorld, SinceInside, SinceOfExtern, SinceOfItem, SinceOfTop, SinceOfType, SinceOfWorldItem, extern_span};
-ghost use Rattle.wac_wit_refusals.specs.Judging.{Judges};
+ghost use Rattle.wac_wit_refusals_sites.specs.Judging.{Judges};
 ghost use Rattle.wac_wit_scopes.specs.Scopes.{scope_syntax};
 ghost use Rattle.wac_wit_scopes.specs.WitSources.{WitSources, package_id};
 ghost use Rattle.wac_wit_syntax.specs.declared.tree.Method.{Method as MethodOf};
 
-use super::judge::{Judge, is_at};
 use semver::Version;
 use std::alloc::Global;
 use std::cmp::Ordering;
+use wac_wit_refusals_sites::{Judge, is_at};
 use wac_wit_scopes::ScopeItems;
 use wac_wit_syntax::{
     Extern, ExternItem, Gate, Gates, InterfaceDecl, InterfaceItem, Method, PackageName, Span,
     TopItem, TypeDef, TypeItem, WorldDecl, WorldItem,
 };
 
-impl Judge<'_> {
-    /// Whether what stands at a place is there since a version, and the package has none.
-    pub(crate) fn is_unversioned(&self, file: usize, span: Span) -> bool
-        ensures { IsTrue result → (of : WitSources) → Judges of self.now → IsUnversioned of file span }
-    {
-        for scope in &self.scopes {
-            if scope.file == file && is_unversioned_in(scope, span) {
-                return true;
-            }
+/// Whether what stands at a place is there since a version, and the package has none.
+pub(crate) fn is_unversioned(judge: &Judge<'_>, file: usize, span: Span) -> bool
+    ensures { IsTrue result → (of : WitSources) → Judges of judge.now → IsUnversioned of file span }
+{
+    for scope in &judge.scopes {
+        if scope.file == file && is_unversioned_in(scope, span) {
+            return true;
         }
-        false
     }
+    false
+}
 
-    /// Whether what stands at a place is there since a version above that of its package.
-    pub(crate) fn is_younger(&self, file: usize, span: Span) -> bool
-        ensures { IsTrue result → (of : WitSources) → Judges of self.now → IsYounger of file span }
-    {
-        for scope in &self.scopes {
-            if scope.file == file && is_younger_in(self.alloc, scope, span) {
-                return true;
-            }
+/// Whether what stands at a place is there since a version above that of its package.
+pub(crate) fn is_younger(judge: &Judge<'_>, file: usize, span: Span) -> bool
+    ensures { IsTrue result → (of : WitSources) → Judges of judge.now → IsYounger of file span }
+{
+    for scope in &judge.scopes {
+        if scope.file == file && is_younger_in(judge.alloc, scope, span) {
+            return true;
         }
-        false
     }
+    false
 }
 
 fn is_unversioned_in(scope: &ScopeItems<'_>, span: Span) -> bool

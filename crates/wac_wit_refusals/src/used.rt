@@ -1,20 +1,17 @@
 //! Types of other interfaces that aren't there.
 
 ghost use Rattle.std.specs.Prelude.{◌≡◌, ◌↔◌, ℕ, Contains, IfOk, IfSome, IsTrue};
-ghost use Rattle.wac_wit_refusals.specs.Judging.{IsKnownBody, Judges, body_syntax};
-ghost use Rattle.wac_wit_refusals.specs.Leading.{IsFoundUsed, IsTypeHidden, IsUsedIf};
-ghost use Rattle.wac_wit_refusals.specs.Sites.{HasUseIn};
+ghost use Rattle.wac_wit_refusals.specs.PathSteps.{IsFoundUsed, IsTypeHidden, IsUsedIf};
 ghost use Rattle.wac_wit_refusals.specs.UsedReasons.{GivesTypeName, IsHiddenUsed, IsInsideEnabled, IsUnknownUsed};
+ghost use Rattle.wac_wit_refusals_sites.specs.Judging.{IsKnownBody, Judges, body_syntax};
+ghost use Rattle.wac_wit_refusals_sites.specs.Sites.{HasUseIn};
 ghost use Rattle.wac_wit_scopes.specs.WitSources.{WitSources, ident_text};
 ghost use Rattle.wac_wit_syntax.specs.declared.tree.InterfaceItem.{InterfaceItem as InsideOf};
 ghost use Rattle.wac_wit_syntax.specs.declared.tree.Rename.{Rename as RenameOf};
 ghost use Rattle.wac_wit_syntax.specs.declared.tree.TopItem.TheVariants as top;
 
-use super::bodies::PlacedBody;
-use super::judge::{Judge, is_at};
-use super::type_items::uses_of;
-use super::type_names::gives;
 use std::alloc::AllocError;
+use wac_wit_refusals_sites::{Judge, PlacedBody, gives, is_at, uses_of};
 use wac_wit_syntax::{Ident, InterfaceDecl, InterfaceItem, Rename, Span, TopItem, UseItem};
 
 /// A type that is used: the interface, and the name.
@@ -24,101 +21,107 @@ pub(crate) struct FoundUsed<'b> {
     pub(crate) name: &'b Ident,
 }
 
-impl<'j> Judge<'j> {
-    /// Whether an interface has no type of a name that is used.
-    pub(crate) fn is_unknown_used(&self, file: usize, span: Span) -> Result<bool, AllocError>
-        ensures { IfOk result (λ is. IsTrue is → (of : WitSources) → Judges of self.now → IsUnknownUsed of file span) }
-    {
-        match self.used_at(file, span)? {
-            Some(used) => Ok(lacks_type(&used.from.items, used.name)),
-            None => Ok(false),
+/// Whether an interface has no type of a name that is used.
+pub(crate) fn is_unknown_used(
+    judge: &Judge<'_>,
+    file: usize,
+    span: Span,
+) -> Result<bool, AllocError>
+    ensures { IfOk result (λ is. IsTrue is → (of : WitSources) → Judges of judge.now → IsUnknownUsed of file span) }
+{
+    match used_at(judge, file, span)? {
+        Some(used) => Ok(lacks_type(&used.from.items, used.name)),
+        None => Ok(false),
+    }
+}
+
+/// Whether an interface has a type of a name that is used, which a feature hides.
+pub(crate) fn is_hidden_used(judge: &Judge<'_>, file: usize, span: Span) -> Result<bool, AllocError>
+    ensures { IfOk result (λ is. IsTrue is → (of : WitSources) → Judges of judge.now → IsHiddenUsed of file span) }
+{
+    match used_at(judge, file, span)? {
+        Some(used) => Ok(is_type_hidden(judge, &used.from.items, used.name)),
+        None => Ok(false),
+    }
+}
+
+fn is_type_hidden(judge: &Judge<'_>, items: &[InterfaceItem], name: &Ident) -> bool
+    ensures { IsTrue result → (of : WitSources) → Judges of judge.now → IsTypeHidden of items.now (ident_text name.now) }
+{
+    has_type(items, name) && lacks_type_there(judge, items, name)
+}
+
+fn lacks_type_there(judge: &Judge<'_>, items: &[InterfaceItem], name: &Ident) -> bool
+    ensures { IsTrue result → (of : WitSources) → Judges of judge.now → (t : InsideOf) → Contains items.now t → GivesTypeName t (ident_text name.now) → IsInsideEnabled of t → ⊥ }
+{
+    for item in items {
+        if gives_type(item, name) && is_inside_there(judge, item) {
+            return false;
         }
     }
+    true
+}
 
-    /// Whether an interface has a type of a name that is used, which a feature hides.
-    pub(crate) fn is_hidden_used(&self, file: usize, span: Span) -> Result<bool, AllocError>
-        ensures { IfOk result (λ is. IsTrue is → (of : WitSources) → Judges of self.now → IsHiddenUsed of file span) }
-    {
-        match self.used_at(file, span)? {
-            Some(used) => Ok(self.is_type_hidden(&used.from.items, used.name)),
-            None => Ok(false),
+fn is_inside_there(judge: &Judge<'_>, item: &InterfaceItem) -> bool
+    ensures { (of : WitSources) → Judges of judge.now → IsTrue result ↔ IsInsideEnabled of item.now }
+{
+    match item {
+        InterfaceItem::Type(it) => judge.is_there(&it.gates),
+        InterfaceItem::Use(it) => judge.is_there(&it.gates),
+        InterfaceItem::Func(it) => judge.is_there(&it.gates),
+    }
+}
+
+// The type whose name stands at a place of a file, where it is used.
+fn used_at<'j>(
+    judge: &Judge<'j>,
+    file: usize,
+    span: Span,
+) -> Result<Option<FoundUsed<'j>>, AllocError>
+    ensures { IfOk result (λ o. IfSome o (λ u. (of : WitSources) → Judges of judge.now → IsFoundUsed of file span u)) }
+{
+    let bodies = judge.bodies_in(file)?;
+    for body in &bodies {
+        if let Some(used) = used_in(judge, body, span)? {
+            return Ok(Some(used));
         }
     }
+    Ok(None)
+}
 
-    fn is_type_hidden(&self, items: &[InterfaceItem], name: &Ident) -> bool
-        ensures { IsTrue result → (of : WitSources) → Judges of self.now → IsTypeHidden of items.now (ident_text name.now) }
-    {
-        has_type(items, name) && self.lacks_type_there(items, name)
-    }
-
-    fn lacks_type_there(&self, items: &[InterfaceItem], name: &Ident) -> bool
-        ensures { IsTrue result → (of : WitSources) → Judges of self.now → (t : InsideOf) → Contains items.now t → GivesTypeName t (ident_text name.now) → IsInsideEnabled of t → ⊥ }
-    {
-        for item in items {
-            if gives_type(item, name) && self.is_inside_there(item) {
-                return false;
-            }
-        }
-        true
-    }
-
-    fn is_inside_there(&self, item: &InterfaceItem) -> bool
-        ensures { (of : WitSources) → Judges of self.now → IsTrue result ↔ IsInsideEnabled of item.now }
-    {
-        match item {
-            InterfaceItem::Type(it) => self.is_there(&it.gates),
-            InterfaceItem::Use(it) => self.is_there(&it.gates),
-            InterfaceItem::Func(it) => self.is_there(&it.gates),
+fn used_in<'j>(
+    judge: &Judge<'j>,
+    body: &PlacedBody<'j>,
+    span: Span,
+) -> Result<Option<FoundUsed<'j>>, AllocError>
+    ensures { IfOk result (λ o. IfSome o (λ u. (of : WitSources) → Judges of judge.now → (file : ℕ) → IsKnownBody of file body.now → IsFoundUsed of file span u)) }
+{
+    for placed in &uses_of(judge.alloc, &body.body)? {
+        if let Some(used) = used_by(judge, body, placed.used, span)? {
+            return Ok(Some(used));
         }
     }
+    Ok(None)
+}
 
-    // The type whose name stands at a place of a file, where it is used.
-    fn used_at(&self, file: usize, span: Span) -> Result<Option<FoundUsed<'j>>, AllocError>
-        ensures { IfOk result (λ o. IfSome o (λ u. (of : WitSources) → Judges of self.now → IsFoundUsed of file span u)) }
-    {
-        let bodies = self.bodies_in(file)?;
-        for body in &bodies {
-            if let Some(used) = self.used_in(body, span)? {
-                return Ok(Some(used));
-            }
-        }
-        Ok(None)
+// The type that a `use` names at a place.
+fn used_by<'j>(
+    judge: &Judge<'j>,
+    body: &PlacedBody<'j>,
+    item: &'j UseItem,
+    span: Span,
+) -> Result<Option<FoundUsed<'j>>, AllocError>
+    ensures { IfOk result (λ o. IfSome o (IsUsedIf judge.now body.now span (HasUseIn (body_syntax body.now.body) item.now))) }
+{
+    if !judge.is_there(&item.gates) {
+        return Ok(None);
     }
-
-    fn used_in(
-        &self,
-        body: &PlacedBody<'j>,
-        span: Span,
-    ) -> Result<Option<FoundUsed<'j>>, AllocError>
-        ensures { IfOk result (λ o. IfSome o (λ u. (of : WitSources) → Judges of self.now → (file : ℕ) → IsKnownBody of file body.now → IsFoundUsed of file span u)) }
-    {
-        for placed in &uses_of(self.alloc, &body.body)? {
-            if let Some(used) = self.used_by(body, placed.used, span)? {
-                return Ok(Some(used));
-            }
-        }
-        Ok(None)
-    }
-
-    // The type that a `use` names at a place.
-    fn used_by(
-        &self,
-        body: &PlacedBody<'j>,
-        item: &'j UseItem,
-        span: Span,
-    ) -> Result<Option<FoundUsed<'j>>, AllocError>
-        ensures { IfOk result (λ o. IfSome o (IsUsedIf self.now body.now span (HasUseIn (body_syntax body.now.body) item.now))) }
-    {
-        if !self.is_there(&item.gates) {
-            return Ok(None);
-        }
-        let Some(name) = name_at(&item.names, span) else {
-            return Ok(None);
-        };
-        match self.led_to(&body.scope, &item.path)? {
-            Some(led) => Ok(found_in(led.item, name)),
-            None => Ok(None),
-        }
+    let Some(name) = name_at(&item.names, span) else {
+        return Ok(None);
+    };
+    match judge.led_to(&body.scope, &item.path)? {
+        Some(led) => Ok(found_in(led.item, name)),
+        None => Ok(None),
     }
 }
 

@@ -16,15 +16,17 @@ use Rattle.wac_component.specs.declared.items.ItemKind.TheVariants.{Instance}
 use Rattle.wac_wit_syntax.specs.declared.tree.InterfaceItem.{InterfaceItem}
 use Rattle.wac_wit_syntax.specs.declared.tree.InterfaceDecl.{InterfaceDecl}
 use Rattle.wac_wit_syntax.specs.declared.tree.TopItem.TheVariants as top
-use Rattle.wac_wit_validation.specs.Checking.{AreExportsOf, HasItem, IsValidated, Knows}
+use Rattle.wac_wit_validation_types.specs.Exports.{AreExportsOf, HasItem}
+use Rattle.wac_wit_validation.specs.Checking.{IsValidated, Knows}
 use Rattle.wac_wit_scopes.specs.Scopes.{scope_syntax}
-use Rattle.wac_wit_validation.specs.Validated.{IsInterfaceOf, package_text}
-use Rattle.wac_wit_validation.specs.Denoted.{interface_setting}
-use Rattle.wac_wit_validation.specs.Interfaces.{HasExportOf, IsInterfaceTree}
-use Rattle.wac_wit_validation.specs.Origins.{AreUsesOf}
+use Rattle.wac_wit_validation.specs.Validated.{IsInterfaceOf}
+use Rattle.wac_wit_validation_types.specs.Placed.{package_text}
+use Rattle.wac_wit_validation_types.specs.Denoted.{interface_setting}
+use Rattle.wac_wit_validation_types.specs.Interfaces.{HasExportOf, IsInterfaceTree}
+use Rattle.wac_wit_validation_types.specs.Origins.{AreUsesOf}
 use Rattle.wac_wit_scopes.specs.WitSources.{IsEnabled, ScopeSyntax, WitSources, ident_text, interface_identifier, package_id, version_text}
 use Rattle.wac_wit_scopes.specs.declared.scopes.ScopeItems.{ScopeItems}
-use Rattle.wac_wit_validation.specs.declared.validator.FoundInterface.{FoundInterface}
+use Rattle.wac_wit_validation_names.specs.declared.places.FoundInterface.{FoundInterface}
 use Rattle.wac_wit_validation.specs.declared.validator.Validator.{Validator}
 
 -- an interface stays found where the scopes and the collection stay

@@ -1,14 +1,8 @@
 -- What names become in worlds that come into others, and the layers of these.
-use Rattle.std.proofs.Common.{◌≡◌, ◌≢◌, ◌⊎◌, ◌∙◌, inl, inr, ℕ, ◌+◌, ◌<◌, ◌≤◌, Bool, true, false, arith, cond, List, [], ◌∷◌, ◌++◌, Contains, Option, Some, length, get_or, drop, refl, sym, ap, subst}
-use Rattle.std.specs.Prelude.{IsTrue, slice_get, ◌==◌}
+use Rattle.std.proofs.Common.{◌≡◌, ◌⊎◌, ◌∙◌, inl, inr, ℕ, ◌+◌, ◌<◌, ◌≤◌, Bool, false, arith, List, [], ◌∷◌, ◌++◌, Contains, length, get_or, refl, sym, ap, subst}
+use Rattle.std.specs.Prelude.{IsTrue}
 use Rattle.std.specs.Borrow.{Bor}
-use Rattle.std.specs.Option.{option_map_or}
-use Rattle.std.specs.Str.{bytes_eq}
-use Rattle.std.proofs.lemmas.Bool.{eqb-true}
-use Rattle.std.proofs.lemmas.List.{at_drop_more}
 use Rattle.std.proofs.lemmas.List.Elements.{Contains-append_left, Contains-push, Contains-push_cases}
-use Rattle.std.proofs.lemmas.Option.{get_or_from_slice_get, same_Some, slice_get_within}
-use Rattle.std.proofs.lemmas.Slice.Eq.{bytes_eq-Decides}
 use Rattle.wac_model.specs.Text.{Text}
 use Rattle.wac_wit_syntax.specs.declared.tree.IncludeItem.{IncludeItem}
 use Rattle.wac_wit_syntax.specs.declared.tree.Rename.{Rename}
@@ -16,70 +10,22 @@ use Rattle.wac_wit_syntax.specs.declared.tree.WorldDecl.{WorldDecl}
 use Rattle.wac_wit_syntax.specs.declared.tree.WorldItem.{WorldItem}
 use Rattle.wac_wit_syntax.specs.declared.tree.WorldItem.TheVariants as of_world
 use Rattle.wac_wit_validation.proofs.WorldFacts.{no_truth, scope_of}
-use Rattle.wac_wit_validation.proofs.AmbiguityFacts.{EachBelow, EachBelow-end, EachBelow-more, EachBelow-none, slice_get-among}
-use Rattle.wac_wit_validation.specs.Denoted.{renamed}
-use Rattle.wac_wit_validation.specs.Placed.{LeadsToWorld, PlacedWorld}
-use Rattle.wac_wit_validation.specs.Reading.{AreNamesBy, IsComposed, new_name, new_name_or}
-use Rattle.wac_wit_scopes.specs.WitSources.{IsEnabled, ScopeSyntax, WitSources, given_name, ident_text}
-use Rattle.wac_wit_validation.specs.WorldChecking.{AddsLayersIn, AreLayersOf, AreNamingItems, CoversInside, GivesNames, IsLayerIn, IsLayerOf, IsRenamedLayer, IsIndexedScope, IsTextAt, IsValidatedWorld, IsWorldAt}
+use Rattle.wac_wit_validation_names.proofs.AmbiguityFacts.{EachBelow, EachBelow-end, EachBelow-more, EachBelow-none, slice_get-among}
+use Rattle.wac_wit_validation_types.specs.Denoted.{renamed}
+use Rattle.wac_wit_validation_types.specs.Placed.{LeadsToWorld, PlacedWorld}
+use Rattle.wac_wit_validation_types.specs.Reading.{AreNamesBy, new_name_or}
+use Rattle.wac_wit_scopes.specs.WitSources.{IsEnabled, ScopeSyntax, WitSources}
+use Rattle.wac_wit_validation.specs.WorldChecking.{AddsLayersIn, AreLayersOf, AreNamingItems, CoversInside, GivesNames, IsIndexedScope, IsLayerIn, IsLayerOf, IsTextAt, IsValidatedWorld, IsWorldAt}
+use Rattle.wac_wit_validation_names.specs.Layers.{IsRenamedLayer}
 use Rattle.wac_wit_validation.specs.WorldClauses.{LeadsToPlace}
-use Rattle.wac_wit_validation.specs.Worlds.{BringsIn, by_include, itself}
-use Rattle.wac_wit_validation.specs.declared.layers.Layer.{Layer}
-use Rattle.wac_wit_validation.specs.declared.layers.NewNames.{NewNames}
+use Rattle.wac_wit_validation_types.specs.Worlds.{BringsIn, by_include, itself}
+use Rattle.wac_wit_validation_names.specs.declared.layers.Layer.{Layer}
+use Rattle.wac_wit_validation_types.specs.declared.new_names.NewNames.{NewNames}
 use Rattle.wac_wit_validation.specs.declared.validator.FoundWorld.{FoundWorld}
-use Rattle.wac_wit_validation.specs.declared.validator.ItemPlace.{ItemPlace}
+use Rattle.wac_wit_validation_names.specs.declared.places.ItemPlace.{ItemPlace}
 use Rattle.wac_wit_validation.specs.declared.validator.Validator.{Validator}
 use Rattle.wac_wit_validation.specs.declared.validator.WorldText.{WorldText}
-
--- ---- what names become
-
--- where a text is updated, others stay
-pub update-others : {A : Type 0} (before after : Text → Option A) (key : Text) (x : Option A) → ((n : Text) → after n ≡ cond (bytes_eq key n) x (before n)) → (n : Text) → n ≢ key → after n ≡ before n
-update-others before after key x updates n other = by (bytes_eq key n) refl
-  where
-    by : (b : Bool) → bytes_eq key n ≡ b → after n ≡ before n
-    by true e = absurd (other (sym ((bytes_eq-Decides key n).0 e)))
-    by false e = updates n ∙ ap (λ (c : Bool). cond c x (before n)) e
-
-module _ (old new : NewNames) (key x : Text) (same : new_name new key ≡ Some x) (others : (n : Text) → n ≢ key → new_name new n ≡ new_name old n) where
-  -- a name is the one that was put, or was there
-  new_name-cases : (n y : Text) → new_name new n ≡ Some y → ((n ≡ key) × (x ≡ y)) ⊎ (new_name old n ≡ Some y)
-  new_name-cases n y at = by (bytes_eq n key) refl
-    where
-      by : (b : Bool) → bytes_eq n key ≡ b → ((n ≡ key) × (x ≡ y)) ⊎ (new_name old n ≡ Some y)
-      by true e = let one : n ≡ key = (bytes_eq-Decides n key).0 e in inl (one, same_Some x y (sym same ∙ ap (new_name new) (sym one) ∙ at))
-      by false e = inr (sym (others n (λ one. let no : false ≡ true = sym e ∙ (bytes_eq-Decides n key).1 one in cc)) ∙ at)
-
-  -- a name that becomes itself
-  pub AreNamesBy-put : key ≡ x → AreNamesBy old [] → AreNamesBy new []
-  AreNamesBy-put is all n y at = by (new_name-cases n y at)
-    where
-      by : ((n ≡ key) × (x ≡ y)) ⊎ (new_name old n ≡ Some y) → n ≡ y
-      by (inl h) = h.0 ∙ is ∙ h.1
-      by (inr h) = all n y h
-
-  -- what a name becomes becomes something else
-  pub Thens-put : (first by : NewNames) (y : Text) → new_name first key ≡ Some y → x ≡ new_name_or by y → IsComposed first by old → IsComposed first by new
-  Thens-put first by y at is all n z into = in_case (new_name-cases n z into)
-    where
-      in_case : ((n ≡ key) × (x ≡ z)) ⊎ (new_name old n ≡ Some z) → (u : Text) × (new_name first n ≡ Some u) × (new_name_or by u ≡ z)
-      in_case (inl h) = (y, ap (new_name first) h.0 ∙ at, sym is ∙ h.1)
-      in_case (inr h) = all n z h
-
--- names become what the new names from an index on say
-module _ (rs : List Rename) where
-  abbrev pub AreRenamedFrom : NewNames → ℕ → Type 0
-  AreRenamedFrom m i = (n : Text) → new_name_or m n ≡ renamed (drop i rs) n
-
-  pub AreRenamedFrom-put : (old new : NewNames) (i : ℕ) (r : Rename) → slice_get rs i ≡ Some r → new_name new (ident_text r.name) ≡ Some (given_name r.name r.alias) → ((n : Text) → n ≢ ident_text r.name → new_name new n ≡ new_name old n)
-      → AreRenamedFrom old (i + 1) → AreRenamedFrom new i
-  AreRenamedFrom-put old new i r at same others all n = by (bytes_eq (ident_text r.name) n) refl
-      ∙ sym (ap (λ (s : Rename). renamed (s ∷ drop (i + 1) rs) n) (get_or_from_slice_get rs i r r at))
-      ∙ sym (at_drop_more (λ (l : List Rename). renamed l n) rs i r (slice_get_within rs i r at))
-    where
-      by : (b : Bool) → bytes_eq (ident_text r.name) n ≡ b → new_name_or new n ≡ cond b (given_name r.name r.alias) (renamed (drop (i + 1) rs) n)
-      by true e = ap (λ (o : Option Text). option_map_or (λ x. x) o n) (ap (new_name new) (sym ((bytes_eq-Decides (ident_text r.name) n).0 e)) ∙ same)
-      by false e = ap (λ (o : Option Text). option_map_or (λ x. x) o n) (others n (λ one. let no : false ≡ true = sym e ∙ (bytes_eq-Decides (ident_text r.name) n).1 (sym one) in cc)) ∙ all n
+use Rattle.wac_wit_validation_names.proofs.RenamedLayers.{AreRenamedLayers, GrowsLayers}
 
 -- ---- items that give names
 
@@ -132,67 +78,6 @@ module _ (of : WitSources) (v : Validator) where
     items = subst (λ (bs : List (Bor WorldItem)). AreNamingItems of x.decl.items.items bs) (sym changed.items) h.items;
     names = λ n z at. let y = changed.names n z at in ap (renamed rs) (h.names n y.0 y.1) ∙ sym (is y.0) ∙ y.2;
   }
-
--- ---- layers of included worlds
-
-abbrev pub GrowsLayers : List Layer → List Layer → Type 0
-GrowsLayers old new = (l : Layer) → Contains old l → Contains new l
-
--- each is one from before, or one of these under new names
-abbrev pub AreRenamedLayers : List Layer → NewNames → List Layer → List Layer → Type 0
-AreRenamedLayers inside by old new = (l : Layer) → Contains new l → Contains old l ⊎ ((x : Layer) × Contains inside x × IsRenamedLayer x by l)
-
--- each of these that gives names is there under new names
-abbrev pub HasRenamedLayers : List Layer → NewNames → List Layer → Type 0
-HasRenamedLayers inside by new = (x : Layer) (t : Bor WorldItem) → Contains inside x → Contains x.items.items t → (l : Layer) × Contains new l × IsRenamedLayer x by l
-
--- one that gives names has one under new names
-abbrev pub HasRenamed : NewNames → List Layer → ℕ → Layer → Type 0
-HasRenamed by new k x = (t : Bor WorldItem) → Contains x.items.items t → (l : Layer) × Contains new l × IsRenamedLayer x by l
-
-HasRenamed-grown : (by : NewNames) (old new : List Layer) → GrowsLayers old new → (k : ℕ) (x : Layer) → HasRenamed by old k x → HasRenamed by new k x
-HasRenamed-grown by old new grows k x has t among = let l = has t among in (l.0, grows l.0 l.1, l.2)
-
-GrowsLayers-push : (first old : List Layer) (l : Layer) → GrowsLayers first old → GrowsLayers first (old ++ l ∷ [])
-GrowsLayers-push first old l grows x among = Contains-append_left old (l ∷ []) x (grows x among)
-
-AreRenamedLayers-push : (inside : List Layer) (by : NewNames) (first old : List Layer) (x l : Layer) → Contains inside x → IsRenamedLayer x by l → AreRenamedLayers inside by first old → AreRenamedLayers inside by first (old ++ l ∷ [])
-AreRenamedLayers-push inside by first old x l among changed each m found = elim (Contains-push_cases old l m found) [ inl before ↦ each m before | inr one ↦ inr (x, among, subst (λ (y : Layer). IsRenamedLayer x by y) one changed) ]
-
-module _ (inside : List Layer) (by : NewNames) where
-  AllRenamed-none : (ls : List Layer) → EachBelow inside (HasRenamed by ls) 0
-  AllRenamed-none ls = EachBelow-none inside (HasRenamed by ls)
-
-  AllRenamed-push : (ls : List Layer) (x l : Layer) (i : ℕ) → i < length inside → x ≡ get_or inside i x → IsRenamedLayer x by l → EachBelow inside (HasRenamed by ls) i → EachBelow inside (HasRenamed by (ls ++ l ∷ [])) (i + 1)
-  AllRenamed-push ls x l i within at changed all = EachBelow-more inside (HasRenamed by ls) (HasRenamed by (ls ++ l ∷ [])) i x within at
-      (HasRenamed-grown by ls (ls ++ l ∷ []) (λ m among. Contains-append_left ls (l ∷ []) m among))
-      (λ t among. (l, Contains-push ls l, changed)) all
-
-  AllRenamed-skip : (ls : List Layer) (x : Layer) (i : ℕ) → i < length inside → x ≡ get_or inside i x → ((t : Bor WorldItem) → Contains x.items.items t → ⊥) → EachBelow inside (HasRenamed by ls) i → EachBelow inside (HasRenamed by ls) (i + 1)
-  AllRenamed-skip ls x i within at none all = EachBelow-more inside (HasRenamed by ls) (HasRenamed by ls) i x within at (λ k y has. has) (λ t among. absurd (none t among)) all
-
-  pub AllRenamed-end : (ls : List Layer) (i : ℕ) → length inside ≤ i → EachBelow inside (HasRenamed by ls) i → (x : Layer) (t : Bor WorldItem) → Contains inside x → Contains x.items.items t → (l : Layer) × Contains ls l × IsRenamedLayer x by l
-  AllRenamed-end ls i past all x t among names = EachBelow-end inside (HasRenamed by ls) i past all among.0 x (slice_get-among inside x among) t names
-
--- layers with those before an index under new names
-pub record AddsRenamed (inside : List Layer) (by : NewNames) (old new : List Layer) (limit : ℕ) : Type 0 where
-  pub grows : GrowsLayers old new
-  pub each : AreRenamedLayers inside by old new
-  pub all : EachBelow inside (HasRenamed by new) limit
-
-module _ (inside : List Layer) (by : NewNames) (old : List Layer) where
-  pub AddsRenamed-none : AddsRenamed inside by old old 0
-  AddsRenamed-none = record { grows = λ l among. among; each = λ l among. inl among; all = AllRenamed-none inside by old }
-
-  pub AddsRenamed-push : (ls : List Layer) (x l : Layer) (i : ℕ) → i < length inside → x ≡ get_or inside i x → IsRenamedLayer x by l → AddsRenamed inside by old ls i → AddsRenamed inside by old (ls ++ l ∷ []) (i + 1)
-  AddsRenamed-push ls x l i within at changed h = record {
-    grows = GrowsLayers-push old ls l h.grows;
-    each = AreRenamedLayers-push inside by old ls x l (i, within, sym at) changed h.each;
-    all = AllRenamed-push inside by ls x l i within at changed h.all;
-  }
-
-  pub AddsRenamed-skip : (ls : List Layer) (x : Layer) (i : ℕ) → i < length inside → x ≡ get_or inside i x → (length x.items.items == 0) ≡ true → AddsRenamed inside by old ls i → AddsRenamed inside by old ls (i + 1)
-  AddsRenamed-skip ls x i within at none h = record { grows = h.grows; each = h.each; all = AllRenamed-skip inside by ls x i within at (λ t among. omega (arith, among.1, eqb-true (length x.items.items) 0 none)) h.all }
 
 pub not_false : (b : Bool) → b ≡ false → IsTrue b → ⊥
 not_false b is so = no_truth (subst (λ (x : Bool). IsTrue x) is so)

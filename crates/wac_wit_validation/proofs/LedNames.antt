@@ -8,15 +8,16 @@ use Rattle.wac_component.specs.declared.items.ItemKind.{ItemKind}
 use Rattle.wac_wit_syntax.specs.declared.tree.InterfaceDecl.{InterfaceDecl}
 use Rattle.wac_wit_syntax.specs.declared.tree.Path.{Path}
 use Rattle.wac_wit_syntax.specs.declared.tree.TopItem.TheVariants as top
-use Rattle.wac_wit_validation.specs.Checking.{AreNamesAt, IsValidated, Knows, named_items}
+use Rattle.wac_wit_validation_types.specs.Exports.{AreNamesAt, named_items}
+use Rattle.wac_wit_validation.specs.Checking.{IsValidated, Knows}
 use Rattle.wac_wit_scopes.proofs.PathFacts.{contains_at}
 use Rattle.wac_wit_scopes.specs.Scopes.{scope_syntax}
-use Rattle.wac_wit_validation.specs.Denoted.{Setting, interface_setting}
-use Rattle.wac_wit_validation.specs.Reading.{TypesAreNamed}
+use Rattle.wac_wit_validation_types.specs.Denoted.{Setting, interface_setting}
+use Rattle.wac_wit_validation_types.specs.Reading.{TypesAreNamed}
 use Rattle.wac_wit_scopes.specs.WitSources.{IsEnabled, PathLeadsTo, ident_text}
-use Rattle.wac_wit_validation.specs.declared.names.NamedTypes.{NamedTypes}
+use Rattle.wac_wit_validation_types.specs.declared.names.NamedTypes.{NamedTypes}
 use Rattle.wac_wit_scopes.specs.declared.scopes.ScopeItems.{ScopeItems}
-use Rattle.wac_wit_validation.specs.declared.validator.FoundInterface.{FoundInterface}
+use Rattle.wac_wit_validation_names.specs.declared.places.FoundInterface.{FoundInterface}
 use Rattle.wac_wit_validation.specs.declared.validator.Validator.{Validator}
 
 -- the names of the entry of an interface that was found, where a path leads

@@ -21,31 +21,32 @@ use Rattle.wac_wit_syntax.specs.declared.tree.UseItem.{UseItem}
 use Rattle.wac_wit_syntax.specs.declared.tree.WorldItem.{WorldItem}
 use Rattle.wac_wit_syntax.specs.declared.tree.WorldItem.TheVariants as of_world
 use Rattle.wac_wit_scopes.specs.WitSources.{HasInterface, IsEnabled, IsScopeOf, ScopeSyntax, WitSources, given_name, ident_text}
-use Rattle.wac_wit_validation.proofs.AmbiguityFacts.{slice_get-among}
-use Rattle.wac_wit_validation.proofs.OnceFacts.{once_inside}
-use Rattle.wac_wit_validation.proofs.OneExport.{one_export}
-use Rattle.wac_wit_validation.proofs.OneMeaning.{one_own_func, one_own_name}
-use Rattle.wac_wit_validation.proofs.Resettled.{moved_func, moved_name}
+use Rattle.wac_wit_validation_names.proofs.AmbiguityFacts.{slice_get-among}
+use Rattle.wac_wit_validation_names.proofs.OnceFacts.{once_inside}
+use Rattle.wac_wit_validation_names.proofs.OneExport.{one_export}
+use Rattle.wac_wit_validation_types.proofs.OneMeaning.{one_own_func, one_own_name}
+use Rattle.wac_wit_validation_types.proofs.Resettled.{moved_func, moved_name}
 use Rattle.wac_wit_validation.proofs.WorldFacts.{IsWorldAt-one, world_placed}
 use Rattle.wac_wit_validation.proofs.WorldWhole.{type_in_world, type_of_world, use_of_world}
 use Rattle.wac_wit_validation.specs.Checking.{Knows}
-use Rattle.wac_wit_validation.specs.Denoted.{Denoted, NamesType, Setting, defined, funcs_in, renamed_by, type_name, types_in, used, uses_in}
-use Rattle.wac_wit_validation.specs.Functions.{HasMethod, IsFuncOf, IsMethodOf, method_name, of_resource}
-use Rattle.wac_wit_validation.specs.GivenNames.{GivesNewName, IsGivenAt}
-use Rattle.wac_wit_validation.specs.WorldOnce.{GiveOnce, GivesExtern, GivesItem, GivesWhat}
-use Rattle.wac_wit_validation.specs.Interfaces.{IsInterfaceTree, named_tree}
-use Rattle.wac_wit_validation.specs.Once.{InsideGivesOnce}
-use Rattle.wac_wit_validation.specs.OneMeaning.{GivesOnce, GivesType, GivesUse}
-use Rattle.wac_wit_validation.specs.Reading.{AreNamesBy, new_name}
-use Rattle.wac_wit_validation.specs.OneWorld.{HasOneExtern, IsOneItem}
-use Rattle.wac_wit_validation.specs.Placed.{LeadsToInterface, PlacedInterface, PlacedWorld, placed_identifier}
+use Rattle.wac_wit_validation_types.specs.Denoted.{Denoted, NamesType, Setting, defined, funcs_in, renamed_by, type_name, types_in, used, uses_in}
+use Rattle.wac_wit_validation_types.specs.Functions.{HasMethod, IsFuncOf, IsMethodOf, method_name, of_resource}
+use Rattle.wac_wit_validation_names.specs.GivenNames.{GivesNewName, IsGivenAt}
+use Rattle.wac_wit_validation_names.specs.WorldOnce.{GiveOnce, GivesExtern, GivesItem, GivesWhat}
+use Rattle.wac_wit_validation_types.specs.Interfaces.{IsInterfaceTree, named_tree}
+use Rattle.wac_wit_validation_names.specs.Once.{InsideGivesOnce}
+use Rattle.wac_wit_validation_types.specs.OneMeaning.{GivesOnce, GivesType, GivesUse}
+use Rattle.wac_wit_validation_types.specs.Reading.{AreNamesBy, new_name}
+use Rattle.wac_wit_validation_types.specs.OneWorld.{HasOneExtern, IsOneItem}
+use Rattle.wac_wit_validation_types.specs.Placed.{LeadsToInterface, PlacedInterface, PlacedWorld, placed_identifier}
 use Rattle.wac_wit_validation.specs.WorldChecking.{AreLayersOf, GivesNames, HasOwnName, IsLayerOf, IsWorldAt}
-use Rattle.wac_wit_validation.specs.Worlds.{BringsIn, HasExternInterface, HasExternOf, ImportsInterface, IsUsedByExport, SaysExtern, SaysInterface, extern_func, extern_inline, extern_interface, extern_item, extern_method, extern_type}
-use Rattle.wac_wit_validation.specs.Worlds.{imported, types_of_world, used_by_export, used_by_import, used_by_inline, used_by_interface, used_by_world, used_inside, world_setting, world_uses}
-use Rattle.wac_wit_validation.specs.declared.given.NamePlace.{NamePlace}
-use Rattle.wac_wit_validation.specs.declared.layers.Layer.{Layer}
-use Rattle.wac_wit_validation.specs.declared.layers.NewNames.{NewNames}
-use Rattle.wac_wit_validation.specs.declared.validator.ItemPlace.{ItemPlace}
+use Rattle.wac_wit_validation_types.specs.Worlds.{BringsIn, HasExternInterface, HasExternOf, ImportsInterface, IsUsedByExport, SaysExtern, SaysInterface, extern_func, extern_inline}
+use Rattle.wac_wit_validation_types.specs.Worlds.{extern_interface, extern_item, extern_method, extern_type, imported, types_of_world, used_by_export, used_by_import, used_by_inline}
+use Rattle.wac_wit_validation_types.specs.Worlds.{used_by_interface, used_by_world, used_inside, world_setting, world_uses}
+use Rattle.wac_wit_validation_names.specs.declared.given.NamePlace.{NamePlace}
+use Rattle.wac_wit_validation_names.specs.declared.layers.Layer.{Layer}
+use Rattle.wac_wit_validation_types.specs.declared.new_names.NewNames.{NewNames}
+use Rattle.wac_wit_validation_names.specs.declared.places.ItemPlace.{ItemPlace}
 use Rattle.wac_wit_validation.specs.declared.validator.Validator.{Validator}
 
 -- ---- interfaces of packages

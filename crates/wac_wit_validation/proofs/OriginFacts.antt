@@ -1,24 +1,16 @@
 -- Where types come from, by what an entry was found to say.
-use Rattle.std.proofs.Common.{◌≡◌, ◌≢◌, ◌∙◌, ◌⊎◌, inl, inr, arith, ℕ, ◌≤◌, Bool, true, false, cond, List, [], ◌∷◌, Contains, Option, Some, None, IsSome, IsTrue, Global, is_some, length, not, refl, sym, ap, subst}
-use Rattle.std.specs.Prelude.{String, slice_get, string_bytes}
-use Rattle.std.specs.Map.{lookup}
-use Rattle.std.specs.Borrow.{Bor}
-use Rattle.std.specs.Option.{option_copied, option_map, unwrap_or}
-use Rattle.std.specs.Str.{bytes_eq}
-use Rattle.std.proofs.lemmas.Map.Views.{Contains-from_lookup}
-use Rattle.std.proofs.lemmas.List.{length-map}
-use Rattle.std.proofs.lemmas.Option.{same_Some, slice_get-get_or, slice_get-map}
-use Rattle.std.proofs.lemmas.Slice.Eq.{bytes_eq-Decides}
+use Rattle.std.proofs.Common.{◌≡◌, ◌≢◌, ◌∙◌, ◌⊎◌, inl, inr, List, Contains, Option, Some, None, IsSome, refl, sym, ap, subst}
+use Rattle.std.specs.Prelude.{slice_get}
+use Rattle.std.specs.Option.{option_map, unwrap_or}
+use Rattle.std.proofs.lemmas.Option.{same_Some, slice_get-get_or}
 use Rattle.wac_model.specs.Text.{Text}
-use Rattle.wac_component.specs.Collection.{Collection, InterfaceContent, ResourceContent, UseContent}
-use Rattle.wac_component.specs.Content.{named, use_content}
+use Rattle.wac_component.specs.Collection.{Collection, InterfaceContent, UseContent}
+use Rattle.wac_component.specs.Content.{named}
 use Rattle.wac_component.specs.Id.{Id}
 use Rattle.wac_component.specs.Implicit.{identifier}
-use Rattle.wac_component.specs.declared.interfaces.UsedType.{UsedType}
 use Rattle.wac_component.specs.declared.items.ItemKind.{ItemKind}
 use Rattle.wac_component.specs.declared.items.ItemKind.TheVariants.{«Type» as OfType}
 use Rattle.wac_component.specs.declared.items.Type.{«Type» as TypeOf}
-use Rattle.wac_component.specs.declared.items.Type.TheVariants.{Resource as TypeResource}
 use Rattle.wac_component.specs.Key.{Stands, interface_key}
 use Rattle.wac_component.specs.Tree.{externs, interface_externs, item_tree}
 use Rattle.wac_wit_syntax.specs.declared.tree.Ident.{Ident}
@@ -28,59 +20,27 @@ use Rattle.wac_wit_syntax.specs.declared.tree.InterfaceItem.TheVariants as insid
 use Rattle.wac_wit_syntax.specs.declared.tree.Rename.{Rename}
 use Rattle.wac_wit_syntax.specs.declared.tree.TopItem.TheVariants as top
 use Rattle.wac_wit_syntax.specs.declared.tree.TypeDef.TheVariants as def
-use Rattle.wac_wit_syntax.specs.declared.tree.TypeExpr.{TypeExpr}
 use Rattle.wac_wit_syntax.specs.declared.tree.TypeExpr.TheVariants as ty
 use Rattle.wac_wit_syntax.specs.declared.tree.TypeItem.{TypeItem}
 use Rattle.wac_wit_syntax.specs.declared.tree.UseItem.{UseItem}
-use Rattle.wac_wit_validation.specs.Checking.{AreExportsOf, HasOrigin, HaveOrigins, IsInterfaceEntry, IsValidated, Knows, LeadsToFound, Offers}
+use Rattle.wac_wit_validation_types.specs.Exports.{AreExportsOf, HasOrigin, HaveOrigins, IsInterfaceEntry, Offers}
+use Rattle.wac_wit_validation.specs.Checking.{IsValidated, Knows}
 use Rattle.wac_wit_scopes.specs.Scopes.{scope_syntax}
-use Rattle.wac_wit_validation.specs.Denoted.{Denoted, IsDefined, NamesType, Setting, a_record, a_resource, a_variant, alias, an_enum, another_name, defined, interface_setting, renamed_by, some_flags, used}
-use Rattle.wac_wit_validation.specs.OneMeaning.{GivesType, GivesUse}
-use Rattle.wac_wit_validation.specs.OriginClauses.{HasOwner, HasRoot, TellsItem, TellsOrigins, TellsUsed, origin_at}
-use Rattle.wac_wit_validation.specs.Origins.{AreOwnersOf, AreUsesOf, ComesFrom, IsOriginOf, IsOwnName, IsOwnerOf, defined_here, named_here, named_so, placed_setting, use_at, used_from, used_through}
-use Rattle.wac_wit_validation.specs.Placed.{LeadsToInterface, PlacedInterface, placed_identifier}
-use Rattle.wac_wit_validation.specs.Reading.{IsTypeNamed, type_meaning}
+use Rattle.wac_wit_validation_types.specs.Denoted.{Denoted, IsDefined, NamesType, Setting, a_record, a_resource, a_variant, alias, an_enum, another_name, defined, interface_setting, renamed_by, some_flags, used}
+use Rattle.wac_wit_validation_types.specs.OneMeaning.{GivesType, GivesUse}
+use Rattle.wac_wit_validation_names.specs.Noted.{HasRoot, origin_at}
+use Rattle.wac_wit_validation.specs.OriginClauses.{TellsItem, TellsOrigins, TellsUsed}
+use Rattle.wac_wit_validation_types.specs.Origins.{AreOwnersOf, AreUsesOf, ComesFrom, IsOriginOf, IsOwnName, defined_here, named_here, named_so, placed_setting, use_at, used_from, used_through}
+use Rattle.wac_wit_validation_types.specs.Placed.{LeadsToInterface, PlacedInterface, placed_identifier}
+use Rattle.wac_wit_validation_types.specs.Reading.{IsTypeNamed, type_meaning}
 use Rattle.wac_wit_scopes.specs.WitSources.{HasInterface, IsEnabled, IsScopeOf, ScopeSyntax, WitSources, given_name, ident_text, interface_identifier, package_id}
 use Rattle.wac_wit_validation.specs.WorldChecking.{IsFoundAs}
 use Rattle.wac_wit_scopes.specs.declared.scopes.ScopeItems.{ScopeItems}
-use Rattle.wac_wit_validation.specs.declared.validator.FoundInterface.{FoundInterface}
+use Rattle.wac_wit_validation_names.specs.declared.places.FoundInterface.{FoundInterface}
 use Rattle.wac_wit_validation.specs.declared.validator.Validator.{Validator}
 use Rattle.wac_wit_validation.proofs.FoundFacts.{among_got, tree_of_exports}
 use Rattle.wac_wit_validation.proofs.WorldFacts.{has_found, valid_is}
-
--- ---- what is noted under a name
-
--- what is found under a name in a map, as entries whose names are texts
-pub lookup-named : {V W : Type 0} (f : V → W) (es : List (String Global × V)) (n : Text) → lookup (bytes_eq n) (named f es) ≡ option_map f (lookup (λ k. bytes_eq n (string_bytes k)) es)
-lookup-named f [] n = refl
-lookup-named f (e ∷ es) n = by (bytes_eq n (string_bytes e.0)) refl (lookup-named f es n)
-  where
-    by : (b : Bool) → bytes_eq n (string_bytes e.0) ≡ b → lookup (bytes_eq n) (named f es) ≡ option_map f (lookup (λ k. bytes_eq n (string_bytes k)) es)
-        → cond b (Some (f e.1)) (lookup (bytes_eq n) (named f es)) ≡ option_map f (cond b (Some e.1) (lookup (λ k. bytes_eq n (string_bytes k)) es))
-    by true is rest = refl
-    by false is rest = rest
-
--- what is found under a name is an entry
-pub found_among : {V : Type 0} (es : List (Text × V)) (n : Text) (x : V) → lookup (bytes_eq n) es ≡ Some x → Contains es (n, x)
-found_among es n x at = Contains-from_lookup {eq = bytes_eq} (λ a b is. (bytes_eq-Decides a b).0 is) n x es at
-
--- the same of an entry in a map
-pub found_entry : {V W : Type 0} (f : V → W) (es : List (String Global × V)) (n : Text) (x : V) → lookup (λ k. bytes_eq n (string_bytes k)) es ≡ Some x → Contains (named f es) (n, f x)
-found_entry f es n x at = found_among (named f es) n (f x) (lookup-named f es n ∙ ap (option_map f) at)
-
--- what `get` answers is what is found
-pub got : {V : Type 0} (r : Option (Bor V)) (x : Bor V) (o : Option V) → option_copied r ≡ o → r ≡ Some x → o ≡ Some x.now
-got r x o value is = sym value ∙ ap option_copied is
-
-pub got_nothing : {V : Type 0} (r : Option (Bor V)) (o : Option V) → option_copied r ≡ o → r ≡ None → o ≡ None
-got_nothing r o value is = sym value ∙ ap option_copied is
-
--- an entry by its place, with its name as a text
-pub entry_at_place : {V W : Type 0} (f : V → W) (es : List (String Global × V)) (i : ℕ) (k : String Global) (v : V) → slice_get es i ≡ Some (k, v) → slice_get (named f es) i ≡ Some (string_bytes k, f v)
-entry_at_place {V} f es i k v at = slice_get-map (λ e. (string_bytes e.0, f e.1)) es i ∙ ap (option_map (λ (e : String Global × V). (string_bytes e.0, f e.1))) at
-
-pub entries_past : {V W : Type 0} (f : V → W) (es : List (String Global × V)) (n i : ℕ) → n ≡ length es → n ≤ i → length (named f es) ≤ i
-entries_past {V} {W} f es n i is past = omega (arith, is, past, length-map {B = Text × W} es (λ (e : String Global × V). (string_bytes e.0, f e.1)))
+use Rattle.wac_wit_validation_names.proofs.NotedFacts.{alias_name}
 
 some_mapped : {A B : Type 0} (f : A → B) (o : Option A) (y : B) → option_map f o ≡ Some y → (x : A) × (o ≡ Some x) × (f x ≡ y)
 some_mapped f None y is = absurd (cc)
@@ -89,12 +49,6 @@ some_mapped f (Some x) y is = (x, refl, same_Some _ _ is)
 pub none_mapped : {A B : Type 0} (f : A → B) (o : Option A) → option_map f o ≡ None → o ≡ None
 none_mapped f None is = refl
 none_mapped f (Some x) is = absurd (cc)
-
--- what `is_none` tells
-pub none_if : {A : Type 0} (o : Option A) (b : Bool) → is_some o ≡ not b → IsTrue b → o ≡ None
-none_if None b is none = refl
-none_if (Some x) true is none = absurd (cc)
-none_if (Some x) false is none = absurd (cc)
 
 some_of : {A : Type 0} (o : Option A) → IsSome o → (x : A) × (o ≡ Some x)
 some_of None is = absurd (cc)
@@ -118,31 +72,6 @@ told_use us n id is = some_mapped (λ (u : UseContent). u.interface) (use_at us 
 
 pub told_nothing : (us : List (Text × UseContent)) (n : Text) → origin_at us n ≡ None → use_at us n ≡ None
 told_nothing us n is = none_mapped (λ (u : UseContent). u.interface) (use_at us n) is
-
--- the origin that is told of a name in a map
-pub origin_some : (es : List (String Global × UsedType)) (n : Text) (u : UsedType) → lookup (λ k. bytes_eq n (string_bytes k)) es ≡ Some u → origin_at (named use_content es) n ≡ Some u.interface
-origin_some es n u at = ap (option_map (λ (x : UseContent). x.interface)) (lookup-named use_content es n ∙ ap (option_map use_content) at)
-
-pub origin_none : (es : List (String Global × UsedType)) (n : Text) → lookup (λ k. bytes_eq n (string_bytes k)) es ≡ None → origin_at (named use_content es) n ≡ None
-origin_none es n none = ap (option_map (λ (x : UseContent). x.interface)) (lookup-named use_content es n ∙ ap (option_map use_content) none)
-
-resource_same : (t : TypeOf) (r : Id) → OfType t ≡ OfType (TypeResource r) → t ≡ TypeResource r
-resource_same t r e = cc
-
-one_resource : (r q : Id) → TypeResource r ≡ TypeResource q → r ≡ q
-one_resource r q e = cc
-
--- the owner of an export that is a resource, or another type
-pub owner_here : (c : Collection) (us : List (Text × UseContent)) (n : Text) (t : TypeOf) (id : Id) → t ≡ TypeResource id → ((r : ResourceContent) → slice_get c.resources id.index ≡ Some r → IsOwnerOf us n r) → HasOwner c us n (OfType t)
-owner_here c us n t id is has q same r at = has r (subst (λ (x : Id). slice_get c.resources x.index ≡ Some r) (one_resource q id (sym (resource_same t q same) ∙ is)) at)
-
-pub no_owner : (c : Collection) (us : List (Text × UseContent)) (n : Text) (t : TypeOf) → ((id : Id) → t ≢ TypeResource id) → HasOwner c us n (OfType t)
-no_owner c us n t isnt q same r at = absurd (isnt q (resource_same t q same))
-
--- ---- induction on what a name stands for
-
-pub alias_name : (e : TypeExpr) (id : Ident) → def.Alias e ≡ def.Alias (ty.Name id) → e ≡ ty.Name id
-alias_name e id is = cc
 
 module _ (P : Setting → Text → Type 0)
     (own : (s : Setting) (n : Text) (t : TypeItem) → GivesType s n t → ((id : Ident) → t.def ≢ def.Alias (ty.Name id)) → P s n)
@@ -183,10 +112,6 @@ own_if_none : (c : Collection) (s : Setting) (us : List (Text × UseContent)) (n
 own_if_none c s us n m uses none names = elim (own_or_comes s n m names) [ inl own ↦ own | inr from ↦ no_some (use_at us n) none (uses.all n from.0 from.1) ]
 
 -- ---- what the entry of an interface says that was found
-
--- the interface that a path leads to
-pub placed_found : (v : Validator) (s : Setting) (f : FoundInterface) (u : UseItem) → LeadsToFound v s u.path f → PlacedInterface
-placed_found v s f u to = record { scope = scope_syntax to.scope; decl = to.decl }
 
 module _ (of : WitSources) (v : Validator) (f : FoundInterface) (i : PlacedInterface) (found : IsFoundAs of v f i) (e : InterfaceContent) (at : slice_get v.types.now.interfaces f.id.index ≡ Some e) where
   entry_found : IsInterfaceEntry of v.types.now i e

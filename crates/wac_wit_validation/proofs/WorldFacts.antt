@@ -1,5 +1,6 @@
 -- Where interfaces and worlds stand, and what is marked of imports and exports.
-use Rattle.std.proofs.Common.{◌≡◌, ◌≢◌, ◌⊎◌, ◌==◌, ◌↔◌, inl, inr, [], ◌∷◌, ◌++◌, true, false, not, Bool, IsTrue, IfOk, IfSome, IsNone, IsSome, cond, is_some, None, Option, Result, Ok, Err, ℕ, ◌+◌, ◌<◌, ◌≤◌, arith, List, Contains, Some, length, refl, sym, ap, subst, ◌∙◌}
+use Rattle.std.proofs.Common.{◌≡◌, ◌≢◌, ◌⊎◌, ◌==◌, ◌↔◌, inl, inr, [], ◌∷◌, true, false, not, Bool, IsTrue, IfOk, IfSome, IsNone, IsSome, cond, is_some, None, Option, Result, Ok, Err, ℕ, ◌+◌}
+use Rattle.std.proofs.Common.{◌<◌, ◌≤◌, arith, List, Contains, Some, length, refl, sym, ap, subst, ◌∙◌}
 use Rattle.std.specs.Prelude.{String, slice_get, option_map, string_bytes}
 use Rattle.std.specs.Bool.{then_some}
 use Rattle.std.specs.Borrow.{Bor}
@@ -10,7 +11,7 @@ use Rattle.std.specs.Str.{bytes_eq}
 use Rattle.std.specs.declared.alloc.Global.{Global}
 use Rattle.wac_component.proofs.Among.{Contains-cases, Contains-first}
 use Rattle.wac_component.specs.Content.{named}
-use Rattle.wac_wit_validation.proofs.NameFacts.{key_found, key_of_full, named_at}
+use Rattle.wac_wit_validation_types.proofs.NameFacts.{key_found, key_of_full, named_at}
 use Rattle.std.proofs.lemmas.Bool.{eqb-true}
 use Rattle.std.proofs.lemmas.List.{length-map}
 use Rattle.std.proofs.lemmas.Option.{same_Some, slice_get-get_or}
@@ -32,25 +33,28 @@ use Rattle.wac_wit_syntax.specs.declared.tree.Path.{Path}
 use Rattle.wac_wit_syntax.specs.declared.tree.Rename.{Rename}
 use Rattle.wac_wit_syntax.specs.declared.tree.UseItem.{UseItem}
 use Rattle.wac_wit_syntax.specs.declared.tree.WorldDecl.{WorldDecl}
-use Rattle.wac_wit_validation.specs.Validated.{IsWorldNamed, KeepsFound, package_text}
+use Rattle.wac_wit_validation.specs.Validated.{IsWorldNamed, KeepsFound}
+use Rattle.wac_wit_validation_types.specs.Placed.{HasWorld, LeadsToInterface, PlacedInterface, PlacedWorld, package_text, placed_identifier}
 use Rattle.wac_wit_syntax.specs.declared.tree.TopItem.TheVariants as top
-use Rattle.wac_wit_validation.specs.Checking.{HasItem, IsSettingAt, IsValidated, Knows}
+use Rattle.wac_wit_validation_types.specs.Exports.{HasItem}
+use Rattle.wac_wit_validation.specs.Checking.{IsSettingAt, IsValidated, Knows}
 use Rattle.wac_wit_scopes.specs.Scopes.{scope_syntax}
-use Rattle.wac_wit_validation.specs.Denoted.{Setting, uses_in}
-use Rattle.wac_wit_validation.specs.Interfaces.{IsInterfaceTree}
-use Rattle.wac_wit_validation.specs.Placed.{HasWorld, LeadsToInterface, PlacedInterface, PlacedWorld, placed_identifier}
+use Rattle.wac_wit_validation_types.specs.Denoted.{Setting, uses_in}
+use Rattle.wac_wit_validation_types.specs.Interfaces.{IsInterfaceTree}
 use Rattle.wac_wit_scopes.specs.WitSources.{HasInterface, IsScopeOf, ScopeSyntax, WitSources, ident_text, package_id, version_text}
-use Rattle.wac_wit_validation.specs.WorldChecking.{AreInterfacesThere, AreItemsOf, AreLayersOf, AreMarksOf, AreSideOf, AreWorldSides, IsFoundAs, IsInterfaceAt, IsLayerOf, IsMarkOf, IsPlacedAt, IsIndexedScope, IsTextAt, IsValidatedWorld, IsWorldAt, KnowsWorlds, StaysAs, UsesTypes}
-use Rattle.wac_wit_validation.specs.Worlds.{HasExternInterface, HasExternOf, SaysExtern, SaysInclude, SaysInterface, UsesInterface, by_include, extern_interface, extern_item, imported, itself, used_by_import}
+use Rattle.wac_wit_validation.specs.WorldChecking.{AreInterfacesThere, AreItemsOf, AreLayersOf, AreMarksOf, AreSideOf, AreWorldSides, IsFoundAs, IsIndexedScope, IsInterfaceAt, IsLayerOf}
+use Rattle.wac_wit_validation.specs.WorldChecking.{IsMarkOf, IsPlacedAt, IsTextAt, IsValidatedWorld, IsWorldAt, KnowsWorlds, StaysAs, UsesTypes}
+use Rattle.wac_wit_validation_types.specs.Worlds.{HasExternInterface, HasExternOf, SaysExtern, SaysInclude, SaysInterface, UsesInterface, by_include, extern_interface, extern_item, imported}
+use Rattle.wac_wit_validation_types.specs.Worlds.{itself, used_by_import}
 use Rattle.wac_wit_validation.specs.declared.marks.ExternMark.{ExternMark}
 use Rattle.wac_wit_validation.specs.declared.marks.ExternMark.TheVariants.{Found, Unmarked, Written}
-use Rattle.wac_wit_validation.specs.declared.layers.Layer.{Layer}
+use Rattle.wac_wit_validation_names.specs.declared.layers.Layer.{Layer}
 use Rattle.wac_wit_validation.specs.declared.marks.ExternMarks.{ExternMarks}
 use Rattle.wac_wit_validation.specs.declared.marks.WorldMarks.{WorldMarks}
 use Rattle.wac_wit_scopes.specs.declared.scopes.ScopeItems.{ScopeItems}
-use Rattle.wac_wit_validation.specs.declared.validator.FoundInterface.{FoundInterface}
+use Rattle.wac_wit_validation_names.specs.declared.places.FoundInterface.{FoundInterface}
 use Rattle.wac_wit_validation.specs.declared.validator.FoundWorld.{FoundWorld}
-use Rattle.wac_wit_validation.specs.declared.validator.ItemPlace.{ItemPlace}
+use Rattle.wac_wit_validation_names.specs.declared.places.ItemPlace.{ItemPlace}
 use Rattle.wac_wit_validation.specs.declared.validator.Validator.{Validator}
 use Rattle.wac_wit_validation.specs.declared.validator.WorldText.{WorldText}
 use Rattle.wac_wit_scopes.proofs.PathFacts.{contains_at}
@@ -294,18 +298,6 @@ is_false false h = refl
 pub then_some_told : {A : Type 0} (b : Bool) (x : A) (r : Option A) (P : A → Type 0) → r ≡ then_some b x → (IsTrue b → P x) → IfSome r P
 then_some_told true x r P is told = rw is (told refl)
 then_some_told false x r P is told = rw is tt
-
-pub not_and_is : (b : Bool) → IsTrue (not b) → b ≡ true → ⊥
-not_and_is true h is = absurd (cc)
-not_and_is false h is = absurd (cc)
-
-append_two : (a b c : Text) → (a ++ b) ++ c ≡ a ++ (b ++ c)
-append_two [] b c = refl
-append_two (x ∷ a) b c = ap (λ (l : Text). x ∷ l) (append_two a b c)
-
-pub append_three : (a b c d : Text) → ((a ++ b) ++ c) ++ d ≡ a ++ (b ++ (c ++ d))
-append_three [] b c d = append_two b c d
-append_three (x ∷ a) b c d = ap (λ (l : Text). x ∷ l) (append_three a b c d)
 
 pub no_truth : IsTrue false → ⊥
 no_truth h = absurd (cc)

@@ -16,20 +16,21 @@ use Rattle.wac_wit_syntax.specs.declared.tree.InterfaceItem.TheVariants as insid
 use Rattle.wac_wit_syntax.specs.declared.tree.Rename.{Rename}
 use Rattle.wac_wit_syntax.specs.declared.tree.WorldItem.{WorldItem}
 use Rattle.wac_wit_syntax.specs.declared.tree.WorldItem.TheVariants as of_world
-use Rattle.wac_wit_validation.specs.Checking.{HasOrigin, Offers}
-use Rattle.wac_wit_validation.specs.Denoted.{Denoted, NamesType, Setting, renamed_by, resource_type, value_type}
-use Rattle.wac_wit_validation.specs.Interfaces.{IsInterfaceTree, named_tree}
-use Rattle.wac_wit_validation.specs.OriginClauses.{HasUseRoot, TellsItem, TellsWorld, TellsWorldItem}
-use Rattle.wac_wit_validation.specs.OneWorld.{HasOneExtern}
-use Rattle.wac_wit_validation.specs.Origins.{AreOwnersOf, AreWorldUsesOf, IsWorldOriginOf, use_at}
-use Rattle.wac_wit_validation.specs.Placed.{PlacedWorld}
-use Rattle.wac_wit_validation.specs.Reading.{type_meaning}
+use Rattle.wac_wit_validation_types.specs.Exports.{HasOrigin, Offers}
+use Rattle.wac_wit_validation_types.specs.Denoted.{Denoted, NamesType, Setting, renamed_by, resource_type, value_type}
+use Rattle.wac_wit_validation_types.specs.Interfaces.{IsInterfaceTree, named_tree}
+use Rattle.wac_wit_validation_names.specs.Noted.{HasUseRoot}
+use Rattle.wac_wit_validation.specs.OriginClauses.{TellsItem, TellsWorld, TellsWorldItem}
+use Rattle.wac_wit_validation_types.specs.OneWorld.{HasOneExtern}
+use Rattle.wac_wit_validation_types.specs.Origins.{AreOwnersOf, AreWorldUsesOf, IsWorldOriginOf, use_at}
+use Rattle.wac_wit_validation_types.specs.Placed.{PlacedWorld}
+use Rattle.wac_wit_validation_types.specs.Reading.{type_meaning}
 use Rattle.wac_wit_scopes.specs.WitSources.{ScopeSyntax, WitSources}
 use Rattle.wac_wit_validation.specs.WorldChecking.{AreItemsOf, AreLayersOf, AreWorldSides, GivesNames, IsEntryOf, IsTextAt, IsValidatedWorld, IsWorldAt, KnowsWorlds, StaysAs, text_content}
-use Rattle.wac_wit_validation.specs.Worlds.{BringsIn, HasExternOf, extern_func, extern_inline, extern_interface, extern_method, extern_type, world_setting}
-use Rattle.wac_wit_validation.specs.declared.layers.Layer.{Layer}
+use Rattle.wac_wit_validation_types.specs.Worlds.{BringsIn, HasExternOf, extern_func, extern_inline, extern_interface, extern_method, extern_type, world_setting}
+use Rattle.wac_wit_validation_names.specs.declared.layers.Layer.{Layer}
 use Rattle.wac_wit_validation.specs.declared.validator.FoundWorld.{FoundWorld}
-use Rattle.wac_wit_validation.specs.declared.validator.ItemPlace.{ItemPlace}
+use Rattle.wac_wit_validation_names.specs.declared.places.ItemPlace.{ItemPlace}
 use Rattle.wac_wit_validation.specs.declared.validator.Validator.{Validator}
 use Rattle.wac_wit_validation.specs.declared.validator.WorldText.{WorldText}
 use Rattle.wac_wit_validation.proofs.OriginFacts.{IsTold, origin_told, root_identified, root_named, root_own, told_all}

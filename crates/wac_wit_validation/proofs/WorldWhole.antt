@@ -22,28 +22,33 @@ use Rattle.wac_wit_syntax.specs.declared.tree.ExternItem.{ExternItem}
 use Rattle.wac_wit_syntax.specs.declared.tree.IncludeItem.{IncludeItem}
 use Rattle.wac_wit_syntax.specs.declared.tree.InterfaceItem.{InterfaceItem}
 use Rattle.wac_wit_syntax.specs.declared.tree.InterfaceItem.TheVariants as inside
-use Rattle.wac_wit_validation.specs.Interfaces.{HasExportOf, a_func, a_method, a_type, named_tree}
+use Rattle.wac_wit_validation_types.specs.Interfaces.{HasExportOf, a_func, a_method, a_type, named_tree}
 use Rattle.wac_wit_syntax.specs.declared.tree.Rename.{Rename}
 use Rattle.wac_wit_syntax.specs.declared.tree.TypeItem.{TypeItem}
 use Rattle.wac_wit_syntax.specs.declared.tree.UseItem.{UseItem}
 use Rattle.wac_wit_syntax.specs.declared.tree.WorldItem.{WorldItem}
 use Rattle.wac_wit_syntax.specs.declared.tree.WorldItem.TheVariants as of_world
-use Rattle.wac_wit_validation.specs.Checking.{HasItem, IsRepresented, Offers}
-use Rattle.wac_wit_validation.specs.Denoted.{Denoted, NamesType, defined, renamed_by, resource_type, used, value_type}
-use Rattle.wac_wit_validation.specs.Functions.{HasMethod, of_resource}
-use Rattle.wac_wit_validation.specs.Placed.{PlacedInterface, PlacedWorld, placed_identifier}
+use Rattle.wac_wit_validation_types.specs.Exports.{HasItem, IsRepresented, Offers}
+use Rattle.wac_wit_validation_types.specs.Denoted.{Denoted, NamesType, defined, renamed_by, resource_type, used, value_type}
+use Rattle.wac_wit_validation_types.specs.Functions.{HasMethod, of_resource}
+use Rattle.wac_wit_validation_types.specs.Placed.{PlacedInterface, PlacedWorld, placed_identifier}
 use Rattle.wac_wit_scopes.specs.WitSources.{IsEnabled, WitSources}
-use Rattle.wac_wit_validation.specs.WorldChecking.{AreInterfacesThere, AreItemsOf, AreLayersOf, AreMarksOf, AreNamingItems, ExportNeeds, GivesNames, HasAllNeeds, HasNamed, HasOwnName, ImportNeeds, IsEntryOf, IsImportedOrExported, IsItemRepresented, IsMarkedAs, IsNamedThere, IsPathThere, KnowsWorlds, OffersItem}
-use Rattle.wac_wit_validation.specs.WorldClauses.{CoversLayer, imported_name}
-use Rattle.wac_wit_validation.specs.Worlds.{AreWorldExterns, BringsIn, ExportsInterface, HasExternInterface, HasExternOf, ImportsInterface, IsUsedByExport, IsWorldTree, SaysExtern, SaysInclude, SaysInterface, by_include, extern_item, extern_func, extern_inline, extern_interface, extern_method, extern_type, imported, itself, used_by_export, used_by_import, used_by_inline, used_by_interface, used_by_world, used_inside, types_of_world, uses_of_world, world_setting}
-use Rattle.wac_wit_validation.specs.declared.layers.Layer.{Layer}
+use Rattle.wac_wit_validation.specs.WorldChecking.{AreInterfacesThere, AreItemsOf, AreLayersOf, AreMarksOf, AreNamingItems, ExportNeeds, GivesNames, HasAllNeeds, HasNamed, HasOwnName}
+use Rattle.wac_wit_validation.specs.WorldChecking.{ImportNeeds, IsEntryOf, IsImportedOrExported, IsItemRepresented, IsMarkedAs, IsNamedThere, IsPathThere, KnowsWorlds, OffersItem}
+use Rattle.wac_wit_validation.specs.WorldClauses.{CoversLayer}
+use Rattle.wac_wit_validation_types.specs.Reading.{imported_name}
+use Rattle.wac_wit_validation_types.specs.Worlds.{AreWorldExterns, BringsIn, ExportsInterface, HasExternInterface, HasExternOf, ImportsInterface, IsUsedByExport, IsWorldTree, SaysExtern}
+use Rattle.wac_wit_validation_types.specs.Worlds.{SaysInclude, SaysInterface, by_include, extern_func, extern_inline, extern_interface, extern_item, extern_method, extern_type, imported}
+use Rattle.wac_wit_validation_types.specs.Worlds.{itself, types_of_world, used_by_export, used_by_import, used_by_inline, used_by_interface, used_by_world, used_inside, uses_of_world}
+use Rattle.wac_wit_validation_types.specs.Worlds.{world_setting}
+use Rattle.wac_wit_validation_names.specs.declared.layers.Layer.{Layer}
 use Rattle.wac_wit_validation.specs.declared.marks.WorldMarks.{WorldMarks}
 use Rattle.wac_wit_validation.specs.declared.marks.ExternMark.{ExternMark}
 use Rattle.wac_wit_validation.specs.declared.marks.ExternMark.TheVariants.{Unmarked, Found}
 use Rattle.wac_wit_validation.specs.declared.marks.ExternMarks.{ExternMarks}
 use Rattle.wac_wit_validation.specs.declared.validator.Validator.{Validator}
 use Rattle.wac_wit_validation.proofs.FoundFacts.{item_of, item_there}
-use Rattle.wac_wit_validation.proofs.MarkFacts.{has_item_at}
+use Rattle.wac_wit_validation_types.proofs.MarkFacts.{has_item_at}
 use Rattle.wac_wit_validation.proofs.WorldFacts.{IsPlacedAt-one, extern_marked}
 
 -- a `use` of a world is one of its items

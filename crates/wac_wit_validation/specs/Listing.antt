@@ -7,8 +7,7 @@ use Rattle.wac_wit_syntax.specs.declared.tree.InterfaceDecl.{InterfaceDecl}
 use Rattle.wac_wit_syntax.specs.declared.tree.TopItem.{TopItem}
 use Rattle.wac_wit_syntax.specs.declared.tree.TopItem.TheVariants as top
 use Rattle.wac_wit_syntax.specs.declared.tree.WorldDecl.{WorldDecl}
-use Rattle.wac_wit_validation.specs.Placed.{HasWorld}
-use Rattle.wac_wit_validation.specs.Validated.{package_text}
+use Rattle.wac_wit_validation_types.specs.Placed.{HasWorld, package_text}
 use Rattle.wac_wit_scopes.specs.WitSources.{HasInterface, IsEnabled, IsInGroup, IsScopeOf, PackageId, ScopeSyntax, WitSources, ident_text}
 use Rattle.wac_wit_validation.specs.declared.listing.PackageListing.{PackageListing}
 

@@ -1,5 +1,5 @@
 -- What the validator says of an entry: it is an interface of the packages that were read.
-use Rattle.std.specs.Prelude.{◌≡◌, ◌++◌, Contains, Option, Some, codes, slice_get}
+use Rattle.std.specs.Prelude.{◌≡◌, Contains, Option, Some, slice_get}
 use Rattle.wac_model.specs.Text.{Text}
 use Rattle.wac_component.specs.Collection.{Collection, InterfaceContent, WorldContent}
 use Rattle.wac_component.specs.Id.{Id}
@@ -7,20 +7,16 @@ use Rattle.wac_component.specs.Key.{Stands, interface_key, world_key}
 use Rattle.wac_component.specs.Tree.{item_tree}
 use Rattle.wac_component.specs.declared.items.ItemKind.TheVariants.{Component, Instance}
 use Rattle.wac_wit_syntax.specs.declared.tree.InterfaceDecl.{InterfaceDecl}
-use Rattle.wac_wit_validation.specs.Denoted.{interface_setting}
-use Rattle.wac_wit_validation.specs.Interfaces.{IsInterfaceTree}
-use Rattle.wac_wit_validation.specs.OneWorld.{HasOneExtern}
-use Rattle.wac_wit_validation.specs.Origins.{AreOwnersOf, AreUsesOf, AreWorldUsesOf}
-use Rattle.wac_wit_validation.specs.Placed.{HasWorld, PlacedWorld}
-use Rattle.wac_wit_validation.specs.Worlds.{IsWorldTree}
-use Rattle.wac_wit_validation.specs.declared.validator.FoundInterface.{FoundInterface}
+use Rattle.wac_wit_validation_types.specs.Denoted.{interface_setting}
+use Rattle.wac_wit_validation_types.specs.Interfaces.{IsInterfaceTree}
+use Rattle.wac_wit_validation_types.specs.OneWorld.{HasOneExtern}
+use Rattle.wac_wit_validation_types.specs.Origins.{AreOwnersOf, AreUsesOf, AreWorldUsesOf}
+use Rattle.wac_wit_validation_types.specs.Placed.{HasWorld, PlacedWorld, package_text}
+use Rattle.wac_wit_validation_types.specs.Worlds.{IsWorldTree}
+use Rattle.wac_wit_validation_names.specs.declared.places.FoundInterface.{FoundInterface}
 use Rattle.wac_wit_validation.specs.declared.validator.FoundWorld.{FoundWorld}
 use Rattle.wac_wit_validation.specs.declared.validator.Validator.{Validator}
-use Rattle.wac_wit_scopes.specs.WitSources.{HasInterface, PackageId, ScopeSyntax, WitSources, interface_identifier}
-
--- the name of a package without its version, as `wasi:http`
-abbrev pub package_text : PackageId → Text
-package_text p = p.namespace ++ codes ":" ++ p.name
+use Rattle.wac_wit_scopes.specs.WitSources.{HasInterface, ScopeSyntax, WitSources, interface_identifier}
 
 -- the entry is that of the interface of this name, in a package of this name and version: it has the interface's
 -- identifier, its tree is what the interface's text denotes, and it says of its types where they come from

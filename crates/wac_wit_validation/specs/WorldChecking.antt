@@ -22,32 +22,32 @@ use Rattle.wac_wit_syntax.specs.declared.tree.TopItem.TheVariants as top
 use Rattle.wac_wit_syntax.specs.declared.tree.UseItem.{UseItem}
 use Rattle.wac_wit_syntax.specs.declared.tree.WorldItem.{WorldItem}
 use Rattle.wac_wit_syntax.specs.declared.tree.WorldItem.TheVariants as of_world
-use Rattle.wac_wit_validation.specs.Checking.{HasItem, IsRepresented, IsValidated, Knows, named_items}
+use Rattle.wac_wit_validation_types.specs.Exports.{HasItem, IsRepresented, named_items}
+use Rattle.wac_wit_validation.specs.Checking.{IsValidated, Knows}
 use Rattle.wac_wit_scopes.specs.Scopes.{scope_syntax}
-use Rattle.wac_wit_validation.specs.Denoted.{Denoted, NamesType, Setting, renamed_by, uses_in}
-use Rattle.wac_wit_validation.specs.Functions.{HasMethod}
+use Rattle.wac_wit_validation_types.specs.Denoted.{Denoted, NamesType, Setting, renamed_by, uses_in}
+use Rattle.wac_wit_validation_types.specs.Functions.{HasMethod}
 use Rattle.wac_wit_syntax.specs.declared.tree.Rename.{Rename}
-use Rattle.wac_wit_validation.specs.OneWorld.{HasOneExtern}
-use Rattle.wac_wit_validation.specs.Origins.{AreOwnersOf, AreWorldUsesOf}
-use Rattle.wac_wit_validation.specs.Placed.{LeadsToInterface, LeadsToWorld, PlacedInterface, PlacedWorld, placed_identifier}
-use Rattle.wac_wit_validation.specs.Reading.{AreNamesBy, Renames, StandForTypes, IsComposed}
+use Rattle.wac_wit_validation_types.specs.OneWorld.{HasOneExtern}
+use Rattle.wac_wit_validation_types.specs.Origins.{AreOwnersOf, AreWorldUsesOf}
+use Rattle.wac_wit_validation_types.specs.Placed.{LeadsToInterface, LeadsToWorld, PlacedInterface, PlacedWorld, placed_identifier}
+use Rattle.wac_wit_validation_types.specs.Reading.{AreNamesBy, Renames, StandForTypes}
 use Rattle.wac_wit_scopes.specs.WitSources.{IsEnabled, IsScopeOf, ScopeSyntax, WitSources, ident_text}
 use Rattle.wac_wit_validation.specs.Validated.{KeepsFound}
-use Rattle.wac_wit_validation.specs.Worlds.{BringsIn, ExportsIdentifier, HasExternInterface, HasExternOf, IsUsedByExport, IsWorldTree, SaysExtern, SaysInclude, UsesInterface, world_setting}
+use Rattle.wac_wit_validation_types.specs.Worlds.{BringsIn, ExportsIdentifier, HasExternInterface, HasExternOf, IsUsedByExport, IsWorldTree, SaysExtern, SaysInclude, UsesInterface, world_setting}
 use Rattle.wac_wit_validation.specs.declared.marks.ExternMark.{ExternMark}
 use Rattle.wac_wit_validation.specs.declared.marks.ExternMark.TheVariants.{Found, Unmarked, Written}
 use Rattle.wac_wit_validation.specs.declared.marks.ExternMarks.{ExternMarks}
 use Rattle.wac_wit_validation.specs.declared.externs.LedExtern.{LedExtern}
 use Rattle.wac_wit_validation.specs.declared.externs.WorldSide.{WorldSide}
 use Rattle.wac_wit_validation.specs.declared.marks.WorldMarks.{WorldMarks}
-use Rattle.wac_wit_validation.specs.declared.layers.Layer.{Layer}
-use Rattle.wac_wit_validation.specs.declared.layers.NewNames.{NewNames}
+use Rattle.wac_wit_validation_names.specs.declared.layers.Layer.{Layer}
 use Rattle.wac_wit_validation.specs.declared.validator.WorldText.{WorldText}
-use Rattle.wac_wit_validation.specs.declared.names.NamedTypes.{NamedTypes}
+use Rattle.wac_wit_validation_types.specs.declared.names.NamedTypes.{NamedTypes}
 use Rattle.wac_wit_scopes.specs.declared.scopes.ScopeItems.{ScopeItems}
-use Rattle.wac_wit_validation.specs.declared.validator.FoundInterface.{FoundInterface}
+use Rattle.wac_wit_validation_names.specs.declared.places.FoundInterface.{FoundInterface}
 use Rattle.wac_wit_validation.specs.declared.validator.FoundWorld.{FoundWorld}
-use Rattle.wac_wit_validation.specs.declared.validator.ItemPlace.{ItemPlace}
+use Rattle.wac_wit_validation_names.specs.declared.places.ItemPlace.{ItemPlace}
 use Rattle.wac_wit_validation.specs.declared.validator.Validator.{Validator}
 
 -- ---- interfaces
@@ -234,12 +234,6 @@ IsNamedThere rss es x = Unit {0}
 abbrev pub IsPathThere : WitSources → ScopeSyntax → List (Text × ItemKind) → Extern → Type 0
 IsPathThere of w es (extern.Path p) = (i : PlacedInterface) → LeadsToInterface of w p i → HasItem es (placed_identifier i)
 IsPathThere of w es x = Unit {0}
-
--- a layer of the same world, of which what names become is something else once more
-pub record IsRenamedLayer (old : Layer) (by : NewNames) (new : Layer) : Type 0 where
-  pub place : new.place ≡ old.place
-  pub items : new.items.items ≡ old.items.items
-  pub names : IsComposed old.names by new.names
 
 -- where the items of a world have this one, each layer stays of a world that comes in
 abbrev pub AddsLayersIn : Validator → ℕ → WorldItem → List Layer → List Layer → Type 0

@@ -4,7 +4,6 @@ use Rattle.wac_model.specs.Text.{Text}
 use Rattle.wac_component.specs.Collection.{WorldContent}
 use Rattle.wac_component.specs.Tree.{item_tree}
 use Rattle.wac_component.specs.declared.items.ItemKind.{ItemKind}
-use Rattle.wac_component.specs.declared.items.ItemKind.TheVariants.{«Type» as OfType}
 use Rattle.wac_component.specs.declared.worlds.ExternKind.{ExternKind}
 use Rattle.wac_component.specs.declared.worlds.ExternKind.TheVariants.{Import, Export}
 use Rattle.wac_wit_syntax.specs.declared.tree.Extern.TheVariants as extern
@@ -12,26 +11,26 @@ use Rattle.wac_wit_syntax.specs.declared.tree.ExternItem.{ExternItem}
 use Rattle.wac_wit_syntax.specs.declared.tree.IncludeItem.{IncludeItem}
 use Rattle.wac_wit_syntax.specs.declared.tree.Path.{Path}
 use Rattle.wac_wit_syntax.specs.declared.tree.WorldItem.{WorldItem}
-use Rattle.wac_wit_validation.specs.Checking.{AreExportsOf, HasItem, Knows, named_items}
-use Rattle.wac_wit_validation.specs.Denoted.{renamed_by}
+use Rattle.wac_wit_validation_types.specs.Exports.{AreExportsOf, HasItem, named_items}
+use Rattle.wac_wit_validation.specs.Checking.{Knows}
 use Rattle.wac_wit_syntax.specs.declared.tree.Rename.{Rename}
-use Rattle.wac_wit_validation.specs.Placed.{LeadsToInterface, LeadsToWorld, PlacedInterface, PlacedWorld, placed_identifier}
-use Rattle.wac_wit_validation.specs.Reading.{Renames}
+use Rattle.wac_wit_validation_types.specs.Placed.{LeadsToInterface, LeadsToWorld, PlacedInterface, PlacedWorld, placed_identifier}
+use Rattle.wac_wit_validation_types.specs.Reading.{Renames, imported_name}
 use Rattle.wac_wit_scopes.specs.WitSources.{IsEnabled, ScopeSyntax, WitSources}
-use Rattle.wac_wit_validation.specs.Worlds.{BringsIn, HasExternInterface, HasExternOf, SaysExtern, SaysInclude, extern_item, world_setting}
+use Rattle.wac_wit_validation_types.specs.Worlds.{BringsIn, HasExternInterface, HasExternOf, SaysExtern, SaysInclude, extern_item, world_setting}
 use Rattle.wac_wit_validation.specs.declared.marks.ExternMarks.{ExternMarks}
 use Rattle.wac_wit_validation.specs.declared.externs.WorldSide.{WorldSide}
 use Rattle.wac_wit_validation.specs.declared.marks.WorldMarks.{WorldMarks}
-use Rattle.wac_wit_validation.specs.declared.layers.Layer.{Layer}
+use Rattle.wac_wit_validation_names.specs.declared.layers.Layer.{Layer}
 use Rattle.wac_wit_validation.specs.declared.validator.WorldText.{WorldText}
-use Rattle.wac_wit_validation.specs.declared.names.NamedTypes.{NamedTypes}
-use Rattle.wac_wit_validation.specs.declared.validator.FoundInterface.{FoundInterface}
+use Rattle.wac_wit_validation_types.specs.declared.names.NamedTypes.{NamedTypes}
+use Rattle.wac_wit_validation_names.specs.declared.places.FoundInterface.{FoundInterface}
 use Rattle.wac_wit_validation.specs.declared.validator.FoundWorld.{FoundWorld}
-use Rattle.wac_wit_validation.specs.declared.validator.ItemPlace.{ItemPlace}
+use Rattle.wac_wit_validation_names.specs.declared.places.ItemPlace.{ItemPlace}
 use Rattle.wac_wit_validation.specs.declared.validator.Validator.{Validator}
-use Rattle.wac_wit_validation.specs.WorldChecking.{AreInterfacesThere, AreLayersOf, AreMarksOf, AreSideOf, AreWorldSides, ExportNeeds, HasAllNeeds, HasInterfacesOf, HasNamed}
-use Rattle.wac_wit_validation.specs.WorldChecking.{IsLayerIn, IsLayerOf, IsMarkedAs, IsNamedThere, IsPathThere, IsPlacedAt, IsReadyFor, IsIndexedScope, IsTextAt}
-use Rattle.wac_wit_validation.specs.WorldChecking.{IsValidatedWorld, IsWorldAt, KeepsBoth, KeepsExterns, KeepsPaths, KnowsWorlds, side_items, text_content}
+use Rattle.wac_wit_validation.specs.WorldChecking.{AreInterfacesThere, AreLayersOf, AreMarksOf, AreSideOf, AreWorldSides, ExportNeeds, HasAllNeeds, HasInterfacesOf, HasNamed, IsIndexedScope}
+use Rattle.wac_wit_validation.specs.WorldChecking.{IsLayerIn, IsLayerOf, IsMarkedAs, IsNamedThere, IsPathThere, IsPlacedAt, IsReadyFor, IsTextAt, IsValidatedWorld, IsWorldAt, KeepsBoth}
+use Rattle.wac_wit_validation.specs.WorldChecking.{KeepsExterns, KeepsPaths, KnowsWorlds, side_items, text_content}
 
 -- what an item says under a name of its own is there
 abbrev pub CoversExtern : Validator → WorldSide → ExternItem → Type 0
@@ -114,11 +113,6 @@ HasPathNeeds v scope e p m = (of : WitSources) (w : PlacedWorld) → IsIndexedSc
 abbrev pub AreOwnTypes : Validator → Layer → NamedTypes → Type 0
 AreOwnTypes v l names = names.types.now ≡ v.types.now → (of : WitSources) (rss : List (List Rename)) (x : PlacedWorld) → KnowsWorlds of v
     → IsLayerOf of v l rss x → Renames names rss → AreExportsOf (world_setting of rss x) names.types.now (named_items names)
-
--- the name under which a type, or a function of a resource, is imported
-abbrev pub imported_name : List (List Rename) → Text → ItemKind → Text
-imported_name rss n (OfType t) = renamed_by rss n
-imported_name rss n k = n
 
 abbrev pub KeepsOwn : WorldSide → ExternMarks → ExternMarks → Type 0
 KeepsOwn side old new = (of : WitSources) (v : Validator) (w x : PlacedWorld) (rss : List (List Rename)) → side.names.types.now ≡ v.types.now → BringsIn of w rss x → Renames side.names rss

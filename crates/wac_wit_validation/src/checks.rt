@@ -4,22 +4,21 @@ ghost use Rattle.std.specs.Prelude.{◌≡◌, Contains, IfOk, IfSome, IsTrue, S
 ghost use Rattle.std.specs.Option.{option_map};
 ghost use Rattle.wac_wit_syntax.specs.declared.tree.TopItem.TheVariants.{Interface};
 ghost use Rattle.wac_wit_validation.specs.Checking.{IsValidated, Knows};
-ghost use Rattle.wac_wit_validation.specs.OneMeaning.{ExportsStandForOne, HaveOneMeaning};
-ghost use Rattle.wac_wit_validation.specs.Placed.{IsUnambiguous};
+ghost use Rattle.wac_wit_validation_types.specs.OneMeaning.{ExportsStandForOne, HaveOneMeaning};
+ghost use Rattle.wac_wit_validation_types.specs.Placed.{IsUnambiguous};
 ghost use Rattle.wac_wit_validation.specs.WorldChecking.{KnowsWorlds, StaysAs};
 ghost use Rattle.wac_wit_scopes.specs.WitSources.{WitSources, sources_of};
 ghost use Rattle.wac_wit_validation.specs.Validated.{HasFoundInterface, IsInterfaceOf, KeepsFound};
 
-use super::ambiguity::give_names_once;
-use super::once::all_give_once;
-use super::texts::{is_identifier_of, is_package_text, is_version_text, is_word};
-use super::validator::{FoundInterface, ItemPlace, Validator};
+use super::validator::Validator;
 use indexmap::IndexMap;
 use std::alloc::{AllocError, Global};
 use wac_component::{ExternKind, InterfaceId, Type, Types};
 use wac_wit_names::Catalog;
 use wac_wit_scopes::{ScopeItems, SourceTrees, scopes_of};
-use wac_wit_syntax::{Document, InterfaceDecl, TopItem};
+use wac_wit_syntax::{InterfaceDecl, TopItem};
+use wac_wit_validation_names::{FoundInterface, ItemPlace, all_give_once, give_names_once};
+use wac_wit_validation_types::{is_identifier_of, is_package_text, is_version_text, is_word};
 
 impl<'v> Validator<'v> {
     /// Begins with no interface. `None` is answered where no file of a package names it, or two

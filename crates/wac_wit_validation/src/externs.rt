@@ -7,25 +7,25 @@ ghost use Rattle.wac_wit_syntax.specs.declared.tree.Extern.TheVariants.{Func as 
 ghost use Rattle.wac_wit_syntax.specs.declared.tree.ExternItem.{ExternItem as ExternSyntax};
 ghost use Rattle.wac_wit_syntax.specs.declared.tree.Rename.{Rename as RenameOf};
 ghost use Rattle.wac_wit_syntax.specs.declared.tree.WorldItem.{WorldItem as ItemOf};
-ghost use Rattle.wac_wit_validation.specs.Checking.{HasItem};
-ghost use Rattle.wac_wit_validation.specs.Denoted.{renamed_by};
-ghost use Rattle.wac_wit_validation.specs.Reading.{Renames};
+ghost use Rattle.wac_wit_validation_types.specs.Exports.{HasItem};
+ghost use Rattle.wac_wit_validation_types.specs.Denoted.{renamed_by};
+ghost use Rattle.wac_wit_validation_types.specs.Reading.{Renames};
 ghost use Rattle.wac_wit_scopes.specs.WitSources.{ident_text};
 ghost use Rattle.wac_wit_validation.specs.WorldChecking.{IsNamedThere, KeepsPaths, KeepsSide, LeadsToExternAt, side_items};
 ghost use Rattle.wac_wit_validation.specs.WorldClauses.{CoversExtern, CoversItem, CoversPath, CoversPathItem, CoversPaths, HasPath, KeepsPath, KeepsSaidPath};
-ghost use Rattle.wac_wit_validation.specs.Worlds.{SaysExtern, extern_item};
+ghost use Rattle.wac_wit_validation_types.specs.Worlds.{SaysExtern, extern_item};
 ghost use Rattle.wac_wit_validation.specs.declared.validator.Validator.{Validator as ValidatorOf};
 
 use super::marks::{ExternMark, ExternMarks};
-use super::names::NamedTypes;
-use super::texts::is_identifier_text;
-use super::validator::{FoundInterface, Validator};
+use super::validator::Validator;
 use indexmap::IndexMap;
 use std::alloc::AllocError;
 use wac_component::{ExternKind, ItemKind, Type};
 use wac_wit_names::FoundPlace;
 use wac_wit_scopes::leads;
 use wac_wit_syntax::{Extern, ExternItem, Ident, InterfaceItem, Path, Signature, WorldItem};
+use wac_wit_validation_names::FoundInterface;
+use wac_wit_validation_types::{NamedTypes, is_identifier_text};
 
 /// An interface that a path leads to, among imports or exports.
 #[derive(Clone, Copy)]

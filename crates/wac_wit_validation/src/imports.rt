@@ -2,20 +2,21 @@
 
 ghost use Rattle.std.specs.Prelude.{◌≡◌, ◌↔◌, ◌∷◌, [], IfOk, IsTrue, Some, slice_get};
 ghost use Rattle.wac_component.specs.Content.{named};
-ghost use Rattle.wac_wit_validation.specs.Denoted.{uses_in};
+ghost use Rattle.wac_wit_validation_types.specs.Denoted.{uses_in};
 ghost use Rattle.wac_wit_scopes.specs.WitSources.{WitSources};
 ghost use Rattle.wac_wit_validation.specs.declared.marks.ExternMark.TheVariants.{Found as FoundMark};
-ghost use Rattle.wac_wit_validation.specs.declared.validator.FoundInterface.{FoundInterface as FoundOf};
+ghost use Rattle.wac_wit_validation_names.specs.declared.places.FoundInterface.{FoundInterface as FoundOf};
 ghost use Rattle.wac_wit_validation.specs.WorldChecking.{IsClosed, KeepsUses, KeepsUsesOf, KnowsWorlds, MarksUses, MarksUsesOf, UsesTypes};
 ghost use Rattle.wac_wit_validation.specs.WorldClauses.{KeepsImportMarks, MarksPath};
 
 use super::includes::has_any;
 use super::marks::{ExternMark, ExternMarks};
-use super::validator::{FoundInterface, ItemPlace, Validator};
+use super::validator::Validator;
 use indexmap::IndexMap;
 use std::alloc::AllocError;
-use wac_component::{ItemKind, World};
+use wac_component::ItemKind;
 use wac_wit_syntax::{InterfaceItem, Path, UseItem};
+use wac_wit_validation_names::{FoundInterface, ItemPlace};
 
 impl Validator<'_> {
     /// Whether a `use` is there, and names a type.

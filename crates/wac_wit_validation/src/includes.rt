@@ -1,25 +1,27 @@
 //! The interfaces that a world has of the worlds that it includes.
 
-ghost use Rattle.std.specs.Prelude.{◌≡◌, ◌≢◌, Contains, IfSome, IsTrue, Some, slice_get};
+ghost use Rattle.std.specs.Prelude.{◌≡◌, Contains, IfSome, IsTrue, Some, slice_get};
 ghost use Rattle.wac_component.specs.Content.{named, world_content};
 ghost use Rattle.wac_component.specs.declared.items.ItemKind.TheVariants.{Instance};
 ghost use Rattle.wac_wit_syntax.specs.declared.tree.Rename.{Rename as RenameOf};
 ghost use Rattle.wac_wit_syntax.specs.declared.tree.TopItem.TheVariants.{World as OfWorld};
 ghost use Rattle.wac_wit_syntax.specs.declared.tree.WorldItem.TheVariants.{Include as IncludeOf};
-ghost use Rattle.wac_wit_validation.specs.Checking.{HasItem};
-ghost use Rattle.wac_wit_validation.specs.Placed.{PlacedInterface, PlacedWorld, placed_identifier};
+ghost use Rattle.wac_wit_validation_types.specs.Exports.{HasItem};
+ghost use Rattle.wac_wit_validation_types.specs.Placed.{PlacedWorld};
 ghost use Rattle.wac_wit_scopes.specs.WitSources.{WitSources};
 ghost use Rattle.wac_wit_validation.specs.WorldChecking.{HasIncluded, HasInterfaces, IsIndexedScope, IsValidatedWorld};
 ghost use Rattle.wac_wit_validation.specs.WorldClauses.{CoversIncluded, HasInterfacesOfSide, KeepsAllOf, KeepsIncluded, KeepsInterfaceOf, KeepsInterfacesOf, KeepsItem, LeadsToPlace};
 
 use super::imports::is_same_place;
 use super::marks::{ExternMark, ExternMarks, WorldMarks};
-use super::validator::{FoundInterface, FoundWorld, ItemPlace, Validator};
+use super::validator::{FoundWorld, Validator};
 use indexmap::IndexMap;
 use wac_component::{ItemKind, Type, World};
 use wac_wit_names::FoundPlace;
 use wac_wit_scopes::{ScopeItems, leads};
 use wac_wit_syntax::{IncludeItem, Path, Rename, TopItem, WorldDecl, WorldItem};
+use wac_wit_validation_names::{FoundInterface, ItemPlace};
+use wac_wit_validation_types::is_plain;
 
 impl<'v> Validator<'v> {
     // Where the catalog found the world that the path of an `include` leads to.
@@ -215,11 +217,4 @@ pub(crate) fn has_any(renames: &[Rename]) -> bool
     ensures none { (r : RenameOf) → Contains renames.now r → IsTrue result }
 {
     !renames.is_empty()
-}
-
-/// Whether a name isn't the identifier of an interface.
-pub(crate) fn is_plain(name: &str) -> bool
-    ensures { IsTrue result → (i : PlacedInterface) → name.now ≢ placed_identifier i }
-{
-    !name.contains("/")
 }

@@ -1,26 +1,23 @@
 //! Interfaces.
 
-ghost use Rattle.std.specs.Prelude.{◌≡◌, [], Contains, IfOk, IfSome, IsTrue, Some};
+ghost use Rattle.std.specs.Prelude.{Contains, IfOk, IsTrue, Some};
 ghost use Rattle.wac_component.specs.Content.{interface_content};
 ghost use Rattle.wac_wit_syntax.specs.declared.tree.InterfaceItem.TheVariants.{«Type» as TypeOf, Use as UseOf};
 ghost use Rattle.wac_wit_syntax.specs.declared.tree.Method.{Method};
-ghost use Rattle.wac_wit_syntax.specs.declared.tree.Rename.{Rename as Renamed};
 ghost use Rattle.wac_wit_syntax.specs.declared.tree.TypeDef.TheVariants.{Resource};
-ghost use Rattle.wac_wit_validation.specs.Checking.{AreExportsAt, Brings, BringsAll, HasAllMethods, HasItem, HasMethodItem, HasMethods, HasRootName, HasTypeItem, IsFuncBehind, Knows};
-ghost use Rattle.wac_wit_validation.specs.Checking.{MarksAt, MarksBrought, MarksDefined, MarksExports, MarksIn, Offers, OffersMethod, OffersMethods, RepresentsNames, named_items};
-ghost use Rattle.wac_wit_validation.specs.Denoted.{Setting};
-ghost use Rattle.wac_wit_validation.specs.Functions.{IsFuncOf};
-ghost use Rattle.wac_wit_validation.specs.Reading.{Renames};
-ghost use Rattle.wac_wit_scopes.specs.WitSources.{IsEnabled, WitSources, given_name, ident_text};
+ghost use Rattle.wac_wit_validation.specs.Checking.{AreExportsAt, Knows, MarksAt, MarksIn, RepresentsNames};
+ghost use Rattle.wac_wit_validation_types.specs.Exports.{HasAllMethods, HasItem, HasMethodItem, HasMethods, HasRootName, MarksDefined, MarksExports, Offers, OffersMethod, OffersMethods, named_items};
+ghost use Rattle.wac_wit_validation_types.specs.Denoted.{Setting};
+ghost use Rattle.wac_wit_validation_types.specs.Reading.{Renames};
+ghost use Rattle.wac_wit_scopes.specs.WitSources.{IsEnabled, WitSources, ident_text};
 
-use super::methods::is_next_method;
-use super::names::NamedTypes;
-use super::progress::ExportMarks;
-use super::typedefs::{is_same_type, is_spelled};
 use super::validator::Validator;
 use std::alloc::AllocError;
-use wac_component::{ExternKind, Interface, ItemKind, ResourceId, Type};
-use wac_wit_syntax::{FuncItem, Ident, InterfaceItem, Method, Rename, TypeDef, TypeItem, UseItem};
+use wac_component::{ExternKind, Interface, ResourceId, Type};
+use wac_wit_syntax::{FuncItem, Ident, InterfaceItem, Method, TypeDef, TypeItem, UseItem};
+use wac_wit_validation_types::{
+    ExportMarks, NamedTypes, are_used, is_next_func, is_next_method, is_typedef,
+};
 
 impl<'v> Validator<'v> {
     /// Whether an interface exports what is written: with those that it uses among imports, or among
@@ -166,93 +163,5 @@ impl<'v> Validator<'v> {
         ensures covers { IsTrue result → (of : WitSources) → Knows of self.now → IsEnabled of item.now.gates → HasItem (named_items names.now) (ident_text item.now.name) }
     {
         !self.is_there(&item.gates) || is_next_func(names, progress, item)
-    }
-}
-
-// The type that is defined, if it is as it is written.
-fn is_typedef<'n>(
-    names: &NamedTypes<'n>,
-    progress: &mut ExportMarks,
-    item: &TypeItem,
-) -> Option<&'n Type>
-    ensures marks { IfSome result (λ of. (s : Setting) → MarksDefined s names.now item.now progress.old progress.new) }
-    ensures named { IfSome result (λ of. HasTypeItem (named_items names.now) (ident_text item.now.name)) }
-{
-    let (index, of) = names.type_at(&item.name)?;
-    progress.mark(index);
-    if !names.up_to(index).is_defined(item, of) {
-        return None;
-    }
-    Some(of)
-}
-
-fn is_next_func(names: &NamedTypes<'_>, progress: &mut ExportMarks, item: &FuncItem) -> bool
-    ensures marks { IsTrue result → (s : Setting) → Contains s.funcs item.now → IsEnabled s.sources item.now.gates → MarksExports s names.now progress.old progress.new }
-    ensures covers { IsTrue result → HasItem (named_items names.now) (ident_text item.now.name) }
-{
-    let index = progress.next_func;
-    progress.next_func = index.saturating_add(1);
-    progress.mark(index);
-    let Some((name, of)) = names.items.get_index(index) else {
-        return false;
-    };
-    is_spelled(&item.name, name) && is_func_item(names, index, of, item)
-}
-
-// Whether an item is the function that is written, by the names before it.
-fn is_func_item(names: &NamedTypes<'_>, index: usize, of: &ItemKind, item: &FuncItem) -> bool
-    ensures { IsTrue result → (s : Setting) → IsFuncBehind s names.now index of.now (IsFuncOf s item.now.signature [] (λ r. r)) }
-{
-    match of {
-        ItemKind::Func(id) => names.up_to(index).is_func(&item.signature, id),
-        _ => false,
-    }
-}
-
-// Whether types are those that are used.
-fn are_used(
-    names: &NamedTypes<'_>,
-    progress: &mut ExportMarks,
-    from: &NamedTypes<'_>,
-    renames: &[Rename],
-) -> bool
-    ensures marks { IsTrue result → MarksBrought names.now from.now (λ s f. BringsAll s f renames.now) progress.old progress.new }
-    ensures covers { IsTrue result → (r : Renamed) → Contains renames.now r → HasTypeItem (named_items names.now) (given_name r.name r.alias) }
-{
-    for rename in renames {
-        if !is_used(names, progress, from, rename) {
-            return false;
-        }
-    }
-    true
-}
-
-// Whether a type is the one that is used.
-fn is_used(
-    names: &NamedTypes<'_>,
-    progress: &mut ExportMarks,
-    from: &NamedTypes<'_>,
-    rename: &Rename,
-) -> bool
-    ensures marks { IsTrue result → MarksBrought names.now from.now (λ s f. Brings s f rename.now) progress.old progress.new }
-    ensures covers { IsTrue result → HasTypeItem (named_items names.now) (given_name rename.now.name rename.now.alias) }
-{
-    let Some((index, of)) = names.type_at(local_name(rename)) else {
-        return false;
-    };
-    progress.mark(index);
-    match from.named(&rename.name) {
-        Some(used) => is_same_type(names.types, used, of),
-        None => false,
-    }
-}
-
-/// The name that a used type gets.
-pub(crate) fn local_name(rename: &Rename) -> &Ident
-    ensures { ident_text result.now ≡ given_name rename.now.name rename.now.alias }
-{
-    match &rename.alias {
-        Some(alias) => alias,
-        None => &rename.name,
     }
 }

@@ -1,7 +1,7 @@
 //! Laws of what texts denote. Each is the contract of a function that does nothing.
 
-ghost use Rattle.wac_wit_validation.specs.Laws.{HandlesStandAsWritten, IncludedStandRenamed, InterfacesHaveOneTree, PathsLeadToTheirVersion, TreesOfOneTextFit};
-ghost use Rattle.wac_wit_validation.specs.Laws.{UsedTypesAreExported, WorldsHaveOneTree};
+ghost use Rattle.wac_wit_validation_types.specs.Laws.{HandlesStandAsWritten, IncludedStandRenamed, InterfacesHaveOneTree, PathsLeadToTheirVersion, TreesOfOneTextFit};
+ghost use Rattle.wac_wit_validation_types.specs.Laws.{UsedTypesAreExported, WorldsHaveOneTree};
 
 /// Where what is read says one thing, an interface denotes one tree, but for the order of its exports:
 /// two trees that it denotes have the same item under each name.

@@ -9,13 +9,13 @@ ghost use Rattle.wac_wit_scopes.specs.WitSources.{IsScopeOf, ScopeSyntax as Scop
 ghost use Rattle.wac_wit_validation.specs.WorldChecking.{KnowsWorlds};
 ghost use Rattle.wac_wit_validation.specs.declared.listing.PackageListing.{PackageListing as ListingOf};
 
-use super::texts::{is_package_text, is_version_text};
 use super::validator::Validator;
 use indexmap::IndexMap;
 use std::alloc::AllocError;
 use wac_component::{InterfaceId, WorldId};
 use wac_wit_scopes::ScopeItems;
 use wac_wit_syntax::TopItem;
+use wac_wit_validation_types::{is_package_text, is_version_text};
 
 /// What is said that a package has.
 #[derive(Clone, Copy)]

@@ -1,12 +1,12 @@
 //! Which imports or exports of a world were found to be as they are written.
 
 ghost use Rattle.std.specs.Prelude.{◌≡◌, ◌≢◌, ◌⊎◌, ℕ, ◌<◌, IfOk, IfSome, IsNone, IsTrue, Some, length, slice_get};
-ghost use Rattle.wac_wit_validation.specs.declared.validator.FoundInterface.{FoundInterface as FoundOf};
+ghost use Rattle.wac_wit_validation_names.specs.declared.places.FoundInterface.{FoundInterface as FoundOf};
 ghost use Rattle.wac_wit_validation.specs.declared.marks.ExternMark.{ExternMark as MarkOf};
 ghost use Rattle.wac_wit_validation.specs.declared.marks.ExternMark.TheVariants.{Found, Unmarked};
 
-use super::validator::FoundInterface;
 use std::alloc::{AllocError, Global};
+use wac_wit_validation_names::FoundInterface;
 
 /// What was found of an import or an export.
 #[derive(Clone, Copy)]

@@ -3,7 +3,7 @@
 ghost use Rattle.std.specs.Prelude.{◌∷◌, [], IfOk, IsTrue};
 ghost use Rattle.wac_component.specs.Content.{world_content};
 ghost use Rattle.wac_wit_syntax.specs.declared.tree.WorldItem.TheVariants.{Export as ExportItem, Import as ImportItem};
-ghost use Rattle.wac_wit_validation.specs.Denoted.{uses_in};
+ghost use Rattle.wac_wit_validation_types.specs.Denoted.{uses_in};
 ghost use Rattle.wac_wit_validation.specs.WorldChecking.{HasNeeds, KeepsNeeds, KeepsUnexported, UsesAreThere};
 ghost use Rattle.wac_wit_validation.specs.WorldClauses.{HasPathNeeds, KeepsPathNeeds};
 

@@ -2,38 +2,20 @@
 
 ghost use Rattle.std.specs.Prelude.{◌≡◌, ◌↔◌, IfOk, IfSome, IsTrue, None, Some, length, slice_get};
 ghost use Rattle.wac_component.specs.Collection.{InterfaceContent};
-ghost use Rattle.wac_wit_validation.specs.Checking.{AreNamesAt, IsSettingAt, Knows, LeadsToFound, named_items};
-ghost use Rattle.wac_wit_validation.specs.Denoted.{Setting};
+ghost use Rattle.wac_wit_validation_types.specs.Exports.{AreNamesAt, named_items};
+ghost use Rattle.wac_wit_validation.specs.Checking.{IsSettingAt, Knows, LeadsToFound};
+ghost use Rattle.wac_wit_validation_types.specs.Denoted.{Setting};
 ghost use Rattle.wac_wit_scopes.specs.WitSources.{IsEnabled, WitSources};
 
-use super::given::is_enabled;
-use super::layers::Layer;
 use super::marks::WorldMarks;
-use super::names::NamedTypes;
 use indexmap::IndexMap;
 use std::alloc::{AllocError, Global};
 use wac_component::{ExternKind, Interface, InterfaceId, Type, Types, World, WorldId};
 use wac_wit_names::{Catalog, Features, FoundPlace};
 use wac_wit_scopes::{ScopeItems, leads};
-use wac_wit_syntax::{Gates, Ident, PackageName, Path, TopItem, TopUse, WorldDecl};
-
-/// Where an interface or a world is written: the index of what it stands in, and its own there.
-#[derive(Clone, Copy)]
-pub struct ItemPlace {
-    /// Of the items of files and of the packages inside them.
-    pub scope: usize,
-    /// Of the item among these.
-    pub item: usize,
-}
-
-/// An interface that is as it is written.
-#[derive(Clone, Copy)]
-pub struct FoundInterface {
-    /// Where it is written.
-    pub place: ItemPlace,
-    /// Its entry.
-    pub id: InterfaceId,
-}
+use wac_wit_syntax::{Gates, Path, TopItem, WorldDecl};
+use wac_wit_validation_names::{FoundInterface, ItemPlace, Layer, is_enabled};
+use wac_wit_validation_types::NamedTypes;
 
 /// A world that is as it is written.
 pub struct FoundWorld<'v> {

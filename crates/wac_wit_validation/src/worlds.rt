@@ -4,28 +4,26 @@ ghost use Rattle.std.specs.Prelude.{◌≡◌, Contains, IfOk, IfSome, IsTrue, O
 ghost use Rattle.std.specs.Option.{option_map};
 ghost use Rattle.wac_component.specs.Content.{world_content};
 ghost use Rattle.wac_wit_validation.specs.Checking.{MarksAt};
-ghost use Rattle.wac_wit_validation.specs.Placed.{PlacedWorld};
+ghost use Rattle.wac_wit_validation_types.specs.Placed.{PlacedWorld};
 ghost use Rattle.wac_wit_validation.specs.Validated.{HasFoundWorld, IsWorldOf, KeepsFound};
 ghost use Rattle.wac_wit_scopes.specs.WitSources.{WitSources};
 ghost use Rattle.wac_wit_validation.specs.WorldChecking.{IsEntryOf, IsTextAt, IsValidatedWorld, KnowsWorlds, OffersItem, RepresentsItem, StaysAs, text_content};
-ghost use Rattle.wac_wit_validation.specs.WorldClauses.{AreOwnTypes, CoversLayer, CoversOwn, CoversType, HasExportMarks, HasImportsFor, HasNeedsOf};
-ghost use Rattle.wac_wit_validation.specs.WorldClauses.{HasWorldMarks, KeepsAllNeeds, KeepsLayer, KeepsLayers, KeepsOwn, KeepsType};
-ghost use Rattle.wac_wit_validation.specs.declared.layers.Layer.{Layer as LayerOf};
+ghost use Rattle.wac_wit_validation.specs.WorldClauses.{AreOwnTypes, CoversLayer, CoversOwn, CoversType, HasExportMarks, HasImportsFor, HasNeedsOf, HasWorldMarks, KeepsAllNeeds, KeepsLayer};
+ghost use Rattle.wac_wit_validation.specs.WorldClauses.{KeepsLayers, KeepsOwn, KeepsType};
+ghost use Rattle.wac_wit_validation_names.specs.declared.layers.Layer.{Layer as LayerOf};
 
 use super::externs::WorldSide;
 use super::includes::is_same_item;
-use super::layers::Layer;
 use super::marks::{ExternMark, ExternMarks, WorldMarks};
-use super::names::NamedTypes;
-use super::own::own_types;
-use super::progress::ExportMarks;
-use super::texts::{is_identifier_of, is_package_text, is_version_text, is_word};
-use super::validator::{FoundWorld, ItemPlace, Validator, WorldText};
-use super::worlds_once::layers_give_once;
+use super::validator::{FoundWorld, Validator, WorldText};
 use indexmap::IndexMap;
 use std::alloc::AllocError;
 use wac_component::{ExternKind, InterfaceId, ItemKind, Type, World, WorldId};
 use wac_wit_syntax::WorldItem;
+use wac_wit_validation_names::{ItemPlace, Layer, layers_give_once, own_types};
+use wac_wit_validation_types::{
+    ExportMarks, NamedTypes, is_identifier_of, is_package_text, is_version_text, is_word,
+};
 
 impl<'v> Validator<'v> {
     /// Takes in a world, if its entry is as it is written, and if it gives each name of an import,

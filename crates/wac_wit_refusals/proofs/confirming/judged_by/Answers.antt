@@ -2,10 +2,10 @@ use Rattle.std.proofs.Common.{◌∙◌, [], ◌∷◌, ◌++◌, refl, subst, s
 use Rattle.std.proofs.lemmas.Iterator.Adapters.{YieldsList-from_vec}
 use Rattle.std.proofs.lemmas.Iterator.Consumers.{YieldsList-end}
 use Rattle.wac_wit_names.specs.declared.error.WitRefusal.{WitRefusal}
-use Rattle.wac_wit_refusals.specs.Judging.{IsJudged}
+use Rattle.wac_wit_refusals.specs.Judged.{IsJudged}
 use Rattle.wac_wit_refusals.specs.Kept.{AreKeptRefusals, none_kept}
 use Rattle.wac_wit_refusals.proofs.KeptFacts.{all_kept, kept_pushed}
-use Rattle.wac_wit_refusals.proofs.Pushed.{each_none, each_pushed}
+use Rattle.wac_wit_refusals_sites.proofs.Pushed.{each_none, each_pushed}
 use Rattle.wac_wit_refusals.proofs.confirming.judged_by.Goals as goal
 
 pub loop-refused-init : goal.loop-refused-init

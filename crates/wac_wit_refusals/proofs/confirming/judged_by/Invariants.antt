@@ -1,6 +1,7 @@
 use Rattle.std.specs.Prelude.{◌≡◌, IfSome}
 use Rattle.wac_wit_scopes.specs.WitSources.{WitSources, sources_of}
-use Rattle.wac_wit_refusals.specs.Judging.{AreJudged, Judges}
+use Rattle.wac_wit_refusals.specs.Judged.{AreJudged}
+use Rattle.wac_wit_refusals_sites.specs.Judging.{Judges}
 use Rattle.wac_wit_refusals.specs.Kept.{AreKeptRefusals}
 use Rattle.wac_wit_refusals.proofs.confirming.judged_by.Given as goal
 

@@ -4,7 +4,7 @@ use Rattle.wac_wit_syntax.specs.declared.tree.TopItem.{TopItem}
 use Rattle.wac_wit_syntax.specs.declared.tree.TopItem.TheVariants as top
 use Rattle.wac_wit_syntax.specs.declared.tree.TopUse.{TopUse}
 use Rattle.wac_wit_scopes.proofs.ScopeFacts.{All-end, All-next}
-use Rattle.wac_wit_refusals.proofs.Walks.{not_true}
+use Rattle.wac_wit_refusals_sites.proofs.Walks.{not_true}
 use Rattle.wac_wit_refusals.proofs.members.is_unused.Goals as goal
 
 pub loop-item-preserved : goal.loop-item-preserved

@@ -1,9 +1,9 @@
 use Rattle.std.proofs.Common.{◌≡◌, Some}
-use Rattle.wac_wit_refusals.specs.Paths.{name_of_item}
+use Rattle.wac_wit_refusals_sites.specs.Paths.{name_of_item}
 use Rattle.wac_wit_scopes.specs.WitSources.{ident_text}
 use Rattle.wac_wit_syntax.specs.declared.tree.TopItem.{TopItem}
 use Rattle.wac_wit_scopes.proofs.ScopeFacts.{All-end, All-next}
-use Rattle.wac_wit_refusals.proofs.Walks.{not_so}
+use Rattle.wac_wit_refusals_sites.proofs.Walks.{not_so}
 use Rattle.wac_wit_refusals.proofs.members.lacks.Goals as goal
 
 pub loop-item-preserved : goal.loop-item-preserved

@@ -1,6 +1,6 @@
 use Rattle.std.proofs.Common.{◌≡◌, Some, take}
 use Rattle.std.specs.Prelude.{All}
-use Rattle.wac_wit_refusals.specs.Paths.{name_of_item}
+use Rattle.wac_wit_refusals_sites.specs.Paths.{name_of_item}
 use Rattle.wac_wit_scopes.specs.WitSources.{ident_text}
 use Rattle.wac_wit_syntax.specs.declared.tree.TopItem.{TopItem}
 use Rattle.wac_wit_refusals.proofs.members.lacks.Given as goal

@@ -1,4 +1,4 @@
-use Rattle.wac_wit_refusals.proofs.PathPlaces.{path_at}
+use Rattle.wac_wit_refusals_sites.proofs.PathPlaces.{path_at}
 use Rattle.wac_wit_refusals.proofs.members.names_own.Goals as goal
 
 pub returns-then-is_at : goal.returns-then-is_at

@@ -1,5 +1,6 @@
 use Rattle.std.proofs.Common.{refl}
-use Rattle.wac_wit_refusals.proofs.NamingFacts.{named_inside, read_item}
+use Rattle.wac_wit_refusals.proofs.NamingFacts.{named_inside}
+use Rattle.wac_wit_refusals_sites.proofs.JudgeFacts.{read_item}
 use Rattle.wac_wit_refusals.proofs.packages.is_named_inside.Goals as goal
 
 pub returns-then-is_same_package : goal.returns-then-is_same_package

@@ -1,5 +1,6 @@
 use Rattle.std.proofs.Common.{refl}
-use Rattle.wac_wit_refusals.proofs.NamingFacts.{read_item, tree_at}
+use Rattle.wac_wit_refusals_sites.proofs.JudgeFacts.{read_item}
+use Rattle.wac_wit_refusals.proofs.NamingFacts.{tree_at}
 use Rattle.wac_wit_refusals.specs.Packages.{by_file, by_nested}
 use Rattle.wac_wit_refusals.specs.Trees.{tree_syntax, wit_sources}
 use Rattle.wac_wit_refusals.proofs.packages.name_at.Goals as goal

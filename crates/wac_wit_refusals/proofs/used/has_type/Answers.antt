@@ -1,4 +1,4 @@
-use Rattle.wac_wit_refusals.proofs.Walks.{among_at}
+use Rattle.wac_wit_refusals_sites.proofs.Walks.{among_at}
 use Rattle.wac_wit_refusals.proofs.used.has_type.Goals as goal
 
 pub returns-then-gives_type : goal.returns-then-gives_type

@@ -2,7 +2,7 @@ use Rattle.wac_wit_scopes.specs.WitSources.{ident_text}
 use Rattle.wac_wit_syntax.specs.declared.tree.InterfaceItem.{InterfaceItem}
 use Rattle.wac_wit_scopes.proofs.ScopeFacts.{All-end, All-next}
 use Rattle.wac_wit_refusals.specs.UsedReasons.{GivesTypeName}
-use Rattle.wac_wit_refusals.proofs.Walks.{not_so}
+use Rattle.wac_wit_refusals_sites.proofs.Walks.{not_so}
 use Rattle.wac_wit_refusals.proofs.used.lacks_type.Goals as goal
 
 pub loop-item-preserved : goal.loop-item-preserved

@@ -1,5 +1,5 @@
 use Rattle.std.proofs.Common.{refl}
-use Rattle.wac_wit_refusals.proofs.Walks.{among_at}
+use Rattle.wac_wit_refusals_sites.proofs.Walks.{among_at}
 use Rattle.wac_wit_refusals.proofs.used.name_at.Goals as goal
 
 pub returns-then-is_at : goal.returns-then-is_at

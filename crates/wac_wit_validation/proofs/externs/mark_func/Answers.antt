@@ -1,13 +1,13 @@
 use Rattle.std.proofs.Common.{subst, []}
 use Rattle.wac_component.specs.Collection.{Collection}
 use Rattle.wac_component.specs.Tree.{func_tree}
-use Rattle.wac_wit_validation.specs.Denoted.{renamed_by}
-use Rattle.wac_wit_validation.specs.Functions.{IsFuncOf}
+use Rattle.wac_wit_validation_types.specs.Denoted.{renamed_by}
+use Rattle.wac_wit_validation_types.specs.Functions.{IsFuncOf}
 use Rattle.wac_wit_scopes.specs.WitSources.{ident_text}
 use Rattle.wac_wit_validation.specs.WorldChecking.{side_items}
-use Rattle.wac_wit_validation.specs.Worlds.{extern_func, world_setting}
+use Rattle.wac_wit_validation_types.specs.Worlds.{extern_func, world_setting}
 use Rattle.wac_wit_validation.specs.declared.marks.ExternMark.TheVariants.{Written}
-use Rattle.wac_wit_validation.proofs.MarkFacts.{has_item_at}
+use Rattle.wac_wit_validation_types.proofs.MarkFacts.{has_item_at}
 use Rattle.wac_wit_validation.proofs.WorldFacts.{AreMarksOf-marked, IsMarkOf-written}
 use Rattle.wac_wit_validation.proofs.externs.mark_func.Goals as goal
 

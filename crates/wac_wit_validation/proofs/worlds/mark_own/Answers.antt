@@ -5,11 +5,12 @@ use Rattle.wac_component.specs.Tree.{item_tree}
 use Rattle.wac_component.specs.declared.items.ItemKind.{ItemKind}
 use Rattle.wac_component.specs.declared.worlds.ExternKind.TheVariants.{Import}
 use Rattle.wac_model.specs.Text.{Text}
-use Rattle.wac_wit_validation.specs.Checking.{named_items}
-use Rattle.wac_wit_validation.specs.WorldClauses.{CoversType, imported_name}
-use Rattle.wac_wit_validation.specs.Worlds.{HasExternOf}
-use Rattle.wac_wit_validation.proofs.MarkFacts.{AllBelow-contains, AllBelow-more, AllBelow-none}
-use Rattle.wac_wit_validation.proofs.NameFacts.{named_at}
+use Rattle.wac_wit_validation_types.specs.Exports.{named_items}
+use Rattle.wac_wit_validation.specs.WorldClauses.{CoversType}
+use Rattle.wac_wit_validation_types.specs.Reading.{imported_name}
+use Rattle.wac_wit_validation_types.specs.Worlds.{HasExternOf}
+use Rattle.wac_wit_validation_types.proofs.MarkFacts.{AllBelow-contains, AllBelow-more, AllBelow-none}
+use Rattle.wac_wit_validation_types.proofs.NameFacts.{named_at}
 use Rattle.wac_wit_scopes.proofs.PathFacts.{contains_at}
 use Rattle.wac_wit_validation.proofs.WorldFacts.{named_past}
 use Rattle.wac_wit_validation.proofs.WorldWhole.{own_extern}

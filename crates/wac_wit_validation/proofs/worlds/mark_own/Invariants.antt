@@ -1,7 +1,7 @@
 use Rattle.std.proofs.Common.{◌≤◌, length}
-use Rattle.wac_wit_validation.specs.Checking.{named_items}
+use Rattle.wac_wit_validation_types.specs.Exports.{named_items}
 use Rattle.wac_wit_validation.specs.WorldClauses.{CoversType, KeepsOwn}
-use Rattle.wac_wit_validation.proofs.MarkFacts.{AllBelow}
+use Rattle.wac_wit_validation_types.proofs.MarkFacts.{AllBelow}
 use Rattle.wac_wit_validation.proofs.worlds.mark_own.Given as goal
 
 abbrev pub invariant-loop-place : goal.invariant-loop-place

@@ -5,12 +5,11 @@ use Rattle.wac_component.specs.declared.items.ItemKind.{ItemKind}
 use Rattle.wac_component.specs.declared.worlds.ExternKind.TheVariants.{Import}
 use Rattle.wac_model.specs.Text.{Text}
 use Rattle.wac_wit_syntax.specs.declared.tree.Rename.{Rename}
-use Rattle.wac_wit_validation.specs.Reading.{Renames}
+use Rattle.wac_wit_validation_types.specs.Reading.{Renames, imported_name}
 use Rattle.wac_wit_validation.specs.WorldChecking.{side_items}
-use Rattle.wac_wit_validation.specs.WorldClauses.{imported_name}
-use Rattle.wac_wit_validation.specs.Worlds.{HasExternOf}
+use Rattle.wac_wit_validation_types.specs.Worlds.{HasExternOf}
 use Rattle.wac_wit_validation.specs.declared.marks.ExternMark.TheVariants.{Written}
-use Rattle.wac_wit_validation.proofs.MarkFacts.{has_item_at}
+use Rattle.wac_wit_validation_types.proofs.MarkFacts.{has_item_at}
 use Rattle.wac_wit_validation.proofs.WorldFacts.{AreMarksOf-marked, IsMarkOf-written, full_named}
 use Rattle.wac_wit_validation.proofs.worlds.mark_type.Goals as goal
 

@@ -1,6 +1,6 @@
 use Rattle.std.proofs.Common.{ℕ, inl, refl}
 use Rattle.wac_wit_validation.specs.Validated.{HasFoundInterface}
-use Rattle.wac_wit_validation.proofs.NameFacts.{some_told}
+use Rattle.wac_wit_validation_types.proofs.NameFacts.{some_told}
 use Rattle.wac_wit_validation.proofs.WorldFacts.{KnowsWorlds-kept}
 use Rattle.wac_wit_validation.proofs.validator.Validator.add_interface.Goals as goal
 

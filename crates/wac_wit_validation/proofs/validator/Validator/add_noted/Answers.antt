@@ -1,14 +1,14 @@
 use Rattle.std.proofs.Common.{List, Vec, sym, subst}
 use Rattle.std.specs.declared.alloc.Global.{Global}
 use Rattle.wac_component.specs.declared.worlds.ExternKind.{ExternKind}
-use Rattle.wac_wit_validation.specs.WorldOnce.{GiveOnce}
+use Rattle.wac_wit_validation_names.specs.WorldOnce.{GiveOnce}
 use Rattle.wac_wit_validation.specs.OriginClauses.{TellsWorld}
-use Rattle.wac_wit_validation.specs.Placed.{PlacedWorld}
+use Rattle.wac_wit_validation_types.specs.Placed.{PlacedWorld}
 use Rattle.wac_wit_scopes.specs.WitSources.{WitSources}
 use Rattle.wac_wit_validation.specs.WorldChecking.{AreLayersOf, AreWorldSides, IsTextAt, text_content}
-use Rattle.wac_wit_validation.specs.declared.layers.Layer.{Layer}
+use Rattle.wac_wit_validation_names.specs.declared.layers.Layer.{Layer}
 use Rattle.wac_wit_validation.specs.declared.marks.WorldMarks.{WorldMarks}
-use Rattle.wac_wit_validation.proofs.NameFacts.{some_told}
+use Rattle.wac_wit_validation_types.proofs.NameFacts.{some_told}
 use Rattle.wac_wit_validation.proofs.OneWorld.{has_one_extern}
 use Rattle.wac_wit_validation.proofs.WorldFacts.{KeepsFound-trans}
 use Rattle.wac_wit_validation.proofs.WorldOrigins.{world_added}

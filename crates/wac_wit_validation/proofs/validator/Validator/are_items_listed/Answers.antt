@@ -1,6 +1,6 @@
 use Rattle.wac_wit_syntax.specs.declared.tree.TopItem.{TopItem}
 use Rattle.wac_wit_validation.specs.Listing.{IsItemListed}
-use Rattle.wac_wit_validation.proofs.MarkFacts.{AllBelow-contains, AllBelow-more, AllBelow-none}
+use Rattle.wac_wit_validation_types.proofs.MarkFacts.{AllBelow-contains, AllBelow-more, AllBelow-none}
 use Rattle.wac_wit_validation.proofs.validator.Validator.are_items_listed.Goals as goal
 use Rattle.std.proofs.Common.{refl}
 

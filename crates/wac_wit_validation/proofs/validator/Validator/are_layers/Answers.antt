@@ -1,6 +1,6 @@
 use Rattle.wac_component.specs.Content.{world_content}
 use Rattle.wac_wit_validation.specs.WorldClauses.{CoversLayer}
-use Rattle.wac_wit_validation.proofs.MarkFacts.{AllBelow-contains, AllBelow-more, AllBelow-none, among_at}
+use Rattle.wac_wit_validation_types.proofs.MarkFacts.{AllBelow-contains, AllBelow-more, AllBelow-none, among_at}
 use Rattle.wac_wit_validation.proofs.validator.Validator.are_layers.Goals as goal
 
 pub loop-index-init : goal.loop-index-init

@@ -3,9 +3,9 @@ use Rattle.std.specs.declared.alloc.Global.{Global}
 use Rattle.wac_model.specs.Text.{Text}
 use Rattle.wac_wit_syntax.specs.declared.tree.Method.{Method}
 use Rattle.wac_wit_syntax.specs.declared.tree.TypeDef.TheVariants as def
-use Rattle.wac_wit_validation.specs.Checking.{HasMethods, OffersMethods, named_items}
-use Rattle.wac_wit_validation.specs.Denoted.{type_name}
-use Rattle.wac_wit_validation.specs.Functions.{of_resource}
+use Rattle.wac_wit_validation_types.specs.Exports.{HasMethods, OffersMethods, named_items}
+use Rattle.wac_wit_validation_types.specs.Denoted.{type_name}
+use Rattle.wac_wit_validation_types.specs.Functions.{of_resource}
 use Rattle.wac_wit_scopes.specs.WitSources.{ident_text}
 use Rattle.wac_wit_validation.proofs.validator.Validator.are_methods.Goals as goal
 

@@ -1,6 +1,6 @@
 use Rattle.std.proofs.Common.{refl}
 use Rattle.wac_wit_validation.specs.Listing.{IsOfText}
-use Rattle.wac_wit_validation.proofs.MarkFacts.{AllBelow-contains, AllBelow-more, AllBelow-none}
+use Rattle.wac_wit_validation_types.proofs.MarkFacts.{AllBelow-contains, AllBelow-more, AllBelow-none}
 use Rattle.wac_wit_validation.proofs.validator.Validator.are_of_texts.Goals as goal
 
 pub loop-index-init : goal.loop-index-init

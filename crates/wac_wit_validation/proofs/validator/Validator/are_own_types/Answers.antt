@@ -1,11 +1,11 @@
 use Rattle.std.proofs.Common.{◌≡◌, sym, subst, Contains, List}
 use Rattle.std.specs.Borrow.{Bor}
 use Rattle.wac_wit_syntax.specs.declared.tree.WorldItem.{WorldItem}
-use Rattle.wac_wit_validation.specs.Checking.{named_items}
+use Rattle.wac_wit_validation_types.specs.Exports.{named_items}
 use Rattle.wac_wit_validation.specs.WorldChecking.{RepresentsItem}
-use Rattle.wac_wit_validation.specs.Worlds.{world_setting}
-use Rattle.wac_wit_validation.proofs.ItemFacts.{all_exported}
-use Rattle.wac_wit_validation.proofs.MarkFacts.{AllBelow-contains, AllBelow-more, among_at, marks_then}
+use Rattle.wac_wit_validation_types.specs.Worlds.{world_setting}
+use Rattle.wac_wit_validation_types.proofs.ItemFacts.{all_exported}
+use Rattle.wac_wit_validation_types.proofs.MarkFacts.{AllBelow-contains, AllBelow-more, among_at, marks_then}
 use Rattle.wac_wit_validation.proofs.WorldFacts.{scope_of_world, setting_at}
 use Rattle.wac_wit_validation.proofs.WorldWhole.{items_in_setting, setting_represented}
 use Rattle.wac_wit_validation.proofs.validator.Validator.are_own_types.Goals as goal

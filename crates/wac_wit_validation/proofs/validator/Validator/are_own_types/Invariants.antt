@@ -1,11 +1,12 @@
 use Rattle.std.proofs.Common.{◌≡◌, Contains}
 use Rattle.std.specs.Borrow.{Bor}
 use Rattle.wac_wit_syntax.specs.declared.tree.WorldItem.{WorldItem}
-use Rattle.wac_wit_validation.specs.Checking.{IsSettingAt, MarksExports}
-use Rattle.wac_wit_validation.specs.Denoted.{Setting}
-use Rattle.wac_wit_validation.specs.Reading.{Renames}
+use Rattle.wac_wit_validation.specs.Checking.{IsSettingAt}
+use Rattle.wac_wit_validation_types.specs.Exports.{MarksExports}
+use Rattle.wac_wit_validation_types.specs.Denoted.{Setting}
+use Rattle.wac_wit_validation_types.specs.Reading.{Renames}
 use Rattle.wac_wit_validation.specs.WorldChecking.{OffersItem, RepresentsItem}
-use Rattle.wac_wit_validation.proofs.MarkFacts.{AllBelow}
+use Rattle.wac_wit_validation_types.proofs.MarkFacts.{AllBelow}
 use Rattle.wac_wit_validation.proofs.validator.Validator.are_own_types.Given as goal
 
 abbrev pub invariant-loop-item : goal.invariant-loop-item

@@ -1,8 +1,8 @@
 use Rattle.std.proofs.Common.{refl}
 use Rattle.wac_wit_syntax.specs.declared.tree.Method.{Method}
-use Rattle.wac_wit_validation.specs.Checking.{HasMethodItem, named_items}
+use Rattle.wac_wit_validation_types.specs.Exports.{HasMethodItem, named_items}
 use Rattle.wac_wit_scopes.specs.WitSources.{ident_text}
-use Rattle.wac_wit_validation.proofs.MarkFacts.{AllBelow-contains, AllBelow-more, AllBelow-none, among_at, marks_none, marks_then}
+use Rattle.wac_wit_validation_types.proofs.MarkFacts.{AllBelow-contains, AllBelow-more, AllBelow-none, among_at, marks_none, marks_then}
 use Rattle.wac_wit_validation.proofs.validator.Validator.are_resource_methods.Goals as goal
 
 pub loop-method-init : goal.loop-method-init

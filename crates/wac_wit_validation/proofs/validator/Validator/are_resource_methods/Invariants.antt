@@ -1,10 +1,11 @@
 use Rattle.std.proofs.Common.{◌≡◌}
 use Rattle.wac_component.specs.Tree.{root_name}
 use Rattle.wac_wit_syntax.specs.declared.tree.Method.{Method}
-use Rattle.wac_wit_validation.specs.Checking.{HasMethodItem, Knows, MarksExports, OffersMethods, named_items}
-use Rattle.wac_wit_validation.specs.Denoted.{Setting}
+use Rattle.wac_wit_validation_types.specs.Exports.{HasMethodItem, MarksExports, OffersMethods, named_items}
+use Rattle.wac_wit_validation.specs.Checking.{Knows}
+use Rattle.wac_wit_validation_types.specs.Denoted.{Setting}
 use Rattle.wac_wit_scopes.specs.WitSources.{WitSources, ident_text}
-use Rattle.wac_wit_validation.proofs.MarkFacts.{AllBelow}
+use Rattle.wac_wit_validation_types.proofs.MarkFacts.{AllBelow}
 use Rattle.wac_wit_validation.proofs.validator.Validator.are_resource_methods.Given as goal
 
 abbrev pub invariant-loop-method : goal.invariant-loop-method

@@ -3,7 +3,7 @@ use Rattle.wac_wit_scopes.specs.Scopes.{IsKnownScope, scope_syntax}
 use Rattle.wac_wit_validation.specs.Listing.{IsScopeListed}
 use Rattle.wac_wit_scopes.specs.declared.scopes.ScopeItems.{ScopeItems}
 use Rattle.wac_wit_validation.proofs.ListingFacts.{listed_scopes}
-use Rattle.wac_wit_validation.proofs.MarkFacts.{AllBelow-contains, AllBelow-more, AllBelow-none}
+use Rattle.wac_wit_validation_types.proofs.MarkFacts.{AllBelow-contains, AllBelow-more, AllBelow-none}
 use Rattle.wac_wit_validation.proofs.validator.Validator.are_scopes_listed.Goals as goal
 
 pub loop-index-init : goal.loop-index-init

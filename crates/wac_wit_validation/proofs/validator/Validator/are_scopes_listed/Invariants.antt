@@ -3,7 +3,7 @@ use Rattle.wac_wit_validation.specs.Checking.{Knows}
 use Rattle.wac_wit_validation.specs.Listing.{IsScopeListed}
 use Rattle.wac_wit_scopes.specs.WitSources.{WitSources}
 use Rattle.wac_wit_scopes.specs.declared.scopes.ScopeItems.{ScopeItems}
-use Rattle.wac_wit_validation.proofs.MarkFacts.{AllBelow}
+use Rattle.wac_wit_validation_types.proofs.MarkFacts.{AllBelow}
 use Rattle.wac_wit_validation.proofs.validator.Validator.are_scopes_listed.Given as goal
 
 abbrev pub invariant-loop-index : goal.invariant-loop-index

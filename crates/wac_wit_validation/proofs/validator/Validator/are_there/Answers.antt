@@ -3,10 +3,10 @@ use Rattle.wac_wit_syntax.specs.declared.tree.InterfaceItem.{InterfaceItem}
 use Rattle.wac_component.specs.Content.{world_content}
 use Rattle.wac_component.proofs.Among.{Contains-first}
 use Rattle.wac_wit_syntax.specs.declared.tree.InterfaceItem.TheVariants as inside
-use Rattle.wac_wit_validation.specs.Denoted.{uses_in}
+use Rattle.wac_wit_validation_types.specs.Denoted.{uses_in}
 use Rattle.wac_wit_validation.specs.WorldChecking.{UsesAreThere}
-use Rattle.wac_wit_validation.proofs.ItemFacts.{use_back}
-use Rattle.wac_wit_validation.proofs.MarkFacts.{AllBelow-contains, AllBelow-more, AllBelow-none}
+use Rattle.wac_wit_validation_types.proofs.ItemFacts.{use_back}
+use Rattle.wac_wit_validation_types.proofs.MarkFacts.{AllBelow-contains, AllBelow-more, AllBelow-none}
 use Rattle.wac_wit_validation.proofs.validator.Validator.are_there.Goals as goal
 
 pub loop-item-init : goal.loop-item-init

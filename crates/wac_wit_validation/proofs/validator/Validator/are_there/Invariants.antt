@@ -1,8 +1,8 @@
 use Rattle.std.proofs.Common.{◌∷◌, []}
 use Rattle.wac_component.specs.Content.{world_content}
-use Rattle.wac_wit_validation.specs.Denoted.{uses_in}
+use Rattle.wac_wit_validation_types.specs.Denoted.{uses_in}
 use Rattle.wac_wit_validation.specs.WorldChecking.{UsesAreThere}
-use Rattle.wac_wit_validation.proofs.MarkFacts.{AllBelow}
+use Rattle.wac_wit_validation_types.proofs.MarkFacts.{AllBelow}
 use Rattle.wac_wit_syntax.specs.declared.tree.InterfaceItem.{InterfaceItem}
 use Rattle.wac_wit_validation.proofs.validator.Validator.are_there.Given as goal
 

@@ -1,7 +1,7 @@
 use Rattle.std.proofs.Common.{◌∷◌, []}
-use Rattle.wac_wit_validation.specs.Denoted.{uses_in}
+use Rattle.wac_wit_validation_types.specs.Denoted.{uses_in}
 use Rattle.wac_wit_validation.specs.WorldChecking.{MarksUses}
-use Rattle.wac_wit_validation.proofs.MarkFacts.{AllBelow}
+use Rattle.wac_wit_validation_types.proofs.MarkFacts.{AllBelow}
 use Rattle.wac_wit_syntax.specs.declared.tree.InterfaceItem.{InterfaceItem}
 use Rattle.wac_wit_validation.proofs.validator.Validator.are_uses_marked.Given as goal
 

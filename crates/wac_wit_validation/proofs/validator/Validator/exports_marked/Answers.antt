@@ -6,7 +6,7 @@ use Rattle.wac_wit_syntax.specs.declared.tree.WorldItem.TheVariants as of_world
 use Rattle.wac_wit_syntax.specs.declared.tree.WorldItem.{WorldItem}
 use Rattle.wac_wit_syntax.specs.declared.tree.WorldDecl.{WorldDecl}
 use Rattle.wac_wit_validation.specs.WorldChecking.{IsPathThere}
-use Rattle.wac_wit_validation.specs.Worlds.{SaysExtern}
+use Rattle.wac_wit_validation_types.specs.Worlds.{SaysExtern}
 use Rattle.wac_wit_validation.proofs.WorldFacts.{AreMarksOf-none, then_some_told}
 use Rattle.wac_wit_validation.proofs.WorldWhole.{HasNamed-layers, all_exports, each_marked, exports_there, interfaces_there}
 use Rattle.wac_wit_validation.proofs.validator.Validator.exports_marked.Goals as goal

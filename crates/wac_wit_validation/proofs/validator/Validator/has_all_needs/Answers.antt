@@ -2,7 +2,7 @@ use Rattle.std.proofs.Common.{◌≡◌, ◌∙◌, refl, sym, ap, subst, Contai
 use Rattle.wac_wit_syntax.specs.declared.tree.WorldItem.{WorldItem}
 use Rattle.wac_wit_syntax.specs.declared.tree.WorldDecl.{WorldDecl}
 use Rattle.wac_wit_validation.specs.WorldChecking.{ItemNeeds}
-use Rattle.wac_wit_validation.proofs.MarkFacts.{AllBelow-contains}
+use Rattle.wac_wit_validation_types.proofs.MarkFacts.{AllBelow-contains}
 use Rattle.wac_wit_validation.proofs.WorldFacts.{IfOk-map}
 use Rattle.wac_wit_validation.proofs.validator.Validator.has_all_needs.Goals as goal
 

@@ -1,7 +1,7 @@
 use Rattle.wac_component.specs.declared.worlds.ExternKind.TheVariants.{Export}
 use Rattle.wac_wit_scopes.specs.WitSources.{WitSources}
-use Rattle.wac_wit_validation.specs.Placed.{PlacedWorld}
-use Rattle.wac_wit_validation.proofs.MarkFacts.{AllBelow}
+use Rattle.wac_wit_validation_types.specs.Placed.{PlacedWorld}
+use Rattle.wac_wit_validation_types.proofs.MarkFacts.{AllBelow}
 use Rattle.wac_wit_validation.specs.WorldChecking.{AreMarksOf, IsTextAt, ItemNeeds, text_content}
 use Rattle.wac_wit_validation.proofs.validator.Validator.has_all_needs.Given as goal
 

@@ -1,9 +1,9 @@
 use Rattle.std.proofs.Common.{subst}
 use Rattle.wac_component.specs.Content.{named}
 use Rattle.wac_wit_scopes.specs.WitSources.{ScopeSyntax, WitSources}
-use Rattle.wac_wit_validation.specs.WorldChecking.{IsPlacedAt, IsIndexedScope, LeadsToExtern}
+use Rattle.wac_wit_validation.specs.WorldChecking.{IsIndexedScope, IsPlacedAt, LeadsToExtern}
 use Rattle.wac_wit_validation.specs.declared.externs.LedExtern.{LedExtern}
-use Rattle.wac_wit_validation.proofs.NameFacts.{some_told}
+use Rattle.wac_wit_validation_types.proofs.NameFacts.{some_told}
 use Rattle.wac_wit_validation.proofs.WorldFacts.{IfOk-map, scope_placed, uses_placed}
 use Rattle.wac_wit_validation.proofs.validator.Validator.has_needs_of_path.Goals as goal
 

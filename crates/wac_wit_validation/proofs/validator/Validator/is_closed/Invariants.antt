@@ -1,7 +1,7 @@
 use Rattle.std.proofs.Common.{◌≡◌, ◌<◌, ℕ, Some}
 use Rattle.std.specs.Prelude.{slice_get}
 use Rattle.wac_wit_validation.specs.declared.marks.ExternMark.TheVariants.{Found}
-use Rattle.wac_wit_validation.specs.declared.validator.FoundInterface.{FoundInterface}
+use Rattle.wac_wit_validation_names.specs.declared.places.FoundInterface.{FoundInterface}
 use Rattle.wac_wit_validation.specs.WorldChecking.{MarksUsesOf}
 use Rattle.wac_wit_validation.proofs.validator.Validator.is_closed.Given as goal
 

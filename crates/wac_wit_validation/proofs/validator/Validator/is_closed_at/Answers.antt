@@ -1,6 +1,6 @@
 use Rattle.std.proofs.Common.{subst}
 use Rattle.wac_wit_validation.specs.WorldChecking.{MarksUsesOf}
-use Rattle.wac_wit_validation.specs.declared.validator.FoundInterface.{FoundInterface}
+use Rattle.wac_wit_validation_names.specs.declared.places.FoundInterface.{FoundInterface}
 use Rattle.wac_wit_validation.proofs.WorldFacts.{IfOk-map, none_is, same_mark}
 use Rattle.wac_wit_validation.proofs.validator.Validator.is_closed_at.Goals as goal
 

@@ -1,9 +1,9 @@
 use Rattle.std.proofs.Common.{List, Some, refl, subst, ap, ◌∙◌}
 use Rattle.wac_component.specs.Content.{interface_content}
 use Rattle.wac_wit_syntax.specs.declared.tree.InterfaceItem.{InterfaceItem}
-use Rattle.wac_wit_validation.specs.Checking.{AreExportsOf}
+use Rattle.wac_wit_validation_types.specs.Exports.{AreExportsOf}
 use Rattle.wac_wit_scopes.specs.Scopes.{scope_syntax}
-use Rattle.wac_wit_validation.specs.Denoted.{interface_setting}
+use Rattle.wac_wit_validation_types.specs.Denoted.{interface_setting}
 use Rattle.wac_wit_validation.specs.OriginClauses.{TellsOrigins}
 use Rattle.wac_wit_scopes.specs.WitSources.{interface_identifier, package_id}
 use Rattle.wac_wit_validation.proofs.FoundFacts.{found_if}

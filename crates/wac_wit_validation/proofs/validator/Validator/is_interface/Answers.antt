@@ -1,12 +1,13 @@
 use Rattle.std.proofs.Common.{◌≡◌, Some, ap, sym, ◌∙◌}
 use Rattle.wac_wit_syntax.specs.declared.tree.InterfaceItem.{InterfaceItem}
-use Rattle.wac_wit_validation.specs.Checking.{IsRepresented, IsSettingAt, Offers, named_items}
+use Rattle.wac_wit_validation_types.specs.Exports.{IsRepresented, Offers, named_items}
+use Rattle.wac_wit_validation.specs.Checking.{IsSettingAt}
 use Rattle.wac_wit_scopes.specs.Scopes.{scope_syntax}
-use Rattle.wac_wit_validation.specs.Denoted.{interface_setting}
+use Rattle.wac_wit_validation_types.specs.Denoted.{interface_setting}
 use Rattle.wac_wit_scopes.specs.declared.scopes.ScopeItems.{ScopeItems}
-use Rattle.wac_wit_validation.proofs.ItemFacts.{all_exported, items_offered, offered_items}
-use Rattle.wac_wit_validation.proofs.MarkFacts.{AllBelow-contains, AllBelow-more, AllBelow-none, among_at, marks_none, marks_then}
-use Rattle.wac_wit_validation.proofs.NameFacts.{Renames-none}
+use Rattle.wac_wit_validation_types.proofs.ItemFacts.{all_exported, items_offered, offered_items}
+use Rattle.wac_wit_validation_types.proofs.MarkFacts.{AllBelow-contains, AllBelow-more, AllBelow-none, among_at, marks_none, marks_then}
+use Rattle.wac_wit_validation_types.proofs.NameFacts.{Renames-none}
 use Rattle.wac_wit_validation.proofs.validator.Validator.is_interface.Goals as goal
 
 same_some : (x y : ScopeItems) → Some x ≡ Some y → x ≡ y

@@ -1,9 +1,10 @@
 use Rattle.std.proofs.Common.{◌≡◌, Contains}
 use Rattle.wac_wit_syntax.specs.declared.tree.InterfaceItem.{InterfaceItem}
-use Rattle.wac_wit_validation.specs.Checking.{IsRepresented, IsSettingAt, Knows, MarksExports, Offers, named_items}
-use Rattle.wac_wit_validation.specs.Denoted.{Setting}
-use Rattle.wac_wit_validation.specs.Reading.{Renames}
-use Rattle.wac_wit_validation.proofs.MarkFacts.{AllBelow}
+use Rattle.wac_wit_validation_types.specs.Exports.{IsRepresented, MarksExports, Offers, named_items}
+use Rattle.wac_wit_validation.specs.Checking.{IsSettingAt, Knows}
+use Rattle.wac_wit_validation_types.specs.Denoted.{Setting}
+use Rattle.wac_wit_validation_types.specs.Reading.{Renames}
+use Rattle.wac_wit_validation_types.proofs.MarkFacts.{AllBelow}
 use Rattle.wac_wit_validation.proofs.validator.Validator.is_interface.Given as goal
 
 abbrev pub invariant-loop-item : goal.invariant-loop-item

@@ -4,8 +4,8 @@ use Rattle.wac_component.specs.Content.{named}
 use Rattle.wac_component.specs.declared.items.ItemKind.TheVariants.{Func, «Type» as OfType}
 use Rattle.wac_component.specs.declared.worlds.ExternKind.TheVariants.{Export, Import}
 use Rattle.wac_wit_syntax.specs.declared.tree.WorldItem.{WorldItem}
-use Rattle.wac_wit_validation.specs.Reading.{TypesAreNamed}
-use Rattle.wac_wit_validation.specs.Worlds.{world_setting}
+use Rattle.wac_wit_validation_types.specs.Reading.{TypesAreNamed}
+use Rattle.wac_wit_validation_types.specs.Worlds.{world_setting}
 use Rattle.wac_wit_validation.proofs.WorldFacts.{IfOk-map, named_length, scope_of_world}
 use Rattle.wac_wit_validation.proofs.WorldWhole.{named_there}
 use Rattle.wac_wit_validation.proofs.validator.Validator.is_layer.Goals as goal

@@ -1,10 +1,10 @@
 use Rattle.std.proofs.Common.{sym, subst}
 use Rattle.wac_component.specs.Content.{named}
 use Rattle.wac_wit_scopes.specs.WitSources.{ScopeSyntax, WitSources}
-use Rattle.wac_wit_validation.specs.WorldChecking.{IsPlacedAt, IsIndexedScope, LeadsToExtern}
+use Rattle.wac_wit_validation.specs.WorldChecking.{IsIndexedScope, IsPlacedAt, LeadsToExtern}
 use Rattle.wac_wit_validation.specs.declared.externs.LedExtern.{LedExtern}
-use Rattle.wac_wit_validation.proofs.NameFacts.{some_told}
-use Rattle.wac_wit_validation.specs.declared.validator.ItemPlace.{ItemPlace}
+use Rattle.wac_wit_validation_types.proofs.NameFacts.{some_told}
+use Rattle.wac_wit_validation_names.specs.declared.places.ItemPlace.{ItemPlace}
 use Rattle.wac_wit_validation.proofs.validator.Validator.is_path_marked.Goals as goal
 
 pub returns-in-Some-found_at : goal.returns-in-Some-found_at

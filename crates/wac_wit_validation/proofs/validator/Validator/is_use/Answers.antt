@@ -1,9 +1,10 @@
 use Rattle.std.proofs.Common.{◌≡◌, Contains, List, refl, sym, subst, ◌∙◌}
 use Rattle.wac_wit_syntax.specs.declared.tree.Rename.{Rename}
-use Rattle.wac_wit_validation.specs.Checking.{AreNamesAt, IsSettingAt}
-use Rattle.wac_wit_validation.specs.Denoted.{Setting, interface_setting, used}
-use Rattle.wac_wit_validation.specs.declared.names.NamedTypes.{NamedTypes}
-use Rattle.wac_wit_validation.proofs.NameFacts.{some_told}
+use Rattle.wac_wit_validation_types.specs.Exports.{AreNamesAt}
+use Rattle.wac_wit_validation.specs.Checking.{IsSettingAt}
+use Rattle.wac_wit_validation_types.specs.Denoted.{Setting, interface_setting, used}
+use Rattle.wac_wit_validation_types.specs.declared.names.NamedTypes.{NamedTypes}
+use Rattle.wac_wit_validation_types.proofs.NameFacts.{some_told}
 use Rattle.wac_wit_validation.proofs.validator.Validator.is_use.Goals as goal
 
 pub returns-in-Some-clause-marks : goal.returns-in-Some-clause-marks

@@ -4,8 +4,8 @@ use Rattle.wac_wit_scopes.specs.WitSources.{ScopeSyntax, WitSources}
 use Rattle.wac_wit_validation.specs.WorldChecking.{IsIndexedScope, LeadsToExtern}
 use Rattle.wac_wit_validation.specs.declared.externs.LedExtern.{LedExtern}
 use Rattle.wac_wit_validation.specs.declared.marks.ExternMark.TheVariants.{Found}
-use Rattle.wac_wit_validation.proofs.NameFacts.{some_told}
-use Rattle.wac_wit_validation.specs.Placed.{placed_identifier}
+use Rattle.wac_wit_validation_types.proofs.NameFacts.{some_told}
+use Rattle.wac_wit_validation_types.specs.Placed.{placed_identifier}
 use Rattle.wac_wit_validation.proofs.WorldFacts.{no_truth, one_use, same_name, some_there}
 use Rattle.wac_wit_validation.proofs.validator.Validator.is_used_there.Goals as goal
 

@@ -5,7 +5,7 @@ use Rattle.std.specs.Prelude.{string_bytes}
 use Rattle.wac_component.specs.Collection.{WorldContent}
 use Rattle.wac_component.specs.Content.{world_content}
 use Rattle.wac_component.specs.Id.{Id}
-use Rattle.wac_wit_validation.specs.Placed.{PlacedWorld}
+use Rattle.wac_wit_validation_types.specs.Placed.{PlacedWorld}
 use Rattle.wac_wit_validation.specs.Validated.{IsWorldOf}
 use Rattle.wac_wit_scopes.specs.WitSources.{interface_identifier}
 use Rattle.wac_wit_validation.proofs.WorldFacts.{IsWorldAt-one, world_called}

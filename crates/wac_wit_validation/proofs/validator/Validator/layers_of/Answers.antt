@@ -1,5 +1,5 @@
 use Rattle.std.proofs.Common.{◌∙◌, List, [], ◌∷◌, ◌++◌, ap, subst, sym}
-use Rattle.wac_wit_validation.specs.declared.layers.Layer.{Layer}
+use Rattle.wac_wit_validation_names.specs.declared.layers.Layer.{Layer}
 use Rattle.wac_wit_validation.proofs.LayerFacts.{AreLayersOf-all, LayersBelow, LayersBelow-more, LayersBelow-own}
 use Rattle.wac_wit_validation.proofs.validator.Validator.layers_of.Goals as goal
 

@@ -1,7 +1,7 @@
 use Rattle.std.proofs.Common.{◌∙◌, sym, ap, subst}
 use Rattle.std.proofs.lemmas.Option.{same_Some}
 use Rattle.wac_wit_scopes.specs.Scopes.{scope_syntax}
-use Rattle.wac_wit_validation.specs.Placed.{HasWorld, LeadsToWorld, PlacedWorld}
+use Rattle.wac_wit_validation_types.specs.Placed.{HasWorld, LeadsToWorld, PlacedWorld}
 use Rattle.wac_wit_scopes.specs.WitSources.{PathLeadsTo, ScopeSyntax, ident_text}
 use Rattle.wac_wit_validation.specs.WorldChecking.{IsWorldAt}
 use Rattle.wac_wit_scopes.proofs.PathFacts.{read_from}

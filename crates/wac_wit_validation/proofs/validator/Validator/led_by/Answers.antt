@@ -3,10 +3,10 @@ use Rattle.std.proofs.lemmas.Option.{same_Some}
 use Rattle.wac_model.specs.Text.{Text}
 use Rattle.wac_component.specs.Content.{named}
 use Rattle.wac_wit_scopes.specs.Scopes.{scope_syntax}
-use Rattle.wac_wit_validation.specs.Placed.{PlacedInterface}
+use Rattle.wac_wit_validation_types.specs.Placed.{PlacedInterface}
 use Rattle.wac_wit_scopes.specs.WitSources.{PathLeadsTo, ScopeSyntax, ident_text, interface_identifier, package_id}
 use Rattle.wac_wit_validation.specs.WorldChecking.{IsFoundAs}
-use Rattle.wac_wit_validation.proofs.NameFacts.{named_at}
+use Rattle.wac_wit_validation_types.proofs.NameFacts.{named_at}
 use Rattle.wac_wit_scopes.proofs.PathFacts.{read_from}
 use Rattle.wac_wit_validation.proofs.WorldFacts.{entry_is, has_found, scope_of}
 use Rattle.wac_wit_validation.proofs.validator.Validator.led_by.Goals as goal

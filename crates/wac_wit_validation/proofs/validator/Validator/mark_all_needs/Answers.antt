@@ -1,7 +1,7 @@
 use Rattle.std.proofs.Common.{◌≡◌, ◌∙◌, sym, ap, subst, Contains, List}
 use Rattle.wac_wit_syntax.specs.declared.tree.WorldItem.{WorldItem}
 use Rattle.wac_wit_syntax.specs.declared.tree.WorldDecl.{WorldDecl}
-use Rattle.wac_wit_validation.proofs.MarkFacts.{among_at}
+use Rattle.wac_wit_validation_types.proofs.MarkFacts.{among_at}
 use Rattle.wac_wit_validation.proofs.WorldFacts.{IfOk-map}
 use Rattle.wac_wit_validation.proofs.validator.Validator.mark_all_needs.Goals as goal
 

@@ -1,6 +1,6 @@
 use Rattle.wac_component.specs.declared.worlds.ExternKind.TheVariants.{Export, Import}
 use Rattle.wac_wit_scopes.specs.WitSources.{WitSources}
-use Rattle.wac_wit_validation.specs.Placed.{PlacedWorld}
+use Rattle.wac_wit_validation_types.specs.Placed.{PlacedWorld}
 use Rattle.wac_wit_validation.specs.WorldChecking.{AreInterfacesThere, IsTextAt, KeepsExterns, text_content}
 use Rattle.wac_wit_validation.proofs.validator.Validator.mark_all_needs.Given as goal
 

@@ -1,6 +1,6 @@
 use Rattle.std.proofs.Common.{refl, subst}
 use Rattle.wac_component.specs.Content.{world_content}
-use Rattle.wac_wit_validation.specs.Placed.{PlacedWorld}
+use Rattle.wac_wit_validation_types.specs.Placed.{PlacedWorld}
 use Rattle.wac_wit_validation.specs.WorldChecking.{HasInterfaces}
 use Rattle.wac_wit_validation.proofs.WorldFacts.{scope_of}
 use Rattle.wac_wit_validation.proofs.validator.Validator.mark_include.Goals as goal

@@ -3,7 +3,7 @@ use Rattle.wac_wit_syntax.specs.declared.tree.WorldItem.{WorldItem}
 use Rattle.wac_component.specs.Content.{world_content}
 use Rattle.wac_wit_syntax.specs.declared.tree.WorldItem.TheVariants as of_world
 use Rattle.wac_wit_validation.specs.WorldChecking.{HasInterfacesOf}
-use Rattle.wac_wit_validation.proofs.MarkFacts.{AllBelow-contains, AllBelow-more, AllBelow-none, among_at}
+use Rattle.wac_wit_validation_types.proofs.MarkFacts.{AllBelow-contains, AllBelow-more, AllBelow-none, among_at}
 use Rattle.wac_wit_validation.proofs.validator.Validator.mark_included.Goals as goal
 
 pub loop-item-init : goal.loop-item-init

@@ -1,8 +1,8 @@
 use Rattle.std.proofs.Common.{◌≡◌}
 use Rattle.wac_component.specs.Content.{world_content}
-use Rattle.wac_wit_validation.specs.Placed.{PlacedWorld}
+use Rattle.wac_wit_validation_types.specs.Placed.{PlacedWorld}
 use Rattle.wac_wit_syntax.specs.declared.tree.WorldItem.{WorldItem}
-use Rattle.wac_wit_validation.proofs.MarkFacts.{AllBelow}
+use Rattle.wac_wit_validation_types.proofs.MarkFacts.{AllBelow}
 use Rattle.wac_wit_scopes.specs.WitSources.{ScopeSyntax, WitSources}
 use Rattle.wac_wit_validation.specs.WorldChecking.{HasInterfacesOf, IsIndexedScope, KeepsBoth}
 use Rattle.wac_wit_validation.proofs.validator.Validator.mark_included.Given as goal

@@ -2,13 +2,13 @@ use Rattle.wac_component.specs.Content.{interface_content}
 use Rattle.wac_component.specs.Tree.{item_tree}
 use Rattle.wac_component.specs.declared.items.ItemKind.TheVariants.{Instance}
 use Rattle.wac_wit_scopes.specs.Scopes.{scope_syntax}
-use Rattle.wac_wit_validation.specs.Denoted.{renamed_by}
+use Rattle.wac_wit_validation_types.specs.Denoted.{renamed_by}
 use Rattle.wac_wit_scopes.specs.WitSources.{ident_text}
 use Rattle.wac_wit_validation.specs.WorldChecking.{side_items}
-use Rattle.wac_wit_validation.specs.Worlds.{extern_inline}
+use Rattle.wac_wit_validation_types.specs.Worlds.{extern_inline}
 use Rattle.wac_wit_validation.specs.declared.marks.ExternMark.TheVariants.{Written}
 use Rattle.wac_wit_validation.proofs.FoundFacts.{tree_of_exports}
-use Rattle.wac_wit_validation.proofs.MarkFacts.{has_item_at}
+use Rattle.wac_wit_validation_types.proofs.MarkFacts.{has_item_at}
 use Rattle.wac_wit_validation.proofs.WorldFacts.{AreMarksOf-marked, IfOk-map, IsMarkOf-written}
 use Rattle.wac_wit_validation.proofs.validator.Validator.mark_inline.Goals as goal
 

@@ -1,11 +1,11 @@
 use Rattle.std.proofs.Common.{refl, sym, subst}
 use Rattle.std.specs.Prelude.{slice_get, Some, ◌≡◌}
 use Rattle.wac_component.specs.Content.{named}
-use Rattle.wac_wit_validation.specs.Placed.{placed_identifier}
+use Rattle.wac_wit_validation_types.specs.Placed.{placed_identifier}
 use Rattle.wac_wit_validation.specs.WorldChecking.{IsInterfaceAt, IsPlacedAt}
 use Rattle.wac_wit_validation.specs.declared.marks.ExternMark.TheVariants.{Found}
-use Rattle.wac_wit_validation.specs.declared.validator.ItemPlace.{ItemPlace}
-use Rattle.wac_wit_validation.proofs.MarkFacts.{has_item_at}
+use Rattle.wac_wit_validation_names.specs.declared.places.ItemPlace.{ItemPlace}
+use Rattle.wac_wit_validation_types.proofs.MarkFacts.{has_item_at}
 use Rattle.wac_wit_validation.proofs.WorldFacts.{AreMarksOf-marked, IsMarkOf-found, entry_named, full_named}
 use Rattle.wac_wit_validation.proofs.validator.Validator.mark_interface_of.Goals as goal
 

@@ -1,13 +1,12 @@
 use Rattle.std.proofs.Common.{◌≡◌, ◌∙◌, IsTrue, arith, sym, subst}
 use Rattle.std.specs.Prelude.{string_bytes}
-use Rattle.wac_wit_validation.specs.Checking.{HasItem}
-use Rattle.wac_wit_validation.specs.Placed.{placed_identifier}
+use Rattle.wac_wit_validation_types.specs.Exports.{HasItem}
+use Rattle.wac_wit_validation_types.specs.Placed.{placed_identifier}
 use Rattle.wac_wit_validation.specs.declared.marks.ExternMark.TheVariants.{Found}
-use Rattle.wac_wit_validation.proofs.NameFacts.{named_at}
-use Rattle.wac_wit_validation.proofs.WorldFacts.{FoundItemsBelow-more, included_interface, same_name}
+use Rattle.wac_wit_validation_types.proofs.NameFacts.{named_at}
+use Rattle.wac_wit_validation.proofs.WorldFacts.{FoundItemsBelow-more, FoundItemsBelow-there, included_interface, named_past, same_name}
 use Rattle.wac_wit_validation.proofs.validator.Validator.mark_interfaces_of.Goals.{in-Some-found_at, in-None}
 use Rattle.wac_component.specs.Content.{named}
-use Rattle.wac_wit_validation.proofs.WorldFacts.{FoundItemsBelow-there, named_past}
 use Rattle.wac_wit_validation.proofs.validator.Validator.mark_interfaces_of.Goals as goal
 
 pub loop-index-preserved : goal.loop-index-preserved

@@ -1,7 +1,7 @@
 use Rattle.std.specs.Borrow.{Bor}
 use Rattle.std.specs.Prelude.{Contains}
 use Rattle.wac_wit_syntax.specs.declared.tree.WorldItem.{WorldItem}
-use Rattle.wac_wit_validation.proofs.MarkFacts.{AllBelow}
+use Rattle.wac_wit_validation_types.proofs.MarkFacts.{AllBelow}
 use Rattle.wac_wit_validation.specs.WorldChecking.{KeepsSide}
 use Rattle.wac_wit_validation.specs.WorldClauses.{CoversItem}
 use Rattle.wac_wit_validation.proofs.validator.Validator.mark_named.Given as goal

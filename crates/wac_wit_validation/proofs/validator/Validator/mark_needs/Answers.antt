@@ -1,7 +1,7 @@
 use Rattle.wac_component.specs.declared.worlds.ExternKind.TheVariants.{Import}
 use Rattle.std.proofs.Common.{subst, Contains}
 use Rattle.wac_wit_syntax.specs.declared.tree.WorldItem.{WorldItem}
-use Rattle.wac_wit_validation.specs.Worlds.{used_by_world, world_uses}
+use Rattle.wac_wit_validation_types.specs.Worlds.{used_by_world, world_uses}
 use Rattle.wac_wit_validation.proofs.WorldFacts.{IfOk-map, own_interface, uses_among}
 use Rattle.wac_wit_validation.proofs.WorldWhole.{use_in_world}
 use Rattle.wac_wit_validation.proofs.validator.Validator.mark_needs.Goals as goal

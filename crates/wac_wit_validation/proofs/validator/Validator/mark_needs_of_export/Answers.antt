@@ -1,7 +1,7 @@
 use Rattle.std.proofs.Common.{refl, subst, List}
 use Rattle.wac_wit_syntax.specs.declared.tree.InterfaceItem.{InterfaceItem}
-use Rattle.wac_wit_validation.specs.Denoted.{uses_in}
-use Rattle.wac_wit_validation.specs.Worlds.{UsesInterface, used_by_inline}
+use Rattle.wac_wit_validation_types.specs.Denoted.{uses_in}
+use Rattle.wac_wit_validation_types.specs.Worlds.{UsesInterface, used_by_inline}
 use Rattle.wac_wit_validation.proofs.WorldFacts.{IfOk-map}
 use Rattle.wac_wit_validation.proofs.validator.Validator.mark_needs_of_export.Goals as goal
 

@@ -1,8 +1,8 @@
 use Rattle.wac_component.specs.declared.worlds.ExternKind.TheVariants.{Import}
 use Rattle.std.proofs.Common.{refl, subst, List}
 use Rattle.wac_wit_syntax.specs.declared.tree.InterfaceItem.{InterfaceItem}
-use Rattle.wac_wit_validation.specs.Denoted.{uses_in}
-use Rattle.wac_wit_validation.specs.Worlds.{UsesInterface, used_inside}
+use Rattle.wac_wit_validation_types.specs.Denoted.{uses_in}
+use Rattle.wac_wit_validation_types.specs.Worlds.{UsesInterface, used_inside}
 use Rattle.wac_wit_validation.proofs.WorldFacts.{IfOk-map, own_interface}
 use Rattle.wac_wit_validation.proofs.validator.Validator.mark_needs_of_import.Goals as goal
 

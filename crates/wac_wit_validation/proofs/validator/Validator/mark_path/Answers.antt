@@ -1,13 +1,13 @@
 use Rattle.std.proofs.Common.{subst}
 use Rattle.wac_component.specs.Content.{named}
-use Rattle.wac_wit_validation.specs.Checking.{HasItem}
-use Rattle.wac_wit_validation.specs.Placed.{PlacedInterface, placed_identifier}
+use Rattle.wac_wit_validation_types.specs.Exports.{HasItem}
+use Rattle.wac_wit_validation_types.specs.Placed.{PlacedInterface, placed_identifier}
 use Rattle.wac_wit_scopes.specs.WitSources.{ScopeSyntax, WitSources}
 use Rattle.wac_wit_validation.specs.WorldChecking.{IsIndexedScope, LeadsToExtern}
 use Rattle.wac_wit_validation.specs.declared.externs.LedExtern.{LedExtern}
 use Rattle.wac_wit_validation.specs.declared.marks.ExternMark.TheVariants.{Found}
-use Rattle.wac_wit_validation.proofs.MarkFacts.{has_item_at}
-use Rattle.wac_wit_validation.proofs.NameFacts.{some_told}
+use Rattle.wac_wit_validation_types.proofs.MarkFacts.{has_item_at}
+use Rattle.wac_wit_validation_types.proofs.NameFacts.{some_told}
 use Rattle.wac_wit_validation.proofs.WorldFacts.{AreMarksOf-marked, IsMarkOf-found, said_interface}
 use Rattle.wac_wit_validation.proofs.validator.Validator.mark_path.Goals as goal
 

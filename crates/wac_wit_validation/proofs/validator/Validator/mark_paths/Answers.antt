@@ -2,8 +2,8 @@ use Rattle.std.proofs.Common.{refl, sym, subst, Contains, List}
 use Rattle.wac_component.specs.Content.{named}
 use Rattle.wac_wit_syntax.specs.declared.tree.WorldItem.{WorldItem}
 use Rattle.wac_wit_validation.specs.WorldClauses.{CoversPathItem}
-use Rattle.wac_wit_validation.specs.Worlds.{extern_item}
-use Rattle.wac_wit_validation.proofs.MarkFacts.{AllBelow-contains, AllBelow-more, AllBelow-none, among_at}
+use Rattle.wac_wit_validation_types.specs.Worlds.{extern_item}
+use Rattle.wac_wit_validation_types.proofs.MarkFacts.{AllBelow-contains, AllBelow-more, AllBelow-none, among_at}
 use Rattle.wac_wit_validation.proofs.validator.Validator.mark_paths.Goals as goal
 
 pub loop-item-init : goal.loop-item-init

@@ -1,7 +1,7 @@
 use Rattle.std.proofs.Common.{◌≡◌}
 use Rattle.wac_component.specs.Content.{named}
 use Rattle.wac_wit_syntax.specs.declared.tree.WorldItem.{WorldItem}
-use Rattle.wac_wit_validation.proofs.MarkFacts.{AllBelow}
+use Rattle.wac_wit_validation_types.proofs.MarkFacts.{AllBelow}
 use Rattle.wac_wit_validation.specs.WorldChecking.{KeepsPaths}
 use Rattle.wac_wit_validation.specs.WorldClauses.{CoversPathItem}
 use Rattle.wac_wit_validation.proofs.validator.Validator.mark_paths.Given as goal

@@ -1,10 +1,10 @@
 use Rattle.std.proofs.Common.{subst, Contains, [], ◌∷◌}
 use Rattle.wac_wit_syntax.specs.declared.tree.InterfaceItem.{InterfaceItem}
-use Rattle.wac_wit_validation.specs.Denoted.{uses_in}
-use Rattle.wac_wit_validation.specs.Placed.{PlacedInterface}
-use Rattle.wac_wit_validation.specs.Worlds.{UsesInterface}
-use Rattle.wac_wit_validation.proofs.ItemFacts.{use_kept}
-use Rattle.wac_wit_validation.proofs.MarkFacts.{among_at}
+use Rattle.wac_wit_validation_types.specs.Denoted.{uses_in}
+use Rattle.wac_wit_validation_types.specs.Placed.{PlacedInterface}
+use Rattle.wac_wit_validation_types.specs.Worlds.{UsesInterface}
+use Rattle.wac_wit_validation_types.proofs.ItemFacts.{use_kept}
+use Rattle.wac_wit_validation_types.proofs.MarkFacts.{among_at}
 use Rattle.wac_wit_validation.proofs.WorldFacts.{uses_among}
 use Rattle.wac_wit_validation.proofs.validator.Validator.mark_unexported.Goals.{in_default-via-in-Type-1, in_default-via-in-Use+in_ok-mark_unexported_use+else-not-branch}
 use Rattle.wac_wit_validation.proofs.validator.Validator.mark_unexported.Goals as goal

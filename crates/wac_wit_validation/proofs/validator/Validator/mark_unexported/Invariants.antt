@@ -1,5 +1,5 @@
 use Rattle.wac_component.specs.Content.{world_content}
-use Rattle.wac_wit_validation.specs.Denoted.{uses_in}
+use Rattle.wac_wit_validation_types.specs.Denoted.{uses_in}
 use Rattle.wac_wit_validation.specs.WorldChecking.{KeepsUnexported}
 use Rattle.wac_wit_validation.proofs.validator.Validator.mark_unexported.Given as goal
 

@@ -5,11 +5,11 @@ use Rattle.wac_wit_scopes.specs.WitSources.{ScopeSyntax, WitSources}
 use Rattle.wac_wit_validation.specs.WorldChecking.{IsIndexedScope, LeadsToExtern}
 use Rattle.wac_wit_validation.specs.declared.externs.LedExtern.{LedExtern}
 use Rattle.wac_wit_validation.specs.declared.marks.ExternMark.TheVariants.{Found}
-use Rattle.wac_wit_validation.proofs.NameFacts.{some_told, named_at}
-use Rattle.wac_wit_validation.specs.Placed.{placed_identifier}
-use Rattle.wac_wit_validation.specs.Worlds.{used_by_export}
+use Rattle.wac_wit_validation_types.proofs.NameFacts.{named_at, some_told}
+use Rattle.wac_wit_validation_types.specs.Placed.{placed_identifier}
+use Rattle.wac_wit_validation_types.specs.Worlds.{used_by_export}
 use Rattle.wac_wit_validation.proofs.WorldFacts.{AreMarksOf-marked, IsMarkOf-found, not_looked_up, own_interface, same_name, use_of}
-use Rattle.wac_wit_validation.specs.Checking.{HasItem}
+use Rattle.wac_wit_validation_types.specs.Exports.{HasItem}
 use Rattle.wac_wit_validation.proofs.validator.Validator.mark_unexported_use.Goals as goal
 
 pub returns-then-is_none : goal.returns-then-is_none

@@ -5,7 +5,7 @@ use Rattle.wac_wit_scopes.specs.WitSources.{ScopeSyntax, WitSources}
 use Rattle.wac_wit_validation.specs.WorldChecking.{IsIndexedScope, LeadsToExtern}
 use Rattle.wac_wit_validation.specs.declared.externs.LedExtern.{LedExtern}
 use Rattle.wac_wit_validation.specs.declared.marks.ExternMark.TheVariants.{Found}
-use Rattle.wac_wit_validation.proofs.NameFacts.{some_told}
+use Rattle.wac_wit_validation_types.proofs.NameFacts.{some_told}
 use Rattle.wac_wit_validation.proofs.WorldFacts.{AreMarksOf-marked, IsMarkOf-found, use_of}
 use Rattle.wac_wit_validation.proofs.validator.Validator.mark_use.Goals as goal
 

@@ -1,5 +1,5 @@
 use Rattle.wac_component.specs.Content.{named}
-use Rattle.wac_wit_validation.specs.Denoted.{uses_in}
+use Rattle.wac_wit_validation_types.specs.Denoted.{uses_in}
 use Rattle.wac_wit_validation.specs.WorldChecking.{KeepsUses}
 use Rattle.wac_wit_validation.proofs.validator.Validator.mark_uses.Given as goal
 

@@ -1,5 +1,5 @@
 use Rattle.wac_wit_validation.specs.WorldClauses.{HasExportMarks}
-use Rattle.wac_wit_validation.proofs.NameFacts.{some_told}
+use Rattle.wac_wit_validation_types.proofs.NameFacts.{some_told}
 use Rattle.wac_wit_validation.proofs.WorldFacts.{then_some_told}
 use Rattle.wac_wit_validation.proofs.validator.Validator.marks_of.Goals as goal
 

@@ -1,7 +1,7 @@
 use Rattle.wac_wit_validation.specs.Checking.{IsSettingAt, LeadsToFound}
-use Rattle.wac_wit_validation.specs.Denoted.{Setting}
-use Rattle.wac_wit_validation.specs.declared.validator.FoundInterface.{FoundInterface}
-use Rattle.wac_wit_validation.proofs.NameFacts.{some_told}
+use Rattle.wac_wit_validation_types.specs.Denoted.{Setting}
+use Rattle.wac_wit_validation_names.specs.declared.places.FoundInterface.{FoundInterface}
+use Rattle.wac_wit_validation_types.proofs.NameFacts.{some_told}
 use Rattle.wac_wit_validation.proofs.LedNames.{AreNamesAt-found}
 use Rattle.wac_wit_scopes.proofs.PathFacts.{if_all}
 use Rattle.wac_wit_validation.proofs.validator.Validator.names_at.Goals as goal

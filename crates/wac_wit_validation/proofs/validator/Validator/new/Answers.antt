@@ -1,20 +1,20 @@
 use Rattle.wac_wit_validation.specs.declared.validator.FoundWorld.{FoundWorld}
 use Rattle.std.proofs.Common.{◌≡◌, Contains, List, refl, subst}
-use Rattle.wac_wit_validation.specs.Ambiguity.{GiveNamesOnce}
+use Rattle.wac_wit_validation_names.specs.Ambiguity.{GiveNamesOnce}
 use Rattle.wac_wit_scopes.specs.Scopes.{HasScope, IsKnownScope}
-use Rattle.wac_wit_validation.specs.Once.{ItemsGiveOnce}
+use Rattle.wac_wit_validation_names.specs.Once.{ItemsGiveOnce}
 use Rattle.wac_wit_scopes.specs.declared.scopes.ScopeItems.{ScopeItems}
-use Rattle.wac_wit_validation.specs.declared.validator.FoundInterface.{FoundInterface}
+use Rattle.wac_wit_validation_names.specs.declared.places.FoundInterface.{FoundInterface}
 use Rattle.std.specs.Prelude.{slice_get, Some, ℕ, Vec}
 use Rattle.std.specs.declared.alloc.Global.{Global}
 use Rattle.wac_wit_names.specs.declared.features.Features.{Features}
 use Rattle.wac_wit_scopes.specs.WitSources.{IsScopeOf, ScopeSyntax, sources_of}
-use Rattle.wac_wit_validation.proofs.AmbiguityFacts.{own_identifiers, unambiguous}
+use Rattle.wac_wit_validation_names.proofs.AmbiguityFacts.{own_identifiers, unambiguous}
 use Rattle.wac_wit_validation.proofs.FoundFacts.{Contains-nothing}
-use Rattle.wac_wit_validation.proofs.NameFacts.{some_told}
-use Rattle.wac_wit_validation.proofs.OnceFacts.{all_inside, all_once}
-use Rattle.wac_wit_validation.proofs.OneExport.{exports_stand_for_one}
-use Rattle.wac_wit_validation.proofs.OneMeaning.{one_meaning}
+use Rattle.wac_wit_validation_types.proofs.NameFacts.{some_told}
+use Rattle.wac_wit_validation_names.proofs.OnceFacts.{all_inside, all_once}
+use Rattle.wac_wit_validation_names.proofs.OneExport.{exports_stand_for_one}
+use Rattle.wac_wit_validation_types.proofs.OneMeaning.{one_meaning}
 use Rattle.wac_wit_validation.proofs.validator.Validator.new.Goals as goal
 
 pub returns-clause-unambiguous : goal.returns-clause-unambiguous

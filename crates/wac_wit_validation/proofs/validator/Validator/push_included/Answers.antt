@@ -1,10 +1,11 @@
 use Rattle.std.proofs.Common.{◌≡◌, List, refl, subst}
 use Rattle.wac_model.specs.Text.{Text}
 use Rattle.wac_wit_syntax.specs.declared.tree.Rename.{Rename}
-use Rattle.wac_wit_validation.specs.Denoted.{renamed}
-use Rattle.wac_wit_validation.specs.Reading.{new_name_or}
-use Rattle.wac_wit_validation.specs.declared.layers.Layer.{Layer}
-use Rattle.wac_wit_validation.proofs.LayerFacts.{AddsLayersIn-renamed, AreRenamedLayers, CoversInside-renamed, HasRenamedLayers}
+use Rattle.wac_wit_validation_types.specs.Denoted.{renamed}
+use Rattle.wac_wit_validation_types.specs.Reading.{new_name_or}
+use Rattle.wac_wit_validation_names.specs.declared.layers.Layer.{Layer}
+use Rattle.wac_wit_validation.proofs.LayerFacts.{AddsLayersIn-renamed, CoversInside-renamed}
+use Rattle.wac_wit_validation_names.proofs.RenamedLayers.{AreRenamedLayers, HasRenamedLayers}
 use Rattle.wac_wit_validation.proofs.validator.Validator.push_included.Goals as goal
 
 pub returns-clause-each : goal.returns-clause-each

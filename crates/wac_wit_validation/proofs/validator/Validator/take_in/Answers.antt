@@ -1,7 +1,7 @@
 use Rattle.std.proofs.Common.{inl, inr, refl, sym, subst, Contains, List}
 use Rattle.std.proofs.lemmas.List.Elements.{Contains-append_left, Contains-push}
 use Rattle.wac_wit_validation.specs.Checking.{IsValidated}
-use Rattle.wac_wit_validation.specs.declared.validator.FoundInterface.{FoundInterface}
+use Rattle.wac_wit_validation_names.specs.declared.places.FoundInterface.{FoundInterface}
 use Rattle.wac_wit_validation.proofs.FoundFacts.{Contains-last}
 use Rattle.wac_wit_validation.proofs.WorldFacts.{StaysAs-kept}
 use Rattle.wac_wit_validation.proofs.validator.Validator.take_in.Goals as goal

@@ -1,5 +1,5 @@
 use Rattle.wac_wit_validation.specs.OriginClauses.{TellsItemAt}
-use Rattle.wac_wit_validation.proofs.MarkFacts.{AllBelow-contains, AllBelow-more, AllBelow-none}
+use Rattle.wac_wit_validation_types.proofs.MarkFacts.{AllBelow-contains, AllBelow-more, AllBelow-none}
 use Rattle.wac_wit_validation.proofs.validator.Validator.tells_items.Goals as goal
 
 pub loop-item-init : goal.loop-item-init

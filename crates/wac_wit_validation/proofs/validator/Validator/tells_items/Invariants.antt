@@ -1,5 +1,5 @@
 use Rattle.wac_wit_validation.specs.OriginClauses.{TellsItemAt}
-use Rattle.wac_wit_validation.proofs.MarkFacts.{AllBelow}
+use Rattle.wac_wit_validation_types.proofs.MarkFacts.{AllBelow}
 use Rattle.wac_wit_validation.proofs.validator.Validator.tells_items.Given as goal
 
 abbrev pub invariant-loop-item : goal.invariant-loop-item

@@ -1,7 +1,7 @@
 use Rattle.std.proofs.Common.{List, Contains, sym, subst}
 use Rattle.std.specs.Borrow.{Bor}
 use Rattle.wac_wit_syntax.specs.declared.tree.WorldItem.{WorldItem}
-use Rattle.wac_wit_validation.specs.Worlds.{world_setting}
+use Rattle.wac_wit_validation_types.specs.Worlds.{world_setting}
 use Rattle.wac_wit_validation.proofs.WorldFacts.{IfOk-map, scope_of_world, setting_at}
 use Rattle.wac_wit_validation.proofs.validator.Validator.tells_layer.Goals as goal
 

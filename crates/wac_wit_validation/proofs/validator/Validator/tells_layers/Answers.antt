@@ -1,6 +1,6 @@
 use Rattle.wac_component.specs.Content.{named, use_content}
 use Rattle.wac_wit_validation.specs.OriginClauses.{TellsLayer}
-use Rattle.wac_wit_validation.proofs.MarkFacts.{AllBelow-contains, AllBelow-more, AllBelow-none}
+use Rattle.wac_wit_validation_types.proofs.MarkFacts.{AllBelow-contains, AllBelow-more, AllBelow-none}
 use Rattle.wac_wit_validation.proofs.validator.Validator.tells_layers.Goals as goal
 
 pub loop-layer-init : goal.loop-layer-init

@@ -2,8 +2,8 @@ use Rattle.std.proofs.Common.{ap, refl, sym, ◌∙◌}
 use Rattle.std.proofs.lemmas.Option.{same_Some}
 use Rattle.wac_wit_validation.specs.Checking.{IsSettingAt}
 use Rattle.wac_wit_scopes.specs.Scopes.{scope_syntax}
-use Rattle.wac_wit_validation.specs.Denoted.{Setting, interface_setting}
-use Rattle.wac_wit_validation.proofs.ItemFacts.{offered_items}
+use Rattle.wac_wit_validation_types.specs.Denoted.{Setting, interface_setting}
+use Rattle.wac_wit_validation_types.proofs.ItemFacts.{offered_items}
 use Rattle.wac_wit_validation.proofs.validator.Validator.tells_origins.Goals as goal
 
 pub returns : goal.returns

@@ -1,9 +1,9 @@
 use Rattle.std.proofs.Common.{Contains, List, subst, sym}
 use Rattle.wac_wit_syntax.specs.declared.tree.Rename.{Rename}
 use Rattle.wac_wit_validation.specs.Checking.{IsSettingAt, LeadsToFound}
-use Rattle.wac_wit_validation.specs.Denoted.{Setting}
-use Rattle.wac_wit_validation.specs.declared.validator.FoundInterface.{FoundInterface}
-use Rattle.wac_wit_validation.proofs.NameFacts.{some_told}
+use Rattle.wac_wit_validation_types.specs.Denoted.{Setting}
+use Rattle.wac_wit_validation_names.specs.declared.places.FoundInterface.{FoundInterface}
+use Rattle.wac_wit_validation_types.proofs.NameFacts.{some_told}
 use Rattle.wac_wit_validation.proofs.validator.Validator.tells_use.Goals as goal
 
 pub returns-in-Some : goal.returns-in-Some

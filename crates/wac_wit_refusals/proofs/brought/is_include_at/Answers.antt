@@ -1,4 +1,0 @@
-use Rattle.wac_wit_refusals.proofs.brought.is_include_at.Goals as goal
-
-pub returns-in-Include : goal.returns-in-Include
-returns-in-Include c is = record { item = c.in-Include.it; is = c.in-Include.is; place = c.is_at.ensures is }

@@ -1,5 +1,0 @@
-use Rattle.std.proofs.Common.{sym}
-use Rattle.wac_wit_refusals.proofs.carried.content_of.Goals as goal
-
-pub returns-in-Some : goal.returns-in-Some
-returns-in-Some c = (c.in-Some.ty, c.in-Some.is, sym c.deref.ensures)

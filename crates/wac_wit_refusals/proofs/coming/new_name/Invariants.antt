@@ -1,5 +1,0 @@
-use Rattle.wac_wit_refusals.proofs.ComingFacts.{NoneRenamedBelow}
-use Rattle.wac_wit_refusals.proofs.coming.new_name.Given as goal
-
-abbrev pub invariant-loop-rename : goal.invariant-loop-rename
-invariant-loop-rename l = NoneRenamedBelow l.renames l.rename-index l.name

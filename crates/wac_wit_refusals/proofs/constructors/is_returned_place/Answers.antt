@@ -1,4 +1,0 @@
-use Rattle.wac_wit_refusals.proofs.constructors.is_returned_place.Goals as goal
-
-pub returns-else-stands_there : goal.returns-else-stands_there
-returns-else-stands_there c = c.has_ok_there.ensures c.args.method.now

@@ -1,7 +1,0 @@
-use Rattle.std.proofs.lemmas.Option.{MatchOption-at_some}
-use Rattle.wac_wit_refusals.proofs.judge.Judge.defined_name.Goals as goal
-
-pub returns-in-Some : goal.returns-in-Some
-returns-in-Some c of knows known =
-    let is = MatchOption-at_some _ _ c.in-Some.ty c.in-Some.is c.in_ok-ty.ensures of knows in
-    c.step_of.ensures of known is.has is.named

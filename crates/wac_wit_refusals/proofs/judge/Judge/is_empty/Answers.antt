@@ -1,5 +1,0 @@
-use Rattle.wac_wit_refusals.proofs.TypeFacts.{some_fact}
-use Rattle.wac_wit_refusals.proofs.judge.Judge.is_empty.Goals as goal
-
-pub returns-in-Some : goal.returns-in-Some
-returns-in-Some c is of knows = record { type_item = c.in-Some.ty.now; at = some_fact _ _ _ c.in-Some.is c.in_ok-ty.ensures of knows; nothing = c.has_nothing.ensures is }

@@ -1,7 +1,0 @@
-use Rattle.wac_wit_refusals.proofs.TypeFacts.{among_from}
-use Rattle.wac_wit_refusals.proofs.judge.Judge.is_needed_twice.Goals as goal
-
-pub returns-then-branch : goal.returns-then-branch
-returns-then-branch c is of knows =
-    let among = among_from c.in_ok-bodies_in.field-0.items c.deref-placed-items.result.now c.loop-placed.placed-index c.placed-item.result c.deref-placed-items.ensures.value c.loop-placed-test.true c.placed-item.is in
-    c.in_ok-has_needed_twice.ensures c.if-branch.true of knows c.args.file (c.in_ok-bodies_in.ensures of knows c.placed-item.result among)

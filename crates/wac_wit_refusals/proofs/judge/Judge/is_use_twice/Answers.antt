@@ -1,9 +1,0 @@
-use Rattle.wac_wit_refusals.proofs.JudgeFacts.{scope_at}
-use Rattle.wac_wit_scopes.specs.Scopes.{scope_syntax}
-use Rattle.wac_wit_refusals.proofs.judge.Judge.is_use_twice.Goals as goal
-
-pub returns-then-is_given_twice : goal.returns-then-is_given_twice
-returns-then-is_given_twice c is of knows =
-    let scope = c.scope-item.result in
-    let at = scope_at of c.args.self.now c.deref-scope-items.result.now c.loop-scope.scope-index scope c.args.file knows c.deref-scope-items.ensures.value c.loop-scope-test.true c.scope-item.is c.if-scope-file.true in
-    record { scope = scope_syntax scope; at = at; twice = c.if-is_given_twice.ensures is }

@@ -1,9 +1,0 @@
-use Rattle.wac_wit_refusals.proofs.Walks.{among_at}
-use Rattle.wac_wit_refusals.proofs.judge.Judge.lacks_some.Goals as goal
-
-pub returns-then-branch : goal.returns-then-branch
-returns-then-branch c is of knows = record {
-  renamed = c.rename-item.result;
-  among = among_at c.args.renames.now c.loop-rename.rename-index c.rename-item.result c.loop-rename-test.true c.rename-item.is;
-  lacks = c.in_ok-lacks_name.ensures c.if-branch.true of knows;
-}

@@ -1,8 +1,0 @@
-use Rattle.wac_wit_refusals.specs.Judging.{Judges}
-use Rattle.wac_wit_refusals.specs.Sites.{world_items}
-use Rattle.wac_wit_refusals.specs.TypeLists.{AreSignaturesOf}
-use Rattle.wac_wit_scopes.specs.WitSources.{WitSources}
-use Rattle.wac_wit_refusals.proofs.judge.Judge.push_extern_signatures.Given as goal
-
-abbrev pub invariant-loop-item : goal.invariant-loop-item
-invariant-loop-item l = (of : WitSources) → Judges of l.self → AreSignaturesOf of (world_items l.items) l.initial.all.items → AreSignaturesOf of (world_items l.items) l.all.items

@@ -1,7 +1,0 @@
-use Rattle.wac_wit_refusals.specs.Judging.{Judges, body_syntax}
-use Rattle.wac_wit_refusals.specs.TypeLists.{AreSignaturesOf}
-use Rattle.wac_wit_scopes.specs.WitSources.{WitSources}
-use Rattle.wac_wit_refusals.proofs.judge.Judge.push_resource_signatures.Given as goal
-
-abbrev pub invariant-loop-placed : goal.invariant-loop-placed
-invariant-loop-placed l = (of : WitSources) → Judges of l.self → AreSignaturesOf of (body_syntax l.body) l.initial.all.items → AreSignaturesOf of (body_syntax l.body) l.all.items

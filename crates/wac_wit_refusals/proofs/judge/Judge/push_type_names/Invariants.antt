@@ -1,9 +1,0 @@
-use Rattle.wac_wit_refusals.specs.Judging.{Judges}
-use Rattle.wac_wit_refusals.specs.NamesTwice.{TakesName}
-use Rattle.wac_wit_refusals.specs.Sites.{BodySyntax}
-use Rattle.wac_wit_refusals.specs.TypeLists.{AreTaken, AreTypesOf}
-use Rattle.wac_wit_scopes.specs.WitSources.{WitSources}
-use Rattle.wac_wit_refusals.proofs.judge.Judge.push_type_names.Given as goal
-
-abbrev pub invariant-loop-placed : goal.invariant-loop-placed
-invariant-loop-placed l = (of : WitSources) (b : BodySyntax) → Judges of l.self → AreTypesOf b l.types → AreTaken (TakesName of b) l.initial.names.items → AreTaken (TakesName of b) l.names.items

@@ -1,7 +1,0 @@
-use Rattle.wac_wit_scopes.specs.Scopes.{IsKnownScope}
-use Rattle.wac_wit_scopes.specs.WitSources.{WitSources}
-use Rattle.wac_wit_refusals.specs.Judging.{AreKnownBodies, HasWorldIn, Judges}
-use Rattle.wac_wit_refusals.proofs.judge.Judge.push_world.Given as goal
-
-abbrev pub invariant-loop-item : goal.invariant-loop-item
-invariant-loop-item l = (of : WitSources) → Judges of l.self → IsKnownScope of l.scope → HasWorldIn of l.scope l.decl → AreKnownBodies of l.scope.file l.initial.bodies.items → AreKnownBodies of l.scope.file l.bodies.items

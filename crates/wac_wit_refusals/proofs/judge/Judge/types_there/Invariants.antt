@@ -1,7 +1,0 @@
-use Rattle.wac_wit_refusals.specs.Judging.{Judges, body_syntax}
-use Rattle.wac_wit_refusals.specs.TypeLists.{AreThere}
-use Rattle.wac_wit_scopes.specs.WitSources.{WitSources}
-use Rattle.wac_wit_refusals.proofs.judge.Judge.types_there.Given as goal
-
-abbrev pub invariant-loop-placed : goal.invariant-loop-placed
-invariant-loop-placed l = (of : WitSources) → Judges of l.self → AreThere of (body_syntax l.body) l.types.items

@@ -1,6 +1,0 @@
-use Rattle.wac_wit_refusals.specs.NamesTwice.{TakesCaseName}
-use Rattle.wac_wit_refusals.specs.TypeLists.{AreTaken}
-use Rattle.wac_wit_refusals.proofs.taken_names.names_of_cases.Given as goal
-
-abbrev pub invariant-loop-index : goal.invariant-loop-index
-invariant-loop-index l = AreTaken (TakesCaseName l.cases) l.names.items

@@ -1,6 +1,0 @@
-use Rattle.wac_wit_refusals.specs.NamesTwice.{TakesFieldName}
-use Rattle.wac_wit_refusals.specs.TypeLists.{AreTaken}
-use Rattle.wac_wit_refusals.proofs.taken_names.names_of_fields.Given as goal
-
-abbrev pub invariant-loop-index : goal.invariant-loop-index
-invariant-loop-index l = AreTaken (TakesFieldName l.fields) l.names.items

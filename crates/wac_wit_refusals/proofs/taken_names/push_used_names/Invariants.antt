@@ -1,8 +1,0 @@
-use Rattle.wac_wit_refusals.specs.NamesTwice.{TakesName}
-use Rattle.wac_wit_refusals.specs.Sites.{BodySyntax}
-use Rattle.wac_wit_refusals.specs.TypeLists.{AreTaken, IsUsedThere}
-use Rattle.wac_wit_scopes.specs.WitSources.{WitSources}
-use Rattle.wac_wit_refusals.proofs.taken_names.push_used_names.Given as goal
-
-abbrev pub invariant-loop-part : goal.invariant-loop-part
-invariant-loop-part l = (of : WitSources) (b : BodySyntax) → IsUsedThere of b l.item l.used → AreTaken (TakesName of b) l.initial.names.items → AreTaken (TakesName of b) l.names.items

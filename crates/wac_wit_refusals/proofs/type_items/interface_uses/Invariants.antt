@@ -1,7 +1,0 @@
-use Rattle.wac_wit_refusals.proofs.TypeFacts.{ListedBelow}
-use Rattle.wac_wit_refusals.specs.declared.type_items.PlacedUse.{PlacedUse}
-use Rattle.wac_wit_syntax.specs.declared.tree.InterfaceItem.TheVariants as inside
-use Rattle.wac_wit_refusals.proofs.type_items.interface_uses.Given as goal
-
-abbrev pub invariant-loop-index : goal.invariant-loop-index
-invariant-loop-index l = ListedBelow inside.Use (λ (p : PlacedUse). p.item) (λ (p : PlacedUse). p.used.now) l.items l.index l.uses.items

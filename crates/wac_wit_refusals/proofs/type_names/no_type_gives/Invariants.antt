@@ -1,8 +1,0 @@
-use Rattle.std.proofs.Common.{◌≡◌, take}
-use Rattle.std.specs.Prelude.{All}
-use Rattle.wac_wit_refusals.specs.declared.type_items.PlacedType.{PlacedType}
-use Rattle.wac_wit_scopes.specs.WitSources.{ident_text}
-use Rattle.wac_wit_refusals.proofs.type_names.no_type_gives.Given as goal
-
-abbrev pub invariant-loop-placed : goal.invariant-loop-placed
-invariant-loop-placed l = All (λ (p : PlacedType). ident_text p.ty.now.name ≡ ident_text l.name → ⊥) (take l.placed-index l.types)

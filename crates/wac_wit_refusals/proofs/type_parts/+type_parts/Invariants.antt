@@ -1,6 +1,0 @@
-use Rattle.wac_wit_refusals.specs.TypeLists.{AreElementsIn, AreWritten}
-use Rattle.wac_wit_refusals.specs.TypeSites.{TypedSyntax}
-use Rattle.wac_wit_refusals.proofs.type_parts.+type_parts.Given as goal
-
-abbrev pub invariant-push_elements-loop-element : goal.invariant-push_elements-loop-element
-invariant-push_elements-loop-element l = (s : TypedSyntax) → AreElementsIn s l.elements → AreWritten s l.initial.types.items → AreWritten s l.types.items

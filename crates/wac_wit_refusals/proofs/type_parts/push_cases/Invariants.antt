@@ -1,6 +1,0 @@
-use Rattle.wac_wit_refusals.specs.TypeLists.{AreCasesIn, AreWritten}
-use Rattle.wac_wit_refusals.specs.TypeSites.{TypedSyntax}
-use Rattle.wac_wit_refusals.proofs.type_parts.push_cases.Given as goal
-
-abbrev pub invariant-loop-case : goal.invariant-loop-case
-invariant-loop-case l = (s : TypedSyntax) → AreCasesIn s l.cases → AreWritten s l.initial.types.items → AreWritten s l.types.items

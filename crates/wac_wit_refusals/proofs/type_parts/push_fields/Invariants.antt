@@ -1,6 +1,0 @@
-use Rattle.wac_wit_refusals.specs.TypeLists.{AreFieldsIn, AreWritten}
-use Rattle.wac_wit_refusals.specs.TypeSites.{TypedSyntax}
-use Rattle.wac_wit_refusals.proofs.type_parts.push_fields.Given as goal
-
-abbrev pub invariant-loop-field : goal.invariant-loop-field
-invariant-loop-field l = (s : TypedSyntax) → AreFieldsIn s l.fields → AreWritten s l.initial.types.items → AreWritten s l.types.items

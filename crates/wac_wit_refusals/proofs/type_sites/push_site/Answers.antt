@@ -1,5 +1,0 @@
-use Rattle.wac_wit_refusals.proofs.BorrowFacts.{put_one}
-use Rattle.wac_wit_refusals.proofs.type_sites.push_site.Goals as goal
-
-pub returns : goal.returns
-returns c = put_one c.args.followed.now.found.items _ _ c.in_ok-push.ensures.items

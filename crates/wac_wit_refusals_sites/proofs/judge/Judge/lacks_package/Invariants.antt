@@ -1,0 +1,8 @@
+use Rattle.std.proofs.Common.{◌≡◌, take}
+use Rattle.std.specs.Prelude.{All}
+use Rattle.wac_wit_scopes.specs.WitSources.{package_id}
+use Rattle.wac_wit_scopes.specs.declared.scopes.ScopeItems.{ScopeItems}
+use Rattle.wac_wit_refusals_sites.proofs.judge.Judge.lacks_package.Given as goal
+
+abbrev pub invariant-loop-scope : goal.invariant-loop-scope
+invariant-loop-scope l = All (λ (w : ScopeItems). package_id l.named ≡ package_id w.package.now → ⊥) (take l.scope-index l.scope-items)

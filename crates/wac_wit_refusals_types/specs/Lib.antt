@@ -1,0 +1,13 @@
+pub mod TypeReasons
+pub mod TypeNames
+pub mod TypeCycles
+pub mod NamesTwice
+pub mod TypeSteps
+pub mod Handles
+pub mod Following
+pub mod Constructors
+pub mod ConstructorSteps
+pub mod Definitions
+pub mod Borrows
+pub mod CharStreams
+pub mod BorrowSteps

@@ -1,0 +1,5 @@
+pub mod Reached
+pub mod ComingFacts
+pub mod SoughtFacts
+pub mod NeededFacts
+pub mod WorldFacts

@@ -1,0 +1,9 @@
+pub mod Needs
+pub mod SaidTwice
+pub mod SaidFound
+pub mod Includes
+pub mod IncludeSteps
+pub mod Brought
+pub mod BroughtSteps
+pub mod NeededTwice
+pub mod NeededSteps

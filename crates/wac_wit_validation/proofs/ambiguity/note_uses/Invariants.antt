@@ -1,7 +1,0 @@
-use Rattle.indexmap.specs.IndexMap.{get_by_text}
-use Rattle.wac_wit_validation.specs.Ambiguity.{item_use_name}
-use Rattle.wac_wit_validation.proofs.AmbiguityFacts.{NotesBelow}
-use Rattle.wac_wit_validation.proofs.ambiguity.note_uses.Given as goal
-
-abbrev pub invariant-loop-item : goal.invariant-loop-item
-invariant-loop-item l = NotesBelow item_use_name l.index l.items (get_by_text l.uses) l.item

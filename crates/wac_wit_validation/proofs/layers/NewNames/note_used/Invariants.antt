@@ -1,6 +1,0 @@
-use Rattle.std.proofs.Common.{[]}
-use Rattle.wac_wit_validation.specs.Reading.{AreNamesBy}
-use Rattle.wac_wit_validation.proofs.layers.NewNames.note_used.Given as goal
-
-abbrev pub invariant-loop-rename : goal.invariant-loop-rename
-invariant-loop-rename l = AreNamesBy l.initial.self [] → AreNamesBy l.self []

@@ -1,5 +1,0 @@
-use Rattle.wac_wit_validation.specs.Reading.{IsComposed}
-use Rattle.wac_wit_validation.proofs.layers.NewNames.then.Given as goal
-
-abbrev pub invariant-loop-name : goal.invariant-loop-name
-invariant-loop-name l = IsComposed l.self l.by l.names

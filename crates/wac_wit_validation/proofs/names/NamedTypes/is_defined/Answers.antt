@@ -1,8 +1,0 @@
-use Rattle.wac_wit_validation.specs.Denoted.{IsDefined, resource_type, a_resource, type_name}
-use Rattle.wac_wit_validation.proofs.Contents.{type_meaning-only}
-use Rattle.wac_wit_validation.proofs.names.NamedTypes.is_defined.Goals as goal
-
-pub returns-in-Resource : goal.returns-in-Resource
-returns-in-Resource c is s renames h m of =
-    let item = c.args.item.now in
-    type_meaning-only (IsDefined s item) c.args.self.now.types.now c.args.of.now (resource_type (type_name s item)) m (c.is_resource.ensures is s.renames renames) of (a_resource c.in-Resource.field-0 c.in-Resource.is)

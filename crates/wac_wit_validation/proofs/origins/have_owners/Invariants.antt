@@ -1,7 +1,0 @@
-use Rattle.wac_component.specs.Content.{named, use_content}
-use Rattle.wac_wit_validation.specs.OriginClauses.{HasOwner}
-use Rattle.wac_wit_validation.proofs.MarkFacts.{AllBelow}
-use Rattle.wac_wit_validation.proofs.origins.have_owners.Given as goal
-
-abbrev pub invariant-loop-place : goal.invariant-loop-place
-invariant-loop-place l = AllBelow (λ e. HasOwner l.types (named use_content l.uses.entries) e.0 e.1) (named (λ k. k) l.items.entries) l.place

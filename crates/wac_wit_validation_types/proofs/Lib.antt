@@ -1,0 +1,13 @@
+pub mod Rows
+pub mod Fields
+pub mod Funcs
+pub mod Contents
+pub mod NameFacts
+pub mod ValueFacts
+pub mod MarkFacts
+pub mod ItemFacts
+pub mod OneMeaning
+pub mod LawFacts
+pub mod Resettled
+pub mod NewNameFacts
+pub mod TextFacts

@@ -1,0 +1,11 @@
+pub mod Placed
+pub mod Denoted
+pub mod Functions
+pub mod Interfaces
+pub mod Worlds
+pub mod Origins
+pub mod Reading
+pub mod OneMeaning
+pub mod OneWorld
+pub mod Laws
+pub mod Exports
