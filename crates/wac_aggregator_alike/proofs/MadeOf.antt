@@ -13,7 +13,7 @@ use Rattle.wac_component.specs.declared.items.ValueType.{ValueType}
 use Rattle.wac_component.specs.declared.items.ValueType.TheVariants.{Primitive, Borrow, Own, Defined}
 use Rattle.wac_component.proofs.Among.{among_either, among_right, among_single, among_one}
 use Rattle.wac_component.proofs.Lists.{slice_get-map}
-use Rattle.wac_component.proofs.OpenWalks.{open_in_next, opens_stand}
+use Rattle.wac_component.proofs.OpenWalks.{opens_stand}
 use Rattle.wac_aggregator_alike.specs.Alike.{made_keys, made_next, IsTypeMadeOf, itself, part}
 
 -- the id is of a defined type or of a resource
@@ -45,9 +45,6 @@ made_in_open c k j m = at_entry (entry_at c k) m
     at_entry (Some (interface_entry i)) n = elim n [ ]
     at_entry (Some (world_entry w)) n = elim n [ ]
     at_entry (Some (module_entry m)) n = elim n [ ]
-
-pub made_in_next : (c : Collection) (k j : Key) → IsAmong j (made_next c k) → IsAmong j (next c k)
-made_in_next c k j m = open_in_next c k j (made_in_open c k j m)
 
 -- what a type is made of is openly reached from it
 pub made_opens : (c : Collection) (k t : Key) → IsTypeMadeOf c k t → OpenReaches c k t

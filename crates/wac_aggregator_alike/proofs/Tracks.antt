@@ -1,5 +1,5 @@
 -- The tracks of owners.
-use Rattle.std.proofs.Common.{◌≡◌, ◌⊎◌, inl, inr, ◌↔◌, ◌+◌, ℕ, suc, zero, List, [], ◌∷◌, ◌++◌, Bool, true, false, Some, None, take, slice_get, Contains, refl, ap, sym, subst, ◌∙◌, arith, add-one}
+use Rattle.std.proofs.Common.{◌≡◌, ◌⊎◌, inl, inr, ◌↔◌, ◌+◌, ℕ, suc, zero, List, [], ◌∷◌, ◌++◌, Bool, true, false, Some, take, slice_get, Contains, refl, ap, sym, subst, ◌∙◌, arith, add-one}
 use Rattle.std.specs.List.{list_any}
 use Rattle.std.proofs.lemmas.List.Elements.{Contains-append_left, Contains-push, Contains-push_cases}
 use Rattle.indexmap.specs.IndexSet.{insert_key}
@@ -34,16 +34,6 @@ inserted_kept ts u t m = by (list_any (class_eq u) ts) refl
 -- ---- the owner of one resource
 
 module _ (c : Collection) (r : Id) where
-  pub tracks_unowned : owner_at c r ≡ None → (ts : List Class) (t : Class) → Contains ts t ↔ (Contains ts t ⊎ IsTrackAmong c (λ o. owner_at c r ≡ Some o) t)
-  tracks_unowned none ts t = (λ m. inl m, λ x. back x)
-    where
-      no_owner : (o : Id) → owner_at c r ≡ Some o → ⊥
-      no_owner o e = absurd (cc)
-
-      back : Contains ts t ⊎ IsTrackAmong c (λ o. owner_at c r ≡ Some o) t → Contains ts t
-      back (inl l) = l
-      back (inr x) = absurd (no_owner x.0 x.1)
-
   pub tracks_owned : (o : Id) (u : Class) → owner_at c r ≡ Some o → track_at c o ≡ Some u → (ts : List Class) (t : Class)
       → Contains (insert_key class_eq ts u) t ↔ (Contains ts t ⊎ IsTrackAmong c (λ x. owner_at c r ≡ Some x) t)
   tracks_owned o u owned on ts t = (λ m. forth (inserted_cases ts u t m), back)

@@ -1,27 +1,12 @@
 -- Bounds of lists and of sets of trees.
-use Rattle.std.proofs.Common.{◌≡◌, ◌⊎◌, inl, inr, subst, sym, List, Some, Contains}
-use Rattle.std.proofs.lemmas.List.Elements.{All-contains, Contains-get_or}
+use Rattle.std.proofs.Common.{◌≡◌, ◌⊎◌, inl, inr, subst, sym, Some}
 use Rattle.wac_model.specs.ItemTree.{ItemTree}
 use Rattle.wac_model.specs.Order.{Fits}
 use Rattle.wac_model.specs.Same.{Same}
 use Rattle.wac_model.proofs.ItemOrder.{Fits-refl, Fits-trans}
 use Rattle.wac_model.proofs.Antisymmetry.{same_from_both}
-use Rattle.wac_bounds.specs.Bounds.{IsMeet}
 use Rattle.wac_bounds.specs.MeetIn.{IsMeetIn}
 use Rattle.wac_aggregator_promises.specs.TreeSets.{IsBelowEach, IsMeetOf, HaveLowerBound}
-
--- the trees of a list, as a set
-pub meet_of_list : (ts : List ItemTree) (m : ItemTree) → IsMeet m ts → IsMeetOf m (Contains ts)
-meet_of_list ts m h = record {
-  is_below = λ t at. All-contains (λ x. Fits m x) ts t h.is_below at;
-  is_greatest = λ c b. h.is_greatest c (λ k d l. b _ (Contains-get_or ts k d l));
-}
-
-pub list_of_meet : (ts : List ItemTree) (m : ItemTree) → IsMeetOf m (Contains ts) → IsMeet m ts
-list_of_meet ts m h = record {
-  is_below = λ k d l. h.is_below _ (Contains-get_or ts k d l);
-  is_greatest = λ c b. h.is_greatest c (λ t at. All-contains (λ x. Fits c x) ts t b at);
-}
 
 module _ (P Q : ItemTree → Type 0) (from : (t : ItemTree) → Q t → P t) where
   -- what is below each of a set is below each of a part of it

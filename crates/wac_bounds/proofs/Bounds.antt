@@ -30,9 +30,6 @@ join_of_two a b (Some m) h = record {
 pub meet_of_ordered : (a b : ItemTree) → Fits a b → IsMeet a (a ∷ b ∷ [])
 meet_of_ordered a b h = meet_of_two a b (Some a) (Fits-refl a, h, λ c p q. p)
 
-pub join_of_ordered : (a b : ItemTree) → Fits a b → IsJoin b (a ∷ b ∷ [])
-join_of_ordered a b h = join_of_two a b (Some b) (h, Fits-refl b, λ c p q. q)
-
 pub have_meets : HaveMeets
 have_meets t ts c h =
     let m = meet_exists Fits Fits-refl Fits-trans (λ a b. (tree_meet a b, tree_meet_is a b)) t ts c h in

@@ -23,13 +23,6 @@ opt_join f None b = None
 opt_join f (Some v) b = option_and_then (f v) b
 
 module _ {V : Type 0} (R : V → V → Type 0) where
-  -- two meets of one pair are below each other, and two joins are
-  pub meet_below_meet : (a b m n : V) → IsMeetIn R a b (Some m) → IsMeetIn R a b (Some n) → R m n
-  meet_below_meet a b m n p q = q.2 m p.0 p.1
-
-  pub join_below_join : (a b m n : V) → IsJoinIn R a b (Some m) → IsJoinIn R a b (Some n) → R m n
-  join_below_join a b m n p q = p.2 n q.0 q.1
-
   -- only where P holds is anything below both
   pub given_is : {P : Type 0} (a b : V) (o : Option V) (d : Dec P) → (P → IsMeetIn R a b o) → ((c : V) → R c a → R c b → P) → IsMeetIn R a b (given d o)
   given_is a b o (yes p) f g = f p

@@ -1,6 +1,6 @@
 //! A caller of `is_subtype`.
 
-ghost use Rattle.std.specs.Prelude.{◌≡◌, ◌≢◌};
+ghost use Rattle.std.specs.Prelude.{◌≢◌};
 ghost use Rattle.wac_types.specs.Checker.{Answers};
 ghost use Rattle.wac_types.specs.Key.{AllStand, item_keys};
 ghost use Rattle.wac_types.specs.Order.{Fits};

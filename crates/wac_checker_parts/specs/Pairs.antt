@@ -138,12 +138,6 @@ pub record AreOfItems (c d : Collection) (x y : ItemKind) (e : Entries) : Type 0
   pub leads : (check : SubtypeCheck) (gs : List Frame) (g : Fault) → EntriesPath check c d e gs g → Path gs g (place check (item_side (item_tree c x)) (item_side (item_tree d y)))
   pub needed : Fits (item_tree c x) (item_tree d y) → EntriesFit c d e
 
--- two items fit, or so far as two entries do
-abbrev pub AreItemsCompared : SubtypeCheck → Collection → Collection → ItemKind → ItemKind → Finding → Type 0
-AreItemsCompared check c d x y End = ⊥
-AreItemsCompared check c d x y Same = Fits (item_tree c x) (item_tree d y)
-AreItemsCompared check c d x y (Below q) = (q.swapped ≡ false) × AreOfItems c d x y q.entries
-
 -- these items have the name of what is asked for at a place
 abbrev pub AreNamed : List (Text × ItemKind) → List (Text × ItemKind) → ℕ → Text → ItemKind → ItemKind → Type 0
 AreNamed es ts i n x y = (lookup bytes_eq es n ≡ Some x) × (slice_get ts i ≡ Some (n, y)) × (lookup bytes_eq ts n ≡ Some y)

@@ -24,16 +24,22 @@ pub enum PairSort {
 /// They are swapped where the left one is of the right collection, as below an import.
 #[derive(Clone, Copy, PartialEq, Eq, Hash, Default)]
 pub struct EntryPair {
+    /// The index of the left entry.
     pub left: usize,
+    /// That of the right one.
     pub right: usize,
+    /// Of which sort both are.
     pub sort: PairSort,
+    /// Whether they are swapped.
     pub swapped: bool,
 }
 
 /// The part of this index, which fits if this pair does.
 #[derive(Clone, Copy, Default)]
 pub struct PairPart {
+    /// The pair on which it stands.
     pub pair: EntryPair,
+    /// Which part it is.
     pub index: usize,
 }
 

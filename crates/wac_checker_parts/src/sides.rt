@@ -11,10 +11,13 @@ use wac_component::{DefinedTypeId, FuncTypeId, InterfaceId, ModuleTypeId, Types,
 /// and where memory for a comparison comes from.
 #[derive(Clone, Copy)]
 pub struct Sides<'a> {
+    /// The collection of the left entries.
     pub left: &'a Types,
+    /// That of the right ones.
     pub right: &'a Types,
-    // whether the left one is that of the right item that was asked about, as below an import
+    /// Whether the left one is that of the right item that was asked about, as below an import.
     pub swapped: bool,
+    /// Where memory comes from.
     pub alloc: Global,
     ghost one: { left.now.number ≡ right.now.number → left.now ≡ right.now },
 }
@@ -44,7 +47,7 @@ impl<'a> Sides<'a> {
     }
 }
 
-// The ids of the entries at an index, of each sort.
+/// The id of the defined type at an index.
 pub fn defined_at(types: &Types, index: usize) -> DefinedTypeId
     requires { Stands types.now (defined_key (id_in types.now index)) }
     ensures { result ≡ id_in types.now index }
@@ -52,6 +55,7 @@ pub fn defined_at(types: &Types, index: usize) -> DefinedTypeId
     types.defined_type_at(index).unwrap()
 }
 
+/// The id of the function type at an index.
 pub fn func_at(types: &Types, index: usize) -> FuncTypeId
     requires { Stands types.now (func_key (id_in types.now index)) }
     ensures { result ≡ id_in types.now index }
@@ -59,6 +63,7 @@ pub fn func_at(types: &Types, index: usize) -> FuncTypeId
     types.func_type_at(index).unwrap()
 }
 
+/// The id of the interface at an index.
 pub fn interface_at(types: &Types, index: usize) -> InterfaceId
     requires { Stands types.now (interface_key (id_in types.now index)) }
     ensures { result ≡ id_in types.now index }
@@ -66,6 +71,7 @@ pub fn interface_at(types: &Types, index: usize) -> InterfaceId
     types.interface_at(index).unwrap()
 }
 
+/// The id of the world at an index.
 pub fn world_at(types: &Types, index: usize) -> WorldId
     requires { Stands types.now (world_key (id_in types.now index)) }
     ensures { result ≡ id_in types.now index }
@@ -73,6 +79,7 @@ pub fn world_at(types: &Types, index: usize) -> WorldId
     types.world_at(index).unwrap()
 }
 
+/// The id of the core module type at an index.
 pub fn module_at(types: &Types, index: usize) -> ModuleTypeId
     requires { Stands types.now (module_key (id_in types.now index)) }
     ensures { result ≡ id_in types.now index }

@@ -1,5 +1,5 @@
 -- What is answered to one list of calls in two orders, and to a call that comes after a list.
-use Rattle.std.specs.Prelude.{◌≡◌, ◌++◌, ◌∷◌, [], List, Contains, Result, Ok, Err}
+use Rattle.std.specs.Prelude.{◌≡◌, List, Contains, Result, Ok, Err}
 use Rattle.wac_types.specs.Aggregated.{LeadsBelow, track_imports}
 use Rattle.wac_types.specs.Aggregator.{AggregatorContent, shown}
 use Rattle.wac_types.specs.Call.{Call, call_tree}

@@ -48,30 +48,6 @@ module _ (a b : CoreTree) (x y l : Limits) (same : label_of a ≡ label_of b) (a
   pub no_valid_meet_by_limits : is_within l.initial l.maximum ≡ false → IsMeetIn ValidFits a b None
   no_valid_meet_by_limits invalid = met_if a b (with_limits a l) false (meet_by_limits a b (with_limits a l) x y l same at_a at_b meet refl) (valid_with a x l at_a ∙ invalid)
 
--- externs without limits
-pub plain_meet : (a b m : CoreTree) → label_of a ≡ label_of b → limits_of a ≡ None → m ≡ a → IsMeetIn ValidFits a b (Some m)
-plain_meet (plain k) (plain l) m same none is = rw is ((refl, refl, refl), (refl, refl, cc), λ c p q. p)
-plain_meet (plain k) (limited l q) m same none is = absurd (cc)
-plain_meet (limited k p) b m same none is = absurd (cc)
-
-pub labels_of_plain : (a b : CoreTree) → label_of a ≡ label_of b → limits_of b ≡ None → limits_of a ≡ None
-labels_of_plain (plain k) b same none = refl
-labels_of_plain (limited k p) (plain l) same none = absurd (cc)
-labels_of_plain (limited k p) (limited l q) same none = absurd (cc)
-
--- externs of different labels
-pub no_meet_of_labels : (a b : CoreTree) → (label_of a ≡ label_of b → ⊥) → IsMeetIn ValidFits a b None
-no_meet_of_labels a b apart = λ c p q. apart (below a c p.2 ∙ sym (below b c q.2))
-  where
-    below : (a c : CoreTree) → CoreFits c a → label_of a ≡ label_of c
-    below (limited k x) (limited l y) p = let e = p.0 in cc
-    below (plain k) (limited l y) p = absurd (cc)
-    below a (plain l) p = let e : plain l ≡ a = go a p in cc
-      where
-        go : (a : CoreTree) → CoreFits (plain l) a → plain l ≡ a
-        go (plain k) p = p
-        go (limited k x) p = p
-
 -- what `==` says of the parts of two labels
 module _ (x_flag y_flag x_shared y_shared : Bool) where
   pub table_labels : (x y : CoreRefType) → of_refs.eq x y ≡ true → beq x_flag y_flag ≡ true

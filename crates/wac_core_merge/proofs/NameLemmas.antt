@@ -163,9 +163,3 @@ module _ {K L V W : Type 0} (show_key : K → L) (show : V → W) (eq : K → K 
   with_new-shown es ts =
       map-append shown es (filter (λ t. is_new eq es t.0) ts)
       ∙ ap (λ l. map shown es ++ l) (filter-shown (λ t. is_new eq es t.0) (λ t. is_new is_same (map shown es) t.0) (λ t. is_new-shown es t.0) ts)
-
-  -- what was added to a list: at each name what it had, or else what was added has
-  pub lookup-added : ((m n : L) → Decides (is_same m n) (m ≡ n)) → (es ts new : List (K × V)) → new ≡ with_new eq es ts → (n : L)
-      → lookup {V = W} is_same (map {A = K × V} {B = L × W} (λ e. (show_key e.0, show e.1)) new) n
-      ≡ option_or (lookup is_same (map (λ e. (show_key e.0, show e.1)) es) n) (lookup is_same (map (λ e. (show_key e.0, show e.1)) ts) n)
-  lookup-added decides es ts new is n = ap (λ l. lookup is_same (map shown l) n) is ∙ ap (λ l. lookup is_same l n) (with_new-shown es ts) ∙ lookup-with_new is_same decides (map shown es) (map shown ts) n

@@ -1,5 +1,5 @@
 -- Two items that name a pair of entries alike.
-use Rattle.std.proofs.Common.{◌≡◌, refl, sym, subst, ◌∙◌, ◌∷◌, [], ◌++◌, Option, Some, None, Result, IfOk, IfSome}
+use Rattle.std.proofs.Common.{◌≡◌, refl, sym, subst, ◌++◌, Option, Some, None, Result, IfOk, IfSome}
 use Rattle.std.specs.Option.{option_map}
 use Rattle.wac_model.specs.ItemTree.{Kind}
 use Rattle.wac_bounds.specs.MeetIn.{IsMeetIn}
@@ -22,13 +22,9 @@ use Rattle.wac_merge.specs.declared.memo.BoundPair.{BoundPair}
 use Rattle.wac_merge.specs.declared.memo.Untold.{Untold}
 use Rattle.wac_merge.proofs.BoundLemmas.{incomparable_before}
 use Rattle.wac_merge.proofs.BuiltLemmas.{made_item}
-use Rattle.wac_merge.proofs.ItemKeys.{entry_item-keys}
 
 -- both items, or both as types
 module _ (a b : ItemKind) (k : Kind) (p : BoundPair) (is_a : a ≡ entry_item k (first_key p)) (is_b : b ≡ entry_item k (second_key p)) where
-  keys_are : item_keys a ++ item_keys b ≡ first_key p ∷ second_key p ∷ []
-  keys_are = (λ j. item_keys (is_a j) ++ item_keys (is_b j)) ∙ (λ j. entry_item-keys k (first_key p) j ++ entry_item-keys k (second_key p) j)
-
   -- the bound of the two entries names that of the items
   pub bound_of : (t : Bound) (d e : Collection) (m : Option BoundId) (r : Option ItemKind) → r ≡ option_map (λ n. entry_item k (bound_key n)) m → IsBoundOf t d e p m
       → IsMeetIn (order_of t) (item_tree d a) (item_tree d b) (option_map (item_tree e) r)

@@ -13,11 +13,9 @@ use Rattle.indexmap.specs.IndexMap.{insert_entry}
 use Rattle.wac_model.specs.Text.{Text, lookup}
 use Rattle.wac_component.specs.Collection.{Collection}
 use Rattle.wac_component.specs.Content.{named}
-use Rattle.wac_component.specs.Growth.{Extends}
-use Rattle.wac_component.specs.Height.{height, keys_height}
-use Rattle.wac_component.specs.Key.{Key, Stands, AllStand, item_keys, optional_keys}
+use Rattle.wac_component.specs.Key.{Stands, AllStand, item_keys, optional_keys}
 use Rattle.wac_component.specs.declared.items.ItemKind.{ItemKind}
-use Rattle.wac_component.proofs.Keys.{Each-left, Each-right, Each-append, largest-same}
+use Rattle.wac_component.proofs.Keys.{Each-left, Each-right, Each-append}
 use Rattle.wac_checker_parts.proofs.ExternLemmas.{named_stands}
 use Rattle.wac_core_merge.proofs.NameLemmas.{lookup-append}
 use Rattle.wac_core_merge.specs.NameOrder.{HasSomeNames}
@@ -66,10 +64,6 @@ stands_put c (e ∷ es) k v h g = go (bytes_eq k e.0) (stands_put c es k v (Each
     go : (b : Bool) → AllStand c (extern_keys (insert_entry bytes_eq es k v)) → AllStand c (extern_keys (cond b ((e.0, v) ∷ es) (e ∷ insert_entry bytes_eq es k v)))
     go true ih = Each-append (Stands c) (item_keys v) (extern_keys es) g (Each-right (Stands c) (item_keys e.1) (extern_keys es) h)
     go false ih = Each-append (Stands c) (item_keys e.1) (extern_keys (insert_entry bytes_eq es k v)) (Each-left (Stands c) (item_keys e.1) (extern_keys es) h) ih
-
--- ids that stood are as high as they were
-pub heights_stay : (c d : Collection) → Extends c d → (ks : List Key) → AllStand c ks → keys_height d ks ≡ keys_height c ks
-heights_stay c d grown ks stand = largest-same (Stands c) (height d) (height c) grown.heights ks stand
 
 -- one turn, in c
 module _ (c : Collection) (es ts done : ExternKinds) (n : Text) (a : ItemKind) (o : Option ItemKind) (absent : lookup bytes_eq done n ≡ None) (other : o ≡ lookup bytes_eq ts n) (ms : ExternKinds) where

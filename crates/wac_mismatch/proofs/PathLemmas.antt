@@ -3,14 +3,12 @@ use Rattle.std.proofs.Common.{[], ◌∷◌, inl, inr}
 use Rattle.wac_model.specs.ValueTree.{ValueTree}
 use Rattle.wac_mismatch.specs.Place.{Side, value_side, place, by_check, SideFits}
 use Rattle.wac_mismatch.specs.Holds.{HoldsOfSides, DifferInField, Holds}
-use Rattle.wac_mismatch.specs.Path.{Leads, Explains, Refutes}
+use Rattle.wac_mismatch.specs.Path.{Explains, Refutes}
 use Rattle.wac_mismatch.specs.Laws.{APathRefutes}
-use Rattle.wac_mismatch.specs.Steps.{IsHere, IsUnder}
+use Rattle.wac_mismatch.specs.Steps.{IsHere}
 use Rattle.wac_mismatch.proofs.FaultLemmas.{holds_refutes}
 use Rattle.wac_mismatch.proofs.PartLemmas.{lead_fits}
 use Rattle.wac_mismatch.specs.declared.check.SubtypeCheck.{SubtypeCheck}
-use Rattle.wac_mismatch.specs.declared.check.SubtypeCheck.TheVariants.{Covariant, Contravariant}
-use Rattle.wac_mismatch.specs.declared.frame.Frame.{Frame}
 use Rattle.wac_mismatch.specs.declared.fault.Fault.{Fault}
 use Rattle.wac_mismatch.specs.declared.fault.Fault.TheVariants as fault
 use Rattle.wac_mismatch.specs.declared.fault.CoreField.{CoreField}
@@ -28,19 +26,10 @@ pub explains_refutes : (e : SubtypeError) (c : SubtypeCheck) (a b : Side) → Ex
 explains_refutes (Mismatch frames f) c a b h = path_refutes frames.items f (place c a b) h
 explains_refutes Memory c a b h = tt
 
--- what a fact of each pair gives, in either direction
-pub by_check-map : {X Y : Type 0} (c : SubtypeCheck) (P : X → X → Type 0) (Q : Y → Y → Type 0) (g : X → Y) → ((x y : X) → P x y → Q (g x) (g y)) → (x y : X) → by_check c P x y → by_check c Q (g x) (g y)
-by_check-map Covariant P Q g h x y p = h y x p
-by_check-map Contravariant P Q g h x y p = h x y p
-
 -- a refusal with no frame explains itself by its fault
 pub explains_here : (P : Fault → Type 0) (r : SubtypeError) (c : SubtypeCheck) (a b : Side) → IsHere P r → ((f : Fault) → P f → Holds f (place c a b)) → Explains r c a b
 explains_here P (Mismatch frames f) c a b h d = rw h.0 (d f h.1)
 explains_here P Memory c a b h d = tt
-
--- a refusal with no frame explains itself by a fault of what is expected and what is found
-pub explains_sides : (P : Fault → Type 0) (r : SubtypeError) (c : SubtypeCheck) (a b : Side) → IsHere P r → ((f : Fault) → P f → by_check c (HoldsOfSides f) a b) → Explains r c a b
-explains_sides P r c a b h d = explains_here P r c a b h (λ f p. inl (d f p))
 
 -- values have no other faults
 pub values_hold : (f : Fault) (c : SubtypeCheck) (x y : ValueTree) → Holds f (place c (value_side x) (value_side y)) → by_check c (HoldsOfSides f) (value_side x) (value_side y)
@@ -61,13 +50,3 @@ values_hold (fault.Core field) c x y (inr h) = no_field field h
     no_field core_field.GlobalMutable h = elim h [ ]
     no_field core_field.GlobalShared h = elim h [ ]
 values_hold f c x y (inr h) = elim h [ ]
-
--- one more frame outside explains the sides of which it names the parts
-pub explains_below : (P : Frame → Type 0) (e r : SubtypeError) (c d : SubtypeCheck) (a b a' b' : Side) → IsUnder P e r → ((f : Frame) → P f → Leads f (place c a b) (place d a' b')) → Explains e d a' b' → Explains r c a b
-explains_below P e Memory c d a b a' b' h l x = tt
-explains_below P Memory (Mismatch frames f) c d a b a' b' h l x = absurd h
-explains_below P (Mismatch inner f) (Mismatch frames g) c d a b a' b' h l x = rw (h.2, h.3) (place d a' b', l h.0 h.1, x)
-
--- the same where the direction stays
-pub explains_under : (P : Frame → Type 0) (e r : SubtypeError) (c : SubtypeCheck) (a b a' b' : Side) → IsUnder P e r → ((f : Frame) → P f → Leads f (place c a b) (place c a' b')) → Explains e c a' b' → Explains r c a b
-explains_under P e r c = explains_below P e r c c

@@ -50,9 +50,6 @@ module _ (files : List SourceFile) (documents : List Document) where
   abbrev pub HasGroupsBelow : (ℕ → Option (Bor PackageName)) → ℕ → Type 0
   HasGroupsBelow known limit = FilesBelow (NamesKnown known) limit
 
-  pub HasGroupsBelow-none : (known : ℕ → Option (Bor PackageName)) → HasGroupsBelow known 0
-  HasGroupsBelow-none known = FilesBelow-none (NamesKnown known)
-
   pub HasGroupsBelow-more : (before after : ℕ → Option (Bor PackageName)) (i : ℕ) (f : SourceFile) (d : Document) → slice_get files i ≡ Some f → slice_get documents i ≡ Some d → ((g : ℕ) (n : PackageName) → HasGroup before g n → HasGroup after g n)
       → HasGroupOf after f.group d → HasGroupsBelow before i → HasGroupsBelow after (i + 1)
   HasGroupsBelow-more before after i f d f_at d_at keeps here all = FilesBelow-more (NamesKnown before) (NamesKnown after) i f d f_at d_at (λ g e h n is. keeps g.group n (h n is)) here all

@@ -1,6 +1,6 @@
 -- Comments that nest.
-use Rattle.std.proofs.Common.{◌≡◌, ℕ, ◌+◌, ◌-◌, ◌<◌, ◌≤◌, ◌≢◌, Bool, true, false, cond, ◌&&◌, ◌⊎◌, List, [], ◌∷◌, Option, Some, None, option_map, length, get_or, drop, eqb, refl, sym, ap, ◌∙◌, inl, inr, arith}
-use Rattle.std.proofs.lemmas.List.{at_drop_more, at_drop_all}
+use Rattle.std.proofs.Common.{◌≡◌, ℕ, ◌+◌, ◌-◌, ◌<◌, ◌≢◌, Bool, true, false, cond, ◌&&◌, ◌⊎◌, List, [], ◌∷◌, Option, Some, None, option_map, length, get_or, drop, eqb, refl, sym, ap, ◌∙◌, inl, inr, arith}
+use Rattle.std.proofs.lemmas.List.{at_drop_more}
 use Rattle.wac_wit_syntax.specs.Reading.{closing_length}
 
 pub option_map_twice : (f g : ℕ → ℕ) (o : Option ℕ) → option_map f (option_map g o) ≡ option_map (λ n. f (g n)) o
@@ -48,9 +48,6 @@ closing_other d p text i h e f = let c = get_or text i 0 in let rest = drop (i +
     ∙ ap (λ t. behind i (cond t (cond (eqb d 1) (Some 2) (option_map (λ n. n + 2) (closing_length (d - 1) rest))) (option_map (λ n. n + 1) (closing_length d (c ∷ rest))))) f
     ∙ one_on i (closing_length d (c ∷ rest))
 
-pub closing_none : (d p : ℕ) (text : List ℕ) (i : ℕ) → length text ≤ i → behind i (closing_length d (p ∷ drop i text)) ≡ None
-closing_none d p text i h = at_drop_all (λ t. behind i (closing_length d (p ∷ t))) text i h
-
 -- from a place to the end, where a byte that begins nothing stands before it
 pub closing_start : (d from : ℕ) (text : List ℕ) → behind from (closing_length d (0 ∷ drop from text)) ≡ behind (from + 1) (closing_length d (drop from text))
 closing_start d from text = ap (behind from) (closing_padded d (drop from text)) ∙ one_on from _
@@ -58,10 +55,6 @@ closing_start d from text = ap (behind from) (closing_padded d (drop from text))
 pub end_some : (from : ℕ) (o : Option ℕ) (i : ℕ) → Some (2 + i) ≡ behind (from + 1) o → Some (i + 1) ≡ option_map (λ n. from + n) o
 end_some from None i h = cc h
 end_some from (Some n) i h = ap Some (let e : 2 + i ≡ n + (from + 1) = cc in omega arith)
-
-pub end_none : (from : ℕ) (o : Option ℕ) → None ≡ behind (from + 1) o → None ≡ option_map (λ n. from + n) o
-end_none from None h = refl
-end_none from (Some n) h = cc h
 
 -- ---- the same with what the code has
 
@@ -92,6 +85,3 @@ others d p text i d' p' x h e f g k m = rw (g, k) (sym (closing_other d p text i
 
 pub ends : (p : ℕ) (text : List ℕ) (i d from : ℕ) (o : Option ℕ) → i < length text → p ≡ 42 → get_or text i 0 ≡ 47 → d ≡ 1 → behind i (closing_length d (p ∷ drop i text)) ≡ behind (from + 1) o → Some (i + 1) ≡ option_map (λ n. from + n) o
 ends p text i d from o h e f g m = end_some from o i (sym (closing_last text i h f) ∙ ap (λ b. behind i (closing_length 1 (b ∷ drop i text))) (sym e) ∙ ap (λ k. behind i (closing_length k (p ∷ drop i text))) (sym g) ∙ m)
-
-pub never_ends : (p : ℕ) (text : List ℕ) (i d from : ℕ) (o : Option ℕ) → length text ≤ i → behind i (closing_length d (p ∷ drop i text)) ≡ behind (from + 1) o → None ≡ option_map (λ n. from + n) o
-never_ends p text i d from o h m = end_none from o (sym (closing_none d p text i h) ∙ m)

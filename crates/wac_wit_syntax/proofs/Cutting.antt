@@ -3,7 +3,7 @@ use Rattle.std.proofs.Common.{◌≡◌, ℕ, ◌+◌, ◌-◌, ◌<◌, ◌≤�
 use Rattle.std.specs.List.{AllByRecursion}
 use Rattle.std.proofs.lemmas.List.{drop-drop, take-append-drop, length-take-le}
 use Rattle.wac_wit_syntax.specs.Bytes.{is_space}
-use Rattle.wac_wit_syntax.specs.Parts.{HasNoPart, IsCut, IsOfSort, Part, PartSort, docs_after, spelled, token, token_of, tokens_of, white, with_docs}
+use Rattle.wac_wit_syntax.specs.Parts.{IsCut, IsOfSort, Part, PartSort, docs_after, spelled, token, token_of, tokens_of, white, with_docs}
 use Rattle.wac_wit_syntax.specs.Reading.{IsPieceAt}
 use Rattle.wac_wit_syntax.specs.Steps.{IsStep, LeadsBack, LeadsOn, tokens_with}
 use Rattle.wac_wit_syntax.specs.declared.error.Refusal.{Refusal}
@@ -124,10 +124,6 @@ module _ (text : List ℕ) (c d : Cutter) (items : List Refusal) (end : ℕ) (at
       by : (qs : List Part) → IsCut qs (drop c.at text) → ⊥
       by [] h = let k = p.begins in let l = p.within in let e = ap length h.0 in let f = length-drop c.at text in omega arith
       by (q ∷ qs) h = p.says q.sort q.text (spelled qs) h.1.0 (h.0 ∙ sym (front_whole text c.at end p.begins))
-
--- what is refused of a text
-pub none_of_piece : (text : List ℕ) (at end : ℕ) (kind : TokenKind) → IsPieceAt text at (piece.Refused kind end) → HasNoPart (drop at text)
-none_of_piece text at end kind p s w behind h e = p.says s w behind h (e ∙ sym (front_whole text at end p.begins))
 
 -- ---- whole texts
 

@@ -15,7 +15,7 @@ use Rattle.wac_wit_syntax.specs.declared.lexer.Piece.TheVariants as piece
 use Rattle.wac_wit_syntax.specs.declared.scanning.Run.TheVariants as run
 use Rattle.wac_wit_syntax.specs.declared.scanning.Run.{Run}
 use Rattle.wac_wit_syntax.specs.declared.token.TokenKind.{TokenKind}
-use Rattle.wac_wit_syntax.specs.declared.token.TokenKind.TheVariants.{Word, Escaped, Integer, Version, Underscore, Equals, Comma, Colon, Semicolon, OpenParen, CloseParen, OpenBrace, CloseBrace, OpenAngle, CloseAngle, Star, Arrow, Slash, Dot, At, Invalid}
+use Rattle.wac_wit_syntax.specs.declared.token.TokenKind.TheVariants.{Word, Escaped, Integer, Version, Underscore, Equals, Comma, Colon, Semicolon, OpenParen, CloseParen, OpenBrace, CloseBrace, OpenAngle, CloseAngle, Star, Dot, At, Invalid}
 use Rattle.wac_wit_syntax.proofs.Balanced.{comment_closed, inside_size}
 use Rattle.wac_wit_syntax.proofs.FirstPart.{first_part, name_part, number_part, part_by}
 use Rattle.wac_wit_syntax.proofs.Labels.{IsPiece, full, pieces_of_run}
@@ -311,10 +311,6 @@ fails b v n = by (eqb b v) refl
 holds : (b v : ℕ) → b ≡ v → eqb b v ≡ true
 holds b v e = grind arith
 
--- no part begins with a `-` that isn't one of `->`
-dash_none : (t : List ℕ) → get_or t 0 0 ≡ 45 → get_or t 1 0 ≢ 62 → HasNoPart t
-dash_none t e n = none_begins t (ap (λ b. part_by b (get_or t 1 0) t) e ∙ ap (λ s. cond s (Some (token Arrow, 2)) None) (fails (get_or t 1 0) 62 n))
-
 -- nor with a byte that has no meaning
 abbrev pub IsNoStart : ℕ → Type 0
 IsNoStart b = (is_ascii_alphabetic b ≡ false) × (is_space b ≡ false) × (is_ascii_digit b ≡ false) × (b ≢ 47) × (b ≢ 45) × (b ≢ 37) × (b ≢ 95)
@@ -415,26 +411,6 @@ module _ (text : List ℕ) (at : ℕ) (within : at < length text) where
 
   pub run_end : (r : Run) (from : ℕ) → from ≤ length text → from + run_length r (drop from text) ≤ length text
   run_end r from h = omega (arith, run_within r (drop from text), length-drop from text)
-
-  pub slash_token : get_or text at 0 ≡ 47 → get_or text (at + 1) 0 ≢ 47 → get_or text (at + 1) 0 ≢ 42 → IsPieceAt text at (piece.Token Slash (at + 1))
-  slash_token e f g =
-      let t : drop at text ≡ 47 ∷ drop 1 (drop at text) = one_byte (drop at text) 47 (first ∙ e) (omega arith) in
-      let next : get_or (drop 1 (drop at text)) 0 0 ≡ get_or text (at + 1) 0 = get_or-drop 1 (drop at text) 0 0 ∙ here 1 in
-      piece_of (piece.Token Slash (at + 1)) text at 1 within refl (omega arith) (omega (arith, ap length t)) (ap (take 1) t, ap (λ b. eqb b 47 || eqb b 42) next ∙ ap (λ t. t || eqb (get_or text (at + 1) 0) 42) (fails _ 47 f) ∙ fails _ 42 g)
-
-  pub arrow_token : get_or text at 0 ≡ 45 → get_or text (at + 1) 0 ≡ 62 → IsPieceAt text at (piece.Token Arrow (at + 2))
-  arrow_token e f =
-      let t : drop at text ≡ 45 ∷ 62 ∷ drop 2 (drop at text) = two_bytes (drop at text) 45 62 (first ∙ e) (omega arith) (here 1 ∙ f) (omega arith) in
-      piece_of (piece.Token Arrow (at + 2)) text at 2 within refl (omega arith) (omega (arith, ap length t)) (ap (take 2) t, tt)
-
-  pub lone_dash : (end : ℕ) → get_or text at 0 ≡ 45 → get_or text (at + 1) 0 ≢ 62 → HasNoPart (drop at text)
-  lone_dash end e f = dash_none (drop at text) (first ∙ e) (λ k. f (sym (here 1) ∙ k))
-
-  pub underscore_token : get_or text at 0 ≡ 95 → is_word_byte (get_or text (at + 1) 0) ≡ false → IsPieceAt text at (piece.Token Underscore (at + 1))
-  underscore_token e f =
-      let t : drop at text ≡ 95 ∷ drop 1 (drop at text) = one_byte (drop at text) 95 (first ∙ e) (omega arith) in
-      let next : get_or (drop 1 (drop at text)) 0 0 ≡ get_or text (at + 1) 0 = get_or-drop 1 (drop at text) 0 0 ∙ here 1 in
-      piece_of (piece.Token Underscore (at + 1)) text at 1 within refl (omega arith) (omega (arith, ap length t)) (ap (take 1) t, ap is_word_byte next ∙ f)
 
   pub operator_token : (kind : TokenKind) → kind_of (get_or text at 0) ≡ Some kind → IsPieceAt text at (piece.Token kind (at + 1))
   operator_token kind h =

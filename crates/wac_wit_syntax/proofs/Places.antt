@@ -1,12 +1,9 @@
 -- Lines and columns, a byte on.
-use Rattle.std.proofs.Common.{◌≡◌, ◌≢◌, ℕ, ◌+◌, ◌==◌, List, [], ◌∷◌, ◌++◌, ◌<◌, length, take, get_or, count_by, refl, sym, ap, ◌∙◌, inl, inr, arith, append_assoc, append-nil, eqb, Bool, true, false, cond}
+use Rattle.std.proofs.Common.{◌≡◌, ◌≢◌, ℕ, ◌+◌, ◌==◌, List, [], ◌∷◌, ◌++◌, ◌<◌, length, take, get_or, count_by, refl, sym, ap, ◌∙◌, inr, arith, append_assoc, append-nil, eqb, Bool, true, false, cond}
 use Rattle.std.specs.List.{AllByRecursion}
 use Rattle.std.proofs.lemmas.List.{length_push, take_more}
 use Rattle.std.proofs.lemmas.List.Sums.{sum_by-append}
 use Rattle.wac_wit_syntax.specs.Positions.{EndsAt}
-
-pub place_start : EndsAt [] 1 1
-place_start = record { lines = []; front = []; text_is = refl; whole = inl refl; unended = tt; line_is = refl; column_is = refl }
 
 abbrev pick : Bool → ℕ
 pick t = cond t 1 0

@@ -1,7 +1,7 @@
 -- Runs of bytes.
 use Rattle.std.proofs.Common.{◌≡◌, ℕ, suc, ◌+◌, ◌<◌, ◌≤◌, Bool, true, false, cond, ◌&&◌, ◌||◌, ◌⊎◌, List, [], ◌∷◌, ◌++◌, length, get_or, take, drop, refl, ap, ◌∙◌, inl, inr, arith, add-zero}
 use Rattle.std.specs.List.{list_all}
-use Rattle.std.proofs.lemmas.List.{at_drop_more, at_drop_all, get_or-drop}
+use Rattle.std.proofs.lemmas.List.{at_drop_more, get_or-drop}
 use Rattle.wac_wit_syntax.specs.Reading.{goes_on, run_length}
 use Rattle.wac_wit_syntax.specs.declared.scanning.Run.{Run}
 
@@ -49,9 +49,6 @@ pub run_end : (r : Run) (text : List ℕ) (i : ℕ) → i < length text → goes
 run_end r text i h g =
     let next : get_or (drop (i + 1) text) 0 0 ≡ get_or text (i + 1) 0 = get_or-drop (i + 1) text 0 0 ∙ ap (λ k. get_or text k 0) (add-zero (i + 1)) in
     at_drop_more (run_length r) text i 0 h ∙ run_stopped r (get_or text i 0 ∷ drop (i + 1) text) (ap (goes_on r (get_or text i 0)) next ∙ g)
-
-pub run_none : (r : Run) (text : List ℕ) (i : ℕ) → length text ≤ i → run_length r (drop i text) ≡ 0
-run_none r text i h = at_drop_all (run_length r) text i h
 
 more_or_none : (t : Bool) (m n : ℕ) → m ≤ n → cond t (suc m) 0 ≤ suc n
 more_or_none true m n h = omega arith

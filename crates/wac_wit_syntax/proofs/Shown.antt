@@ -45,9 +45,6 @@ pub record IsReached (text : List ℕ) (offset : ℕ) (rest : List ℕ) : Type 0
   pub chars_are : chars text ≡ front ++ chars rest
   pub place : offset ≡ length (encode_utf8_all front)
 
-pub reached_start : (text rest : List ℕ) (offset : ℕ) → IsUtf8 text → rest ≡ text → offset ≡ 0 → IsReached text offset rest
-reached_start text rest offset u e z = rw (e, z) (record { utf8 = u; rest_is = refl; size = omega arith; front = []; chars_are = refl; place = refl })
-
 pub reached_more : (text : List ℕ) (offset c after : ℕ) (rest more : List ℕ) → IsReached text offset rest → rest ≡ encode_utf8 c ++ more → after ≡ offset + length (encode_utf8 c) → IsReached text after more
 reached_more text offset c after rest more r e f = record {
   utf8 = IsUtf8-past_char rest more c r.utf8 e;

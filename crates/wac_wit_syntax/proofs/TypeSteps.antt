@@ -1,7 +1,7 @@
 -- From one step of the reader of types to the next.
 use Rattle.std.proofs.Common.{◌≡◌, ℕ, Bool, true, false, List, [], ◌∷◌, ◌++◌, Option, Some, None, refl, sym, subst}
 use Rattle.wac_wit_syntax.specs.Productions.{◌▸◌, IsKind, Source}
-use Rattle.wac_wit_syntax.specs.Types.{AreTypes, IsLength, IsType, IsTypeOf, last, last_comma, more}
+use Rattle.wac_wit_syntax.specs.Types.{AreTypes, IsType, IsTypeOf, last, last_comma, more}
 use Rattle.wac_wit_syntax.specs.TypeParts.{Begun, Listed, Parted, Whole, WithCommas, may_end, may_go_on, next_is_type}
 use Rattle.wac_wit_syntax.specs.declared.token.TokenKind.TheVariants.{CloseAngle, Comma, Underscore}
 use Rattle.wac_wit_syntax.specs.declared.tree.TypeExpr.{TypeExpr}
@@ -76,21 +76,6 @@ with_type word.Map (u ∷ []) false (Some m) t s i j e h = absurd h.1
 pub with_lack : (n : Option ℕ) (s : Source) (i j : ℕ) → (Begun word.Result [] false n ▸ IsKind Underscore) s i j → Parted word.Result [] true n s i j
 with_lack None s i j h = h
 with_lack (Some m) s i j h = absurd h.1
-
--- the length of a list is the second
-pub with_length : (w : TypeWord) (ts : List TypeExpr) (lacks : Bool) (n : Option ℕ) (m : ℕ) (s : Source) (i j : ℕ) → next_is_type w ts lacks ≡ false → (Begun w ts lacks n ▸ IsLength m) s i j → Parted w ts lacks (Some m) s i j
-with_length word.List [] false n m s i j e h = absurd (let f : true ≡ false = e in cc)
-with_length word.List [] true n m s i j e h = absurd h.1
-with_length word.List (t ∷ []) false None m s i j e h = (h.1.0, h.1.1, (h.1.2.0, h.1.2.1, (h.0, h.1.2.2, h.2)))
-with_length word.List (t ∷ []) false (Some k) m s i j e h = absurd h.1
-with_length word.List (t ∷ []) true n m s i j e h = absurd h.1
-with_length word.List (t ∷ u ∷ us) lacks n m s i j e h = absurd h.1
-with_length word.Tuple ts lacks n m s i j e h = absurd (let f : true ≡ false = e in cc)
-with_length word.Option ts lacks n m s i j e h = absurd (let f : true ≡ false = e in cc)
-with_length word.Future ts lacks n m s i j e h = absurd (let f : true ≡ false = e in cc)
-with_length word.Stream ts lacks n m s i j e h = absurd (let f : true ≡ false = e in cc)
-with_length word.Result ts lacks n m s i j e h = absurd (let f : true ≡ false = e in cc)
-with_length word.Map ts lacks n m s i j e h = absurd (let f : true ≡ false = e in cc)
 
 -- a comma behind a part that isn't the last
 pub with_comma : (w : TypeWord) (ts : List TypeExpr) (lacks : Bool) (n : Option ℕ) (s : Source) (i j : ℕ) → may_go_on w ts lacks n ≡ true → (Parted w ts lacks n ▸ IsKind Comma) s i j → Begun w ts lacks n s i j

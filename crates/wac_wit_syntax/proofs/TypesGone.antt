@@ -423,9 +423,6 @@ made_all a c e w p is_open turn depth j (Ok t) h off fails rest =
     record { ok = rest refl ∙ h.to.same ∙ ap (λ m. record a { next = m }) at.0; memory = tt }
 made_all a c e w p is_open turn depth j (Err x) h off fails rest = record { ok = tt; memory = fails (h.to.closed off).1 }
 
-pub too_deep : (a : Cursor) (j : ℕ) → IsTypeAhead a 0 j → ⊥
-too_deep a j h = let x = h.readable.shallow a.next h.count h.are_open in let y = h.deep in absurd (omega arith)
-
 -- the loop is over before the last part is read
 pub over_open : (a b c : Cursor) (w : TypeWord) (p : Parts) (is_open : Bool) (turn depth j : ℕ) → b ≡ record a { next = b.next } → IsReadTo a c w p is_open turn depth j → is_open ≡ true → length (source b).tokens ≤ turn → ⊥
 over_open a b c w p is_open turn depth j same h e all =

@@ -1,5 +1,5 @@
 -- Whole texts, step by step.
-use Rattle.std.proofs.Common.{◌≡◌, ℕ, ◌≤◌, List, [], ◌∷◌, ◌++◌, None, length, drop, chars, true, refl, sym, ap, ap₂, ◌∙◌}
+use Rattle.std.proofs.Common.{◌≡◌, ℕ, ◌≤◌, List, [], ◌∷◌, None, length, drop, chars, true, refl, sym, ap, ◌∙◌}
 use Rattle.std.proofs.lemmas.List.{drop_all}
 use Rattle.wac_wit_syntax.specs.Characters.{none_refused}
 use Rattle.wac_wit_syntax.specs.Parts.{IsCut, IsRead, Part, first_place, spelled, tokens_of}
@@ -16,12 +16,6 @@ Precedes text d = (ps : List Part) → IsCut ps (drop d.at text) → (qs : List 
 -- whatever the text is cut into, the rest is cut into parts with the same tokens, and nothing is refused
 abbrev pub Follows : List ℕ → Cutter → List Refusal → List Refusal → Type 0
 Follows text d before after = (qs : List Part) → IsCut qs (drop (first_place text) text) → (after ≡ before) × ((ps : List Part) × IsCut ps (drop d.at text) × (tokens_of (first_place text) None qs ≡ tokens_with d ps))
-
-pub precedes_start : (text : List ℕ) (c : Cutter) → c.found.items ≡ [] → c.at ≡ first_place text → c.docs ≡ None → Precedes text c
-precedes_start text c found at docs ps h = (ps, (h.0 ∙ ap (λ n. drop n text) at, h.1), sym (ap (λ f. f ++ tokens_of c.at c.docs ps) found ∙ ap₂ (λ n o. tokens_of n o ps) at docs))
-
-pub follows_start : (text : List ℕ) (c : Cutter) (items : List Refusal) → c.found.items ≡ [] → c.at ≡ first_place text → c.docs ≡ None → Follows text c items items
-follows_start text c items found at docs qs h = (refl, (qs, (h.0 ∙ ap (λ n. drop n text) (sym at), h.1), sym (ap (λ f. f ++ tokens_of c.at c.docs qs) found ∙ ap₂ (λ n o. tokens_of n o qs) at docs)))
 
 pub precedes_more : (text : List ℕ) (c d : Cutter) → Precedes text c → LeadsBack text c d → Precedes text d
 precedes_more text c d f g ps h = let q = g ps h in let r = f q.0 q.1 in (r.0, r.1, r.2 ∙ q.2)
