@@ -16,24 +16,8 @@ use wac_aggregator_memo::{Memo, parts_first};
 use wac_component::valid::add_valid_module_type;
 use wac_component::{
     DefinedTypeId, EntryId, FuncTypeId, InterfaceId, ItemKind, ModuleTypeId, ResourceId, Types,
-    WorldId, id_at, item_ids, items_ids,
+    WorldId, id_at, items_ids,
 };
-
-/// Copies an item.
-pub fn copy_item(
-    own: &mut Types,
-    copies: &mut Memo,
-    types: &Types,
-    kind: ItemKind,
-) -> Result<ItemKind, AllocError>
-    requires source { AllStand types.now (item_keys kind) }
-    requires state { MayCopy types.now own.old copies.old }
-    ensures { IfOk result (λ k. Copies types.now own.old copies.old own.new copies.new (item_keys kind) (λ t. IsCopiedItem types.now t kind k)) }
-{
-    let ids = item_ids(copies.alloc(), &kind)?;
-    copy_ids(own, copies, types, &ids)?;
-    Ok(copies.renamed_item(kind))
-}
 
 /// Copies items under names.
 pub fn copy_externs(

@@ -4,4 +4,4 @@
 
 mod copies;
 
-pub use copies::{copy_externs, copy_item};
+pub use copies::copy_externs;

@@ -25,7 +25,7 @@ mod standing;
 mod taken_out;
 
 pub use module_error::ModuleError;
-pub use naming::{EntryId, id_at, item_ids, items_ids, put_ids};
+pub use naming::{EntryId, id_at, items_ids, put_ids};
 pub use replace::ReplaceError;
 pub use taken_out::{contents_ids, lead_to, put_back, take_out};
 

@@ -85,15 +85,15 @@ impl World {
 fn add_used_by_imports<'a>(
     imports: &IndexMap<String, ItemKind>,
     types: &'a Types,
-    interfaces: &mut IndexMap<&'a str, ItemKind>,
+    found: &mut IndexMap<&'a str, ItemKind>,
 ) -> Result<(), TargetError>
     requires standing { AllStand types.now (named_keys item_keys (named (λ k. k) imports.now.entries)) }
-    requires items { AllStand types.now (named_keys item_keys (instances interfaces.old.entries)) }
-    ensures items { AllStand types.now (named_keys item_keys (instances interfaces.new.entries)) }
-    ensures adds { VisitsEach (AddsInstance types.now) (instances interfaces.old.entries) (flat_map (used_by_import types.now) (types_of imports.now.entries)) result (instances interfaces.new.entries) }
+    requires items { AllStand types.now (named_keys item_keys (instances found.old.entries)) }
+    ensures items { AllStand types.now (named_keys item_keys (instances found.new.entries)) }
+    ensures adds { VisitsEach (AddsInstance types.now) (instances found.old.entries) (flat_map (used_by_import types.now) (types_of imports.now.entries)) result (instances found.new.entries) }
 {
     for i in 0..imports.len() {
-        add_used_by_import(*value_at(imports, i), types, interfaces)?;
+        add_used_by_import(*value_at(imports, i), types, found)?;
     }
     Ok(())
 }

@@ -19,8 +19,8 @@ pub mod visits;
 pub mod worlds;
 
 pub use collection::{
-    EntryId, ModuleError, ReplaceError, Types, contents_ids, id_at, item_ids, items_ids, lead_to,
-    put_back, put_ids, take_out,
+    EntryId, ModuleError, ReplaceError, Types, contents_ids, id_at, items_ids, lead_to, put_back,
+    put_ids, take_out,
 };
 pub use defined::{DefinedType, Enum, Flags, Record, Variant};
 pub use functions::{FuncKind, FuncType};

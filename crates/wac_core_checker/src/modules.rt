@@ -56,7 +56,7 @@ fn imports_fit(
     a: &ModuleType,
     b: &ModuleType,
 ) -> Result<(), SubtypeError>
-    ensures { MatchResult result (λ _. AreCoreServed import_name_eq (module_content b.now).imports (module_content a.now).imports) (ExplainsModules check (module_content a.now) (module_content b.now)) }
+    ensures { let x = module_content a.now in let y = module_content b.now in MatchResult result (λ _. AreCoreServed import_name_eq y.imports x.imports) (ExplainsModules check x y) }
 {
     for i in 0..a.imports.len() {
         let (name, asked) = import_at(a, i);

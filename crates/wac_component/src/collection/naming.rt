@@ -98,15 +98,6 @@ pub(crate) fn named_ids(alloc: Global, all: &AllParts<'_>) -> Result<Vec<EntryId
     Ok(ids)
 }
 
-/// The id in an item, or none.
-pub fn item_ids(alloc: Global, kind: &ItemKind) -> Result<Vec<EntryId>, AllocError>
-    ensures { IfOk result (λ ids. map key_of ids.items ≡ item_keys kind.now) }
-{
-    let mut ids = Vec::new(alloc);
-    push_id(&mut ids, place_id(Some(*kind)))?;
-    Ok(ids)
-}
-
 /// The ids in items under names, in order.
 pub fn items_ids(
     alloc: Global,

@@ -8,6 +8,6 @@ use Rattle.wac_component.proofs.implicit.add_used_by_imports.Given as goal
 
 abbrev pub invariant-loop-i : goal.invariant-loop-i
 invariant-loop-i l = record {
-  items : AllStand l.types (named_keys item_keys (instances l.interfaces.entries));
-  rest : Remains (AddsInstance l.types) (instances l.fn.interfaces.entries) (flat_map (used_by_import l.types) (types_of l.imports.entries)) (instances l.interfaces.entries) (flat_map (used_by_import l.types) (drop l.i (types_of l.imports.entries)));
+  items : AllStand l.types (named_keys item_keys (instances l.found.entries));
+  rest : Remains (AddsInstance l.types) (instances l.fn.found.entries) (flat_map (used_by_import l.types) (types_of l.imports.entries)) (instances l.found.entries) (flat_map (used_by_import l.types) (drop l.i (types_of l.imports.entries)));
 }
