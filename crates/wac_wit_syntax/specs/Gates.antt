@@ -25,6 +25,10 @@ pub data AreGates (s : Source) : Option Gate → Option Gate → Option Gate →
   unstable : {gate : Gate} {n d : Option Gate} {i k j : ℕ} → AreGates s n None d i k → IsGate (codes "unstable") true gate s k j → AreGates s n (Some gate) d i j
   deprecated : {gate : Gate} {n u : Option Gate} {i k j : ℕ} → AreGates s n u None i k → IsGate (codes "deprecated") false gate s k j → AreGates s n u (Some gate) i j
 
+-- the attributes that were read so far
+abbrev pub AreGatesOf : Gates → Production
+AreGatesOf g = λ s i j. AreGates s g.since g.unstable g.deprecated i j
+
 -- the attributes of an item, and the documentation before its first token; `@since` doesn't stand beside `@unstable`
 abbrev pub AreExclusive : Gates → Type 0
 AreExclusive g = (g.since ≡ None) ⊎ (g.unstable ≡ None)

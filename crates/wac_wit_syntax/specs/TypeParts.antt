@@ -120,6 +120,16 @@ abbrev pub Stage : Bool → TypeWord → List TypeExpr → Bool → Option ℕ �
 Stage true w ts lacks n = Begun w ts lacks n
 Stage false w ts lacks n = Whole w ts lacks n
 
+-- what was read behind the word: the reader's parts, before the next one, behind one, and at a stage
+abbrev pub AreBegun : TypeWord → Parts → Production
+AreBegun w p = Begun w p.types.items p.lacks_first p.length
+
+abbrev pub AreParted : TypeWord → Parts → Production
+AreParted w p = Parted w p.types.items p.lacks_first p.length
+
+abbrev pub AreAtStage : Bool → TypeWord → Parts → Production
+AreAtStage more w p = Stage more w p.types.items p.lacks_first p.length
+
 -- the type that is made of a word and all that stands behind it, on this place
 abbrev pub IsTypeMade : TypeWord → List TypeExpr → Bool → Option ℕ → Span → TypeExpr → Type 0
 IsTypeMade w ts lacks n span t = (s : Source) (i k j : ℕ) → IsWord (word_text w) s i k → Whole w ts lacks n s k j → IsSpan span s i j → IsType s t i j

@@ -5,7 +5,7 @@ ghost use Rattle.wac_wit_syntax.specs.Behind.{HasNoGate};
 ghost use Rattle.wac_wit_syntax.specs.Completing.{AnyOf, Completes, NotBefore};
 ghost use Rattle.wac_wit_syntax.specs.Cursors.{Reads, ReadsBehind, source};
 ghost use Rattle.wac_wit_syntax.specs.GateParts.{TakesGate};
-ghost use Rattle.wac_wit_syntax.specs.Gates.{AreExclusive, AreGates, IsGateField, IsGates};
+ghost use Rattle.wac_wit_syntax.specs.Gates.{AreExclusive, AreGatesOf, IsGateField, IsGates};
 ghost use Rattle.wac_wit_syntax.specs.Productions.{◌▸◌, IsKind, token_at};
 ghost use Rattle.wac_wit_syntax.specs.declared.cursor.Cursor.{Cursor};
 ghost use Rattle.wac_wit_syntax.specs.declared.tree.Gate.{Gate};
@@ -66,7 +66,7 @@ fn refuse_both(cursor: &mut Cursor, gates: &Gates, span: Span) -> Result<(), Fau
 
 // Reads an attribute after its `@`.
 fn read_gate(cursor: &mut Cursor, gates: &mut Gates) -> Result<(), Fault>
-    ensures read { OnOk result ((first at : Cursor) → Reads first at (λ s i j. AreGates s gates.old.since gates.old.unstable gates.old.deprecated i j) → Reads at cursor.old (IsKind TokenKind.At) → Reads first cursor.new (λ s i j. AreGates s gates.new.since gates.new.unstable gates.new.deprecated i j)) }
+    ensures read { OnOk result ((first at : Cursor) → Reads first at (AreGatesOf gates.old) → Reads at cursor.old (IsKind TokenKind.At) → Reads first cursor.new (AreGatesOf gates.new)) }
     ensures docs { OnOk result (gates.new.docs ≡ gates.old.docs) }
     ensures complete { TakesGate cursor.old cursor.new gates.old gates.new result }
 {

@@ -3,8 +3,8 @@
 ghost use Rattle.std.specs.Prelude.{◌≢◌, ℕ, Bool, IfOk};
 ghost use Rattle.wac_wit_syntax.specs.Completing.{AllBegin, AnyOf, BeforeEnd, Completes, IsCloser, IsListOf};
 ghost use Rattle.wac_wit_syntax.specs.Cursors.{Reads};
-ghost use Rattle.wac_wit_syntax.specs.Lists.{IsBlock, Separated};
-ghost use Rattle.wac_wit_syntax.specs.Productions.{◌▸◌, IsKind, Source};
+ghost use Rattle.wac_wit_syntax.specs.Lists.{IsBlock, IsListing};
+ghost use Rattle.wac_wit_syntax.specs.Productions.{Source};
 
 use super::cursor::Cursor;
 use super::error::Fault;
@@ -69,8 +69,8 @@ pub(crate) struct ListForm {
 
 /// Reads a list.
 pub(crate) fn read_list<T: Member>(cursor: &mut Cursor, form: ListForm) -> Result<Vec<T>, Fault>
-    ensures read { IfOk result (λ members. form.open ≢ TokenKind.End → form.close ≢ TokenKind.End → Reads cursor.old cursor.new (IsKind form.open ▸ Separated (T.member form.needs_alias) members.items ▸ IsKind form.close)) }
-    ensures complete { AllBegin (T.member form.needs_alias) → IsCloser form.close → form.open ≢ TokenKind.End → Completes cursor.old cursor.new result (IsListOf form.open (T.member form.needs_alias) form.close) }
+    ensures read { IfOk result (λ xs. form.open ≢ TokenKind.End → form.close ≢ TokenKind.End → Reads cursor.old cursor.new (IsListing form.open (T.member form.needs_alias) form.close xs.items)) }
+    ensures complete { let P = T.member form.needs_alias in AllBegin P → IsCloser form.close → form.open ≢ TokenKind.End → Completes cursor.old cursor.new result (IsListOf form.open P form.close) }
 {
     cursor.expect(form.open)?;
     let mut members = Vec::new(cursor.alloc);

@@ -6,7 +6,7 @@ ghost use Rattle.wac_model.specs.declared.primitive.PrimitiveType.{PrimitiveType
 ghost use Rattle.wac_wit_syntax.specs.Completing.{AnyOf, Completes, Eats, ComesTo, IsReadable, NotBefore};
 ghost use Rattle.wac_wit_syntax.specs.Cursors.{Reads, ReadsBehind, source};
 ghost use Rattle.wac_wit_syntax.specs.Productions.{◌▸◌, IsKind, IsName, SaysWord, token_at};
-ghost use Rattle.wac_wit_syntax.specs.TypeParts.{AreEnough, BeginsPlain, Begun, EndsPart, HasMapKey, IsPlainType, IsTypeAhead, IsTypeMade, KeepsKey, OpensParts, Parted, ReadsOther, Stage, TakesLast, is_empty, is_first, may_end, may_go_on, next_is_type, stands_alone, word_text};
+ghost use Rattle.wac_wit_syntax.specs.TypeParts.{AreAtStage, AreBegun, AreEnough, AreParted, BeginsPlain, EndsPart, HasMapKey, IsPlainType, IsTypeAhead, IsTypeMade, KeepsKey, OpensParts, ReadsOther, Stage, TakesLast, is_empty, is_first, may_end, may_go_on, next_is_type, stands_alone, word_text};
 ghost use Rattle.wac_wit_syntax.specs.Types.{IsLength, IsTypeOf, SaysLength, is_key};
 ghost use Rattle.wac_wit_syntax.specs.declared.cursor.Cursor.{Cursor};
 ghost use Rattle.wac_wit_syntax.specs.declared.error.Fault.TheVariants.{Memory};
@@ -230,7 +230,7 @@ fn stands_alone(word: TypeWord) -> bool
 
 // Reads the next part, if it is none of the types: the `_` of a result, the length of a list.
 fn read_other(cursor: &mut Cursor, word: TypeWord, parts: &mut Parts) -> Result<bool, Fault>
-    ensures other { IfOk result (λ is_other. is_other ≡ true → (before : Cursor) → Reads before cursor.old (Begun word parts.old.types.items parts.old.lacks_first parts.old.length) → Reads before cursor.new (Parted word parts.new.types.items parts.new.lacks_first parts.new.length)) }
+    ensures other { IfOk result (λ is_other. is_other ≡ true → (before : Cursor) → Reads before cursor.old (AreBegun word parts.old) → Reads before cursor.new (AreParted word parts.new)) }
     ensures left { IfOk result (λ is_other. is_other ≡ false → (cursor.new ≡ cursor.old) × (parts.new ≡ parts.old)) }
     ensures ty { IfOk result (λ is_other. is_other ≡ false → next_is_type word parts.old.types.items parts.old.lacks_first ≡ true) }
     ensures complete { ReadsOther cursor.old cursor.new word parts.old parts.new result }
@@ -301,7 +301,7 @@ fn length_of(cursor: &Cursor) -> Option<u32>
 
 // Takes the comma or the angle behind a part; whether another part follows.
 fn goes_on(cursor: &mut Cursor, word: TypeWord, parts: &Parts) -> Result<bool, Fault>
-    ensures read { IfOk result (λ is_open. (before : Cursor) → Reads before cursor.old (Parted word parts.now.types.items parts.now.lacks_first parts.now.length) → Reads before cursor.new (Stage is_open word parts.now.types.items parts.now.lacks_first parts.now.length)) }
+    ensures read { IfOk result (λ is_open. (before : Cursor) → Reads before cursor.old (AreParted word parts.now) → Reads before cursor.new (AreAtStage is_open word parts.now)) }
     ensures complete { EndsPart cursor.old cursor.new word parts.now result }
 {
     if eats_comma(cursor, word, parts) {
