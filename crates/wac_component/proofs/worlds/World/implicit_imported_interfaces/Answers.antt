@@ -19,10 +19,10 @@ add_used_by_imports-requires-clause-standing c = world_imports_stand c.args.type
 pub returns-in_err-add_used_by_imports-clause-err : goal.returns-in_err-add_used_by_imports-clause-err
 returns-in_err-add_used_by_imports-clause-err c =
     let answer : c.from_residual-in_err-add_used_by_imports.result ≡ Err c.in_err-add_used_by_imports.field-0.0 = search rules in
-    rw answer (imports-refused c.args.types.now c.args.self.now (instances c.new-interfaces.result.entries) (instances c.add_used.new.interfaces.entries) (instances c.add_used_by_imports.new.interfaces.entries) c.in_err-add_used_by_imports.field-0.0 c.in_ok-add_used.ensures.adds c.in_err-add_used_by_imports.ensures.adds)
+    rw answer (imports-refused c.args.types.now c.args.self.now (instances c.new-interfaces.result.entries) (instances c.add_used.new.interfaces.entries) (instances c.add_used_by_imports.new.found.entries) c.in_err-add_used_by_imports.field-0.0 c.in_ok-add_used.ensures.adds c.in_err-add_used_by_imports.ensures.adds)
 
 pub returns-clause-imports : goal.returns-clause-imports
-returns-clause-imports c = all-told c.args.types.now c.args.self.now (instances c.new-interfaces.result.entries) (instances c.add_used.new.interfaces.entries) (instances c.add_used_by_imports.new.interfaces.entries) (ap instances c.new-interfaces.ensures.empty) c.in_ok-add_used.ensures.adds c.in_ok-add_used_by_imports.ensures.adds
+returns-clause-imports c = all-told c.args.types.now c.args.self.now (instances c.new-interfaces.result.entries) (instances c.add_used.new.interfaces.entries) (instances c.add_used_by_imports.new.found.entries) (ap instances c.new-interfaces.ensures.empty) c.in_ok-add_used.ensures.adds c.in_ok-add_used_by_imports.ensures.adds
 
 pub returns-clause-identified : goal.returns-clause-identified
-returns-clause-identified c = all-identified c.args.types.now c.args.self.now (instances c.new-interfaces.result.entries) (instances c.add_used.new.interfaces.entries) (instances c.add_used_by_imports.new.interfaces.entries) c.in_ok-add_used.ensures.adds c.in_ok-add_used_by_imports.ensures.adds
+returns-clause-identified c = all-identified c.args.types.now c.args.self.now (instances c.new-interfaces.result.entries) (instances c.add_used.new.interfaces.entries) (instances c.add_used_by_imports.new.found.entries) c.in_ok-add_used.ensures.adds c.in_ok-add_used_by_imports.ensures.adds
