@@ -6,19 +6,15 @@ use Rattle.wac_model.specs.Text.{Text}
 use Rattle.wac_model.specs.Order.{Fits}
 use Rattle.wac_model.proofs.ItemOrder.{Fits-refl, Fits-trans}
 use Rattle.wac_component.specs.Collection.{Collection}
-use Rattle.wac_component.specs.Entries.{identifier_at}
-use Rattle.wac_component.specs.Key.{Key, Each, Stands, AllStand, item_keys}
+use Rattle.wac_component.specs.Key.{Key, Each, AllStand, item_keys}
 use Rattle.wac_component.specs.Tree.{item_tree}
 use Rattle.wac_component.specs.declared.items.ItemKind.{ItemKind}
-use Rattle.wac_names.specs.Class.{Class, class_eq, class_of}
+use Rattle.wac_names.specs.Class.{class_eq, class_of}
 use Rattle.wac_names.proofs.Classes.{classes_decided}
 use Rattle.wac_aggregator_narrowing.specs.Identified.{IsCovered}
 use Rattle.wac_aggregator_narrowing.specs.Imports.{IsImportFor, ImportsFit}
 use Rattle.wac_aggregator_narrowing.specs.Remembers.{RemembersTruly}
-use Rattle.wac_aggregator_narrowing.specs.State.{State, IsStateKept, IsOneWith, RunsTaking}
-use Rattle.wac_aggregator_narrowing.proofs.GrowsTo.{grows_kept, grows_truly, grows_identifier, grows_fits, grows_tree}
-use Rattle.wac_aggregator_narrowing.specs.Alone.{LeavesOut, growing_keys}
-use Rattle.wac_aggregator_narrowing.proofs.Alone.{left_out}
+use Rattle.wac_aggregator_narrowing.specs.State.{State, IsStateKept, RunsTaking}
 use Rattle.wac_aggregator_narrowing.proofs.Running.{RunsTaking-step, RunsTaking-trans, RunsTaking-import}
 use Rattle.wac_aggregator_narrowing.proofs.Remembered.{RemembersTruly-step}
 use Rattle.wac_aggregator_promises.specs.Aggregated.{IsCallStep, IsByTrack}
@@ -31,7 +27,6 @@ use Rattle.wac_component.proofs.Among.{among_each}
 use Rattle.wac_aggregator_reasons.specs.Sharing.{of_import}
 use Rattle.wac_aggregator_reasons.specs.Trial.{IsTrial, IsAccounted, IsOpenSource}
 use Rattle.wac_aggregator_reasons.proofs.Accounts.{root_open, accounted_imports}
-use Rattle.wac_aggregator_taking.specs.Growing.{with_own}
 use Rattle.wac_aggregator_taking.specs.Takes.{shared_keys, state_of, MayTake}
 use Rattle.wac_aggregator_taking.specs.declared.state.Merging.{Merging}
 use Rattle.wac_aggregator.specs.Advances.{IsImportPlaced, Advances, added, noted}
@@ -65,11 +60,11 @@ module _ (call : Call) (a b : Merging) (may : MayTake call.types a) (filed_a : A
 
   -- the state once entries were added
   abbrev mid : State
-  mid = record (state_of h.taken) { own = h.mid }
+  mid = record (state_of h.taken) { own = b.types }
 
   to_mid : RunsTaking (RemembersTruly class_of) f (state_of h.taken) mid
-  to_mid = RunsTaking-step (RemembersTruly class_of) f (state_of h.taken) h.mid ss (λ k. h.on.steps ss k.good)
-      (λ k g t. let s = h.on.steps ss k.good in RemembersTruly-step class_of g (state_of h.taken) h.mid ss s.narrows s.stops t)
+  to_mid = RunsTaking-step (RemembersTruly class_of) f (state_of h.taken) b.types ss (λ k. h.on.steps ss k.good)
+      (λ k g t. let s = h.on.steps ss k.good in RemembersTruly-step class_of g (state_of h.taken) b.types ss s.narrows s.stops t)
 
   -- the imports before, and now
   was_or : (P : ItemKind → Type 0) → P h.import → ((n : Text) (x : ItemKind) → import_at h.taken.imports n ≡ Some x → P x) → (n : Text) (x : ItemKind) → import_at b.imports n ≡ Some x → P x
@@ -82,84 +77,53 @@ module _ (call : Call) (a b : Merging) (may : MayTake call.types a) (filed_a : A
           subst P same new
       by false e = old n x (ap (option_map (λ (j : ImportContent). j.1)) (sym (placed_other a.imports h.taken.imports b.imports call.name h.import placing h.takes.stays (class_of n) e)) ∙ at)
 
-  fit : IsStateKept mid → ImportsFit h.mid (import_at h.taken.imports) h.mid (import_at b.imports)
+  fit : IsStateKept mid → ImportsFit b.types (import_at h.taken.imports) b.types (import_at b.imports)
   fit kept n x at = by (class_eq (call_track call) (class_of n)) refl
     where
       stood : AllStand h.taken.types (item_keys x)
       stood = taken_kept.imports n x at
 
-      by : (t : Bool) → class_eq (call_track call) (class_of n) ≡ t → IsImportFor h.mid (import_at b.imports n) h.mid x
+      by : (t : Bool) → class_eq (call_track call) (class_of n) ≡ t → IsImportFor b.types (import_at b.imports n) b.types x
       by true e =
           let on : call_track call ≡ class_of n = (classes_decided (call_track call) (class_of n)).0 e in
           let i = of_at h.taken.imports n x at in
           record {
             import = h.import;
             is = at_of b.imports n (placing.as_name, h.import) (ap (import_of b.imports) (sym on) ∙ placed_here a.imports h.taken.imports b.imports call.name h.import placing h.takes.stays);
-            fits = subst (λ t. Fits (item_tree h.mid h.import) t) (sym (h.on.grows.trees x stood)) (by_place h.placed i.0 (ap (import_of h.taken.imports) on ∙ i.1) i.2);
+            fits = subst (λ t. Fits (item_tree b.types h.import) t) (sym (h.on.grows.trees x stood)) (by_place h.placed i.0 (ap (import_of h.taken.imports) on ∙ i.1) i.2);
           }
         where
-          by_place : IsImportPlaced a.imports h.taken.imports b.imports call.name h.import → (i : ImportContent) → import_of h.taken.imports (call_track call) ≡ Some i → i.1 ≡ x → Fits (item_tree h.mid h.import) (item_tree h.taken.types x)
+          by_place : IsImportPlaced a.imports h.taken.imports b.imports call.name h.import → (i : ImportContent) → import_of h.taken.imports (call_track call) ≡ Some i → i.1 ≡ x → Fits (item_tree b.types h.import) (item_tree h.taken.types x)
           by_place (added before none puts led) i here is = absurd (let no : None ≡ Some i = sym none ∙ here in cc)
           by_place (noted j before is_noted) i here is =
               let same : j ≡ i = let both : Some j ≡ Some i = sym (h.takes.stays (call_track call) j before) ∙ here in cc in
-              subst (λ y. Fits (item_tree h.mid h.import) (item_tree h.taken.types y)) (ap (λ (k : ImportContent). k.1) same ∙ is) (h.existing_first j before)
+              subst (λ y. Fits (item_tree b.types h.import) (item_tree h.taken.types y)) (ap (λ (k : ImportContent). k.1) same ∙ is) (h.existing j before)
       by false e =
           record {
             import = x;
             is = ap (option_map (λ (j : ImportContent). j.1)) (placed_other a.imports h.taken.imports b.imports call.name h.import placing h.takes.stays (class_of n) e) ∙ at;
-            fits = Fits-refl (item_tree h.mid x);
+            fits = Fits-refl (item_tree b.types x);
           }
 
-  -- then the import is placed
-  abbrev pub placed_state : State
-  placed_state = with_own (state_of b) h.mid
-
-  pub rest : RunsTaking (RemembersTruly class_of) f (state_of h.taken) placed_state
-  rest = subst (λ (m : Merging). RunsTaking (RemembersTruly class_of) f (state_of h.taken) (with_own (state_of m) h.mid)) (sym h.same)
+  pub rest : RunsTaking (RemembersTruly class_of) f (state_of h.taken) (state_of b)
+  rest = subst (λ (m : Merging). RunsTaking (RemembersTruly class_of) f (state_of h.taken) (state_of m)) (sym h.same)
       (RunsTaking-trans (RemembersTruly class_of) f (state_of h.taken) mid (record mid { imports = import_at b.imports }) to_mid
       (RunsTaking-import (RemembersTruly class_of) f mid (import_at b.imports)
-      (λ kept. was_or (λ x. AllStand h.mid (item_keys x)) h.stands kept.imports)
-      (λ kept. was_or (λ x. Each (IsCovered h.mid ss) (item_keys x)) h.covered kept.imports_covered)
+      (λ kept. was_or (λ x. AllStand b.types (item_keys x)) h.stands kept.imports)
+      (λ kept. was_or (λ x. Each (IsCovered b.types ss) (item_keys x)) h.covered kept.imports_covered)
       fit
       (λ g t. record { taken = t.taken; copies = t.copies; closed = t.closed })))
 
-  pub run : RunsTaking (RemembersTruly class_of) f (state_of a) placed_state
-  run = RunsTaking-trans (RemembersTruly class_of) f (state_of a) (state_of h.taken) placed_state h.takes.run rest
+  pub run : RunsTaking (RemembersTruly class_of) f (state_of a) (state_of b)
+  run = RunsTaking-trans (RemembersTruly class_of) f (state_of a) (state_of h.taken) (state_of b) h.takes.run rest
 
-  pub placed_kept : IsStateKept placed_state
-  placed_kept = run.kept may.kept
-
-  -- and grows
-  pub kept_now : IsStateKept (state_of b)
-  kept_now = grows_kept placed_state b.types placed_kept h.grows
-
-  pub truly_now : (g : Collection) → IsOneWith f g → RemembersTruly class_of g (state_of a) → RemembersTruly class_of g (state_of b)
-  truly_now g one t = grows_truly placed_state b.types placed_kept h.grows class_of g (run.truly may.kept g one t)
-
-  pub identifier_stays : (k : Key) → Stands h.taken.types k → identifier_at b.types k ≡ identifier_at h.taken.types k
-  identifier_stays k st = grows_identifier placed_state b.types placed_kept h.grows k ((rest.narrows taken_kept).standing k st) ∙ (rest.stops taken_kept).identifiers k st
-
-  -- what is imported on another track doesn't name what grows, and keeps its tree
-  module _ (t : Class) (i : ImportContent) (other : class_eq (call_track call) t ≡ false) (at : import_of a.imports t ≡ Some i) where
-    at_now : import_of b.imports t ≡ Some i
-    at_now = placed_other a.imports h.taken.imports b.imports call.name h.import placing h.takes.stays t other ∙ h.takes.stays t i at
-
-    pub stands_placed : AllStand h.mid (item_keys i.1)
-    stands_placed = placed_kept.imports i.0 i.1 (at_of b.imports i.0 i (ap (import_of b.imports) (filed_b.imports t i at_now) ∙ at_now))
-
-    pub leaves_grown : (k : Key) → IsAmong k (growing_keys h.grows) → LeavesOut k (item_keys i.1)
-    leaves_grown k n = left_out k (item_keys i.1) (λ among. let no : false ≡ true = sym other ∙ (classes_decided (call_track call) t).1 (h.grows_here k n t i at_now among) in absurd (cc))
-
-    pub other_tree : item_tree b.types i.1 ≡ item_tree h.mid i.1
-    other_tree = grows_tree placed_state b.types placed_kept h.grows i.1 stands_placed leaves_grown
-
-  -- all stays accounted for until it grows
-  pub call_accounts : (at : Attempt) → IsTrial at call.types (item_keys call.kind) → IsAccounted at (state_of a) → IsAccounted at placed_state
+  -- all stays accounted for
+  pub call_accounts : (at : Attempt) → IsTrial at call.types (item_keys call.kind) → IsAccounted at (state_of a) → IsAccounted at (state_of b)
   call_accounts at trial all =
       let now = h.accounts at trial all in
       let stays = accounted_imports at mid (record mid { imports = import_at b.imports }) (to_mid.kept taken_kept) refl refl refl refl
       (was_or (λ x. (k : Key) → IsAmong k (item_keys x) → IsOpenSource at mid k) (λ k m. among_each (IsOpenSource at mid) k (item_keys h.import) m now.1) (λ n x is k m. root_open at mid k now.0 (of_import {n = n} is m))) now.0 in
-      subst (λ (m : Merging). IsAccounted at (with_own (state_of m) h.mid)) (sym h.same) stays.now
+      subst (λ (m : Merging). IsAccounted at (state_of m)) (sym h.same) stays.now
 
   -- the import serves
   pub fits_item : Fits (item_tree b.types h.import) (call_tree call)
@@ -170,8 +134,7 @@ module _ (call : Call) (a b : Merging) (may : MayTake call.types a) (filed_a : A
   leads_below n i l =
       let m = run.imports may.kept n i.1 (at_of a.imports n i l.import) in
       let j = of_at b.imports n m.import m.is in
-      let fits = Fits-trans (item_tree b.types m.import) (item_tree h.mid m.import) (item_tree a.types i.1) (grows_fits placed_state b.types placed_kept h.grows m.import (placed_kept.imports n m.import m.is)) m.fits in
-      (j.0, leads-on a.imports h.taken.imports b.imports call.name h.import placing h.takes.stays n i j.0 l j.1, subst (λ x. Fits (item_tree b.types x) (item_tree a.types i.1)) (sym j.2) fits)
+      (j.0, leads-on a.imports h.taken.imports b.imports call.name h.import placing h.takes.stays n i j.0 l j.1, subst (λ x. Fits (item_tree b.types x) (item_tree a.types i.1)) (sym j.2) m.fits)
 
   pub advances_step : IsCallStep (shown (content_of a)) (shown (content_of b)) call
   advances_step = record {

@@ -1,5 +1,5 @@
 -- A call whose item was taken in advances the state.
-use Rattle.std.proofs.Common.{◌≡◌, [], ◌∷◌, Bool, true, false, Option, Some, None, IsSome, IfSome, Result, Ok, Err, OnOk, IfOk, refl, ap, sym, ◌∙◌, subst}
+use Rattle.std.proofs.Common.{◌≡◌, [], ◌∷◌, Option, Some, None, IsSome, IfSome, Result, Ok, Err, OnOk, IfOk, refl, ap, sym, ◌∙◌, subst}
 use Rattle.std.specs.Option.{option_map}
 use Rattle.wac_model.specs.Text.{Text}
 use Rattle.wac_model.specs.ItemTree.{ItemTree}
@@ -8,13 +8,10 @@ use Rattle.wac_model.proofs.ItemOrder.{Fits-refl}
 use Rattle.wac_component.specs.Collection.{Collection}
 use Rattle.wac_component.specs.Height.{keys_height}
 use Rattle.wac_component.specs.Id.{Id}
-use Rattle.wac_component.specs.Key.{Key, Each, AllStand, item_keys, interface_key}
+use Rattle.wac_component.specs.Key.{Each, AllStand, item_keys, interface_key}
 use Rattle.wac_component.specs.Tree.{item_tree}
 use Rattle.wac_component.specs.declared.items.ItemKind.{ItemKind}
-use Rattle.wac_component.specs.Reach.{IsAmong}
-use Rattle.wac_names.specs.Class.{Class, class_eq, class_of}
-use Rattle.wac_names.proofs.Classes.{classes_decided}
-use Rattle.wac_aggregator_narrowing.specs.Alone.{nothing, growing_keys}
+use Rattle.wac_names.specs.Class.{Class, class_of}
 use Rattle.wac_aggregator_narrowing.specs.Identified.{IsCovered, IsUnstopped}
 use Rattle.wac_aggregator_narrowing.specs.State.{IsStateKept}
 use Rattle.wac_aggregator_narrowing.specs.Taking.{IsTakenItem}
@@ -23,14 +20,15 @@ use Rattle.wac_aggregator_promises.specs.Call.{Call, call_track}
 use Rattle.wac_aggregator_imports.specs.Import.{ImportContent, ImportsContent, import_of, import_at, IsImportNoted}
 use Rattle.wac_aggregator_promises.specs.Attempt.{Attempt}
 use Rattle.wac_aggregator_reasons.specs.Trial.{IsTrial, IsAccounted, IsOpenSource}
-use Rattle.wac_aggregator_taking.specs.Growing.{with_own}
+use Rattle.wac_aggregator_reasons.proofs.Accounts.{accounted_built}
+use Rattle.wac_aggregator_taking.specs.Growing.{IsOwnMeet, with_own}
 use Rattle.wac_aggregator_taking.specs.Takes.{shared_keys, state_of, MayTake, IsOwnEntry, IsNear, Takes}
 use Rattle.wac_aggregator_taking.specs.declared.state.Merging.{Merging}
 use Rattle.wac_aggregator_taking.proofs.GrowLemmas.{StepsOn-refl}
+use Rattle.wac_aggregator_taking.proofs.MergeReasons.{met_sources}
 use Rattle.wac_aggregator_taking.proofs.TakeLemmas.{near_none}
-use Rattle.wac_aggregator.specs.Advances.{IsImportPlaced, added, noted, Advances, GrowsOpenly, PutsLast, IsMetInto, IsMerged}
-use Rattle.wac_aggregator.proofs.Leading.{placed_as, placed_other}
-use Rattle.wac_aggregator.proofs.MetInto.{grows_any, keys_any, openly_any}
+use Rattle.wac_aggregator.specs.Advances.{added, noted, Advances, PutsLast, IsMerged}
+use Rattle.wac_aggregator.proofs.Unstopped.{met_unstopped}
 use Rattle.wac_aggregator.proofs.Trying.{import_open, own_open, taken_accounted}
 
 -- the import of which this is the item
@@ -49,7 +47,7 @@ near_import a name existing kept at (Some j) h i is =
 
 module _ (call : Call) (a mid : Merging) (own : ItemKind) (may : MayTake call.types a)
     (takes : Takes call.types a mid (keys_height call.types (item_keys call.kind)) (item_keys call.kind) (λ t. IsTakenItem class_of call.types t call.kind own)) where
-  pub own_covered : Each (IsCovered mid.types (shared_keys mid.shared.entries)) (item_keys own)
+  own_covered : Each (IsCovered mid.types (shared_keys mid.shared.entries)) (item_keys own)
   own_covered = taken_each class_of call.types (state_of mid) (IsCovered mid.types (shared_keys mid.shared.entries)) (λ i j k. k.covered) (item_keys call.kind) (item_keys own) takes.holds.keys
 
   -- as a new import
@@ -59,25 +57,19 @@ module _ (call : Call) (a mid : Merging) (own : ItemKind) (may : MayTake call.ty
     own = own;
     takes = takes;
     same = refl;
-    mid = mid.types;
     on = StepsOn-refl mid.types;
-    grows = nothing refl;
-    grows_here = λ k n. elim n [ ];
     import = own;
     stands = takes.holds.stands;
     covered = own_covered;
     fits = Fits-refl (item_tree mid.types own);
-    existing_first = λ i at. absurd (let no : None ≡ Some i = sym none ∙ at in cc);
     existing = λ i at. absurd (let no : None ≡ Some i = sym none ∙ at in cc);
     alone = λ q. refl;
     alone_tree = λ q. refl;
     kept = λ i at. absurd (let no : None ≡ Some i = sym none ∙ at in cc);
-    unstopped_alone = λ q h. h;
     unstopped = λ i at. absurd (let no : None ≡ Some i = sym none ∙ at in cc);
     greatest = λ i at. absurd (let no : None ≡ Some i = sym none ∙ at in cc);
     placed = added none h.none h.puts h.led;
     accounts = λ at trial all. (taken_accounted call a may mid own takes at trial all, own_open call a may mid own takes at trial all);
-    grown_open = λ at trial all. tt;
   }
 
   -- merged into one
@@ -97,59 +89,47 @@ module _ (call : Call) (a mid : Merging) (own : ItemKind) (may : MayTake call.ty
     pub existing_stands : AllStand mid.types (item_keys existing)
     existing_stands = (takes.run.kept may.kept).imports call.name existing at_still
 
-    kept_then : IsStateKept (state_of mid)
-    kept_then = takes.run.kept may.kept
+    -- what is met is open where both are
+    met_accounted : (d : Collection) (m : ItemKind) → IsOwnMeet mid.types d existing own m → (at : Attempt) → IsTrial at call.types (item_keys call.kind) → IsAccounted at (state_of a)
+        → IsAccounted at (with_own (state_of mid) d) × Each (IsOpenSource at (with_own (state_of mid) d)) (item_keys m)
+    met_accounted d m met at trial all =
+        let now = taken_accounted call a may mid own takes at trial all in
+        let kept = takes.run.kept may.kept in
+        let stays = accounted_built at (state_of mid) d existing own met.answer kept met.builds now in (
+          stays.now,
+          met_sources mid.types d existing own m met at (state_of mid) kept existing_stands takes.holds.stands (import_open at mid call.name existing now at_still) (own_open call a may mid own takes at trial all),
+        )
 
-    module _ (b : Merging) (h : IsMerged mid b call.name existing own) where
-      -- what is met is open where both are
-      met_accounted : (at : Attempt) → IsTrial at call.types (item_keys call.kind) → IsAccounted at (state_of a)
-          → IsAccounted at (with_own (state_of mid) h.met.mid) × Each (IsOpenSource at (with_own (state_of mid) h.met.mid)) (item_keys h.import) × GrowsOpenly at h.met.grows
-      met_accounted at trial all =
-          let now = taken_accounted call a may mid own takes at trial all in
-          h.met.accounts at kept_then now (import_open at mid call.name existing now at_still) (own_open call a may mid own takes at trial all)
-
-      is_placed : IsImportPlaced a.imports mid.imports b.imports call.name h.import
-      is_placed = noted was.0 was.1 (h.noted was.0 found_still)
-
-      -- what grows is imported there alone
-      grown_here : (k : Key) → IsAmong k (growing_keys h.met.grows) → (q : Class) (i : ImportContent) → import_of b.imports q ≡ Some i → IsAmong k (item_keys i.1) → call_track call ≡ q
-      grown_here k n q i at among = by (class_eq (call_track call) q) refl
-        where
-          by : (x : Bool) → class_eq (call_track call) q ≡ x → call_track call ≡ q
-          by true e = (classes_decided (call_track call) q).0 e
-          by false e = h.met.here k n q i (sym (placed_other a.imports mid.imports b.imports call.name h.import (placed_as a.imports mid.imports b.imports takes.led call.name h.import is_placed) takes.stays q e) ∙ at) among
-
-      pub merged_advances : Advances call a b
-      merged_advances = subst (λ (m : Merging). Advances call a m) (sym h.same) record {
-        taken = mid;
-        own = own;
-        takes = takes;
-        same = refl;
-        mid = h.met.mid;
-        on = h.met.on;
-        grows = grows_any (with_own (state_of mid) h.met.mid) (import_at b.imports) h.met.grows;
-        grows_here = λ k n. grown_here k (subst (IsAmong k) (keys_any (with_own (state_of mid) h.met.mid) (import_at b.imports) h.met.grows) n);
-        import = h.import;
-        stands = h.met.stands;
-        covered = h.met.covered kept_then (kept_then.imports_covered call.name existing at_still) own_covered;
-        existing_first = λ i at. subst (λ x. Fits (item_tree h.met.mid h.import) (item_tree mid.types x)) (is_existing i at) h.met.first;
-        fits = h.met.fits_second;
-        existing = λ i at. subst (λ x. Fits (item_tree b.types h.import) (item_tree mid.types x)) (is_existing i at) h.met.fits_first;
-        alone = λ none. absurd (let no : None ≡ Some was.0 = sym none ∙ was.1 in cc);
-        alone_tree = λ none. absurd (let no : None ≡ Some was.0 = sym none ∙ was.1 in cc);
-        kept = λ i at. subst (λ x. Fits (item_tree mid.types x) (item_tree mid.types own) → h.import ≡ x) (is_existing i at) h.met.kept;
-        unstopped_alone = λ none. absurd (let no : None ≡ Some was.0 = sym none ∙ was.1 in cc);
-        unstopped = λ i at. subst (λ x. Each (IsUnstopped mid.types) (item_keys x) → Each (IsUnstopped mid.types) (item_keys own) → Each (IsUnstopped b.types) (item_keys h.import)) (is_existing i at) (h.met.unstopped kept_then);
-        greatest = λ i at. subst (λ x. (t : ItemTree) → Fits t (item_tree mid.types x) → Fits t (item_tree mid.types own) → Fits t (item_tree b.types h.import)) (is_existing i at) h.met.greatest;
-        placed = is_placed;
-        accounts = λ at trial all. let r = met_accounted at trial all in (r.0, r.1);
-        grown_open = λ at trial all. openly_any (with_own (state_of mid) h.met.mid) (import_at b.imports) at h.met.grows (met_accounted at trial all).2;
-      }
-        where
-          is_existing : (i : ImportContent) → import_of a.imports (call_track call) ≡ Some i → existing ≡ i.1
-          is_existing i at =
-              let same : was.0 ≡ i = let both : Some was.0 ≡ Some i = sym was.1 ∙ at in cc in
-              sym was.2 ∙ ap (λ (j : ImportContent). j.1) same
+    pub merged_advances : (b : Merging) → IsMerged mid b call.name existing own → Advances call a b
+    merged_advances b h = subst (λ (m : Merging). Advances call a m) (sym h.same) record {
+      taken = mid;
+      own = own;
+      takes = takes;
+      same = refl;
+      on = h.met.on;
+      import = h.import;
+      stands = h.met.stands;
+      covered = h.met.covered (shared_keys mid.shared.entries) (takes.run.kept may.kept).good ((takes.run.kept may.kept).imports_covered call.name existing at_still) own_covered;
+      fits = h.met.fits_second;
+      existing = λ i at.
+          let same : was.0 ≡ i = let both : Some was.0 ≡ Some i = sym was.1 ∙ at in cc in
+          subst (λ x. Fits (item_tree b.types h.import) (item_tree mid.types x)) (sym was.2 ∙ ap (λ (j : ImportContent). j.1) same) h.met.fits_first;
+      alone = λ none. absurd (let no : None ≡ Some was.0 = sym none ∙ was.1 in cc);
+      alone_tree = λ none. absurd (let no : None ≡ Some was.0 = sym none ∙ was.1 in cc);
+      kept = λ i at.
+          let same : was.0 ≡ i = let both : Some was.0 ≡ Some i = sym was.1 ∙ at in cc in
+          let item : existing ≡ i.1 = sym was.2 ∙ ap (λ (j : ImportContent). j.1) same in
+          subst (λ x. Fits (item_tree mid.types x) (item_tree mid.types own) → h.import ≡ x) item h.met.kept;
+      unstopped = λ i at.
+          let same : was.0 ≡ i = let both : Some was.0 ≡ Some i = sym was.1 ∙ at in cc in
+          let item : existing ≡ i.1 = sym was.2 ∙ ap (λ (j : ImportContent). j.1) same in
+          subst (λ x. Each (IsUnstopped mid.types) (item_keys x) → Each (IsUnstopped mid.types) (item_keys own) → Each (IsUnstopped b.types) (item_keys h.import)) item (met_unstopped mid.types b.types existing own h.import (takes.run.kept may.kept).good.sound h.met);
+      greatest = λ i at.
+          let same : was.0 ≡ i = let both : Some was.0 ≡ Some i = sym was.1 ∙ at in cc in
+          subst (λ x. (t : ItemTree) → Fits t (item_tree mid.types x) → Fits t (item_tree mid.types own) → Fits t (item_tree b.types h.import)) (sym was.2 ∙ ap (λ (j : ImportContent). j.1) same) h.met.greatest;
+      placed = noted was.0 was.1 (h.noted was.0 found_still);
+      accounts = λ at trial all. met_accounted b.types h.import h.met at trial all;
+    }
 
 -- what is told of a mismatch changes nothing else
 module _ (a : Merging) (told : Option Id) where
@@ -172,30 +152,23 @@ module _ (a : Merging) (told : Option Id) where
       identified = h.takes.identified;
       plain = h.takes.plain;
       known = λ all. let only = h.takes.known all in record { grows = only.grows; shared = only.shared; noted = only.noted };
-      alone = λ m was. h.takes.alone m (record { is_interface = was.is_interface; stands = was.stands; plain = was.plain; unnamed = was.unnamed; untaken = was.untaken; uncopied = was.uncopied });
       accounts = λ at trial all by. h.takes.accounts at trial all (near_none at (record a { handed_in = told }));
       holds = h.takes.holds;
     };
     same = h.same;
-    mid = h.mid;
     on = h.on;
-    grows = h.grows;
-    grows_here = h.grows_here;
     import = h.import;
     stands = h.stands;
     covered = h.covered;
-    existing_first = h.existing_first;
     fits = h.fits;
     existing = h.existing;
     alone = h.alone;
     alone_tree = h.alone_tree;
     kept = h.kept;
-    unstopped_alone = h.unstopped_alone;
     unstopped = h.unstopped;
     greatest = h.greatest;
     placed = h.placed;
     accounts = h.accounts;
-    grown_open = h.grown_open;
   }
 
 -- no import where there is none of which to ask
@@ -222,10 +195,10 @@ module _ (a m b : Merging) (first : m ≡ record a { types = m.types }) (then : 
   same_rest : b ≡ record a { types = b.types; imports = b.imports }
   same_rest = then ∙ ap (λ (x : Merging). record x { imports = b.imports }) first ∙ ap (λ (t : Collection). record a { types = t; imports = b.imports }) (sym same_types)
 
-  pub is_merged : (name : Text) (existing own met : ItemKind) → IsMetInto a m.types (class_of name) existing own met → ((i : ImportContent) → import_of m.imports (class_of name) ≡ Some i → IsImportNoted m.imports b.imports (class_of name) i.0 name met) → IsMerged a b name existing own
+  pub is_merged : (name : Text) (existing own met : ItemKind) → IsOwnMeet a.types m.types existing own met → ((i : ImportContent) → import_of m.imports (class_of name) ≡ Some i → IsImportNoted m.imports b.imports (class_of name) i.0 name met) → IsMerged a b name existing own
   is_merged name existing own met h leaves = record {
     same = same_rest;
     import = met;
-    met = subst (λ (t : Collection). IsMetInto a t (class_of name) existing own met) (sym same_types) h;
+    met = subst (λ (t : Collection). IsOwnMeet a.types t existing own met) (sym same_types) h;
     noted = subst (λ (is : ImportsContent). (i : ImportContent) → import_of is (class_of name) ≡ Some i → IsImportNoted is b.imports (class_of name) i.0 name met) same_imports leaves;
   }

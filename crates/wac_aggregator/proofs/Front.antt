@@ -16,7 +16,8 @@ use Rattle.wac_component.specs.Reach.{IsAmong, Reaches}
 use Rattle.wac_component.proofs.OpenWalks.{opens_reach}
 use Rattle.wac_names.specs.Class.{Class, class_eq, class_of}
 use Rattle.wac_names.proofs.Classes.{classes_decided}
-use Rattle.wac_aggregator_narrowing.specs.State.{IsStateKept}
+use Rattle.wac_aggregator_narrowing.specs.Remembers.{RemembersTruly}
+use Rattle.wac_aggregator_narrowing.specs.State.{IsStateKept, RunsTaking}
 use Rattle.wac_aggregator_promises.specs.Aggregated.{AllAreServed, IsAggregated}
 use Rattle.wac_aggregator_promises.specs.Call.{Call, call_track, call_tree}
 use Rattle.wac_aggregator_promises.specs.Due.{OwnsOn, IsDue, of_name, of_owner, IsHigher, IsReachedIdentifier, IsHandedInName, IsImportName, AreImportNames}
@@ -30,7 +31,7 @@ use Rattle.wac_aggregator.specs.Advances.{IsImportPlaced, Advances, added, noted
 use Rattle.wac_aggregator.specs.HandedIn.{IsOneOf}
 use Rattle.wac_aggregator.specs.Served.{NameLeadsTo, AreCallsServed}
 use Rattle.wac_aggregator.specs.Content.{shown, content_of}
-use Rattle.wac_aggregator.proofs.Advancing.{placing, taken_kept, identifier_stays, truly_now, fits_item, leads_below}
+use Rattle.wac_aggregator.proofs.Advancing.{placing, rest, run, taken_kept, fits_item, leads_below}
 use Rattle.wac_aggregator_taking.proofs.Identifiers.{is_interface, has_identifier}
 use Rattle.wac_aggregator.proofs.Imported.{still_imported, owner_imported, owners_after}
 use Rattle.wac_aggregator.proofs.Leading.{PlacedAs, placed_other, puts_here, leads-new, found-of}
@@ -198,6 +199,12 @@ module _ (calls front : List Call) (call : Call) (a b : Merging) (among : Contai
       by false e = of_other q i e at
 
   -- what is shared, served and owned
+  rests : RunsTaking (RemembersTruly class_of) f (state_of taken) (state_of b)
+  rests = rest call a b may filed_a filed_b h
+
+  runs : RunsTaking (RemembersTruly class_of) f (state_of a) (state_of b)
+  runs = run call a b may filed_a filed_b h
+
   kept_then : IsStateKept (state_of taken)
   kept_then = taken_kept call a b may filed_a filed_b h
 
@@ -207,7 +214,7 @@ module _ (calls front : List Call) (call : Call) (a b : Merging) (among : Contai
   shared_now : (e : Key) (n : Text) → IsAmong e (shared_keys b.shared.entries) → identifier_at b.types e ≡ Some n → IsReachedIdentifier (more front call) n
   shared_now e n m is =
       let was = subst (IsAmong e) same_shared m in
-      shared_taken e n was (sym (identifier_stays call a b may filed_a filed_b h e (shared_stands (state_of taken) kept_then e was)) ∙ is)
+      shared_taken e n was (sym ((rests.stops kept_then).identifiers e (shared_stands (state_of taken) kept_then e was)) ∙ is)
 
   served_now : (d : Call) → Contains (more front call) d → (i : ImportContent) × NameLeadsTo b.imports d.name i × Fits (item_tree b.types i.1) (call_tree d)
   served_now d m = elim (either front call d m) [
@@ -230,7 +237,7 @@ module _ (calls front : List Call) (call : Call) (a b : Merging) (among : Contai
 
   pub advances_served : AreCallsServed calls (more front call) b
   advances_served = record {
-    truly = λ g is. truly_now call a b may filed_a filed_b h g (λ e. is call among e) (s.truly g is);
+    truly = λ g is. runs.truly may.kept g (λ e. is call among e) (s.truly g is);
     owners = λ g is. owners_after call a b may filed_a filed_b h g (λ e. is call among e) (s.owners g is);
     names = names_now;
     shared = shared_now;

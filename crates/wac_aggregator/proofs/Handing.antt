@@ -31,7 +31,7 @@ use Rattle.wac_aggregator_taking.specs.declared.state.Merging.{Merging}
 use Rattle.wac_aggregator.specs.Advances.{attempt_at, Advances, IsRefusedCall, MayTry}
 use Rattle.wac_aggregator.specs.Content.{AggregatorContent, shown, content_of, state_in}
 use Rattle.wac_aggregator.specs.InOrder.{IsMergingInOrder}
-use Rattle.wac_aggregator.proofs.Advancing.{at_of, truly_now, advances_step}
+use Rattle.wac_aggregator.proofs.Advancing.{at_of, run, advances_step}
 use Rattle.wac_aggregator.proofs.Held.{holds_no_others}
 use Rattle.wac_aggregator.proofs.Listing.{advances_in_order, advances_number}
 use Rattle.wac_aggregator.proofs.Plain.{track_import, plain_step, plain_refusal}
@@ -70,7 +70,7 @@ module _ (call : Call) (inside : Merging) (told : SubtypeCheck) (before : Aggreg
     call_step = subst (λ s. IsCallStep (shown s) (shown (content_of b)) call) is (advances_step call a b call_may order.imports filed h)
 
     pub call_truly : (g : Collection) → IsOneWith call.types g → RemembersTruly class_of g (state_in before) → RemembersTruly class_of g (state_in (content_of b))
-    call_truly g one t = truly_in g b (truly_now call a b call_may order.imports filed h g one (truly_of g inside (subst (λ s. RemembersTruly class_of g (state_in s)) (sym is) t)))
+    call_truly g one t = truly_in g b ((run call a b call_may order.imports filed h).truly order.kept g one (truly_of g inside (subst (λ s. RemembersTruly class_of g (state_in s)) (sym is) t)))
 
     pub call_imports : ImportsAfter (shown before) (shown (content_of b)) call
     call_imports = subst (λ s. ImportsAfter (shown s) (shown (content_of b)) call) is (imports_after call a b call_may order.imports filed h)

@@ -9,37 +9,32 @@ use Rattle.wac_component.specs.Reach.{IsAmong}
 use Rattle.wac_component.proofs.Among.{Contains-first}
 use Rattle.wac_names.specs.Class.{Class, class_of}
 use Rattle.wac_aggregator_narrowing.specs.Remembers.{RemembersTruly}
-use Rattle.wac_aggregator_narrowing.specs.State.{State, RunsTaking}
+use Rattle.wac_aggregator_narrowing.specs.State.{RunsTaking}
 use Rattle.wac_aggregator_promises.specs.Attempt.{IsHeld}
 use Rattle.wac_aggregator_promises.specs.Call.{Call}
 use Rattle.wac_aggregator_promises.specs.Holding.{HoldsOn, ReachesOn, HoldsNoOthers, HoldsReached}
 use Rattle.wac_aggregator_imports.specs.Import.{AreFiled}
 use Rattle.wac_aggregator_reasons.specs.Sharing.{AreHeld, of_shared}
 use Rattle.wac_aggregator_reasons.specs.Split.{AreSharedOrBelow, AddsSharedOrBelow}
-use Rattle.wac_aggregator_reasons.proofs.GrownAlone.{grows_shared_or_below}
 use Rattle.wac_aggregator_reasons.proofs.SharedOrBelow.{adds_then, added_all}
 use Rattle.wac_aggregator_taking.specs.Takes.{shared_keys, state_of, MayTake, IsSharedFrom}
 use Rattle.wac_aggregator_taking.specs.declared.state.Merging.{Merging}
 use Rattle.wac_aggregator_taking.proofs.Identifiers.{is_interface, has_identifier, identifier_of}
 use Rattle.wac_aggregator_taking.proofs.TakeLemmas.{shared_stands}
 use Rattle.wac_aggregator.specs.Advances.{Advances}
-use Rattle.wac_aggregator.proofs.Advancing.{run, rest, taken_kept, placed_state, placed_kept, identifier_stays}
+use Rattle.wac_aggregator.proofs.Advancing.{run, rest, taken_kept}
 
 module _ (call : Call) (a b : Merging) (may : MayTake call.types a) (filed_a : AreFiled a.imports) (filed_b : AreFiled b.imports) (h : Advances call a b) where
-  abbrev then : State
-  then = placed_state call a b may filed_a filed_b h
-
-  rests : RunsTaking (RemembersTruly class_of) call.types (state_of h.taken) then
+  rests : RunsTaking (RemembersTruly class_of) call.types (state_of h.taken) (state_of b)
   rests = rest call a b may filed_a filed_b h
 
   -- where the import is met with the item, nothing with an identifier is added
-  adds_on : AddsSharedOrBelow (state_of h.taken) then
+  adds_on : AddsSharedOrBelow (state_of h.taken) (state_of b)
   adds_on k n stands is = inl (h.on.identified k n stands is)
 
   pub identified_after : AreSharedOrBelow (state_of a) → AreSharedOrBelow (state_of b)
-  identified_after all = grows_shared_or_below then b.types (placed_kept call a b may filed_a filed_b h) h.grows
-      (added_all (RemembersTruly class_of) call.types (state_of a) then may.kept (run call a b may filed_a filed_b h)
-      (adds_then (RemembersTruly class_of) call.types (state_of a) (state_of h.taken) then (taken_kept call a b may filed_a filed_b h) rests h.takes.identified adds_on) all)
+  identified_after = added_all (RemembersTruly class_of) call.types (state_of a) (state_of b) may.kept (run call a b may filed_a filed_b h)
+      (adds_then (RemembersTruly class_of) call.types (state_of a) (state_of h.taken) (state_of b) (taken_kept call a b may filed_a filed_b h) rests h.takes.identified adds_on)
 
   -- an entry that was shared before was held
   was_held : AreHeld (state_of a) → (k : Key) (n : Text) (t : Class) → IsAmong k (shared_keys a.shared.entries) → identifier_at a.types k ≡ Some n → class_of n ≡ t → HoldsOn a.types t
@@ -71,10 +66,10 @@ module _ (call : Call) (a b : Merging) (may : MayTake call.types a) (filed_a : A
       by_shared : IsAmong (interface_key on.interface) (shared_keys h.taken.shared.entries) → HoldsOn a.types t ⊎ ReachesOn call t
       by_shared shared =
           let kept = taken_kept call a b may filed_a filed_b h in
-          let taken_on : identifier_at h.taken.types (interface_key on.interface) ≡ Some on.is_on.name = sym (identifier_stays call a b may filed_a filed_b h (interface_key on.interface) (shared_stands (state_of h.taken) kept (interface_key on.interface) shared)) ∙ named in
+          let then : identifier_at h.taken.types (interface_key on.interface) ≡ Some on.is_on.name = sym ((rests.stops kept).identifiers (interface_key on.interface) (shared_stands (state_of h.taken) kept (interface_key on.interface) shared)) ∙ named in
           elim (h.takes.shares (interface_key on.interface) shared) [
-            | inl was ↦ inl (was_held held (interface_key on.interface) on.is_on.name t was (sym ((h.takes.run.stops may.kept).identifiers (interface_key on.interface) (shared_stands (state_of a) may.kept (interface_key on.interface) was)) ∙ taken_on) on.is_on.on_track)
-            | inr new ↦ inr (reached_on (interface_key on.interface) on.is_on.name t new taken_on on.is_on.on_track)
+            | inl was ↦ inl (was_held held (interface_key on.interface) on.is_on.name t was (sym ((h.takes.run.stops may.kept).identifiers (interface_key on.interface) (shared_stands (state_of a) may.kept (interface_key on.interface) was)) ∙ then) on.is_on.on_track)
+            | inr new ↦ inr (reached_on (interface_key on.interface) on.is_on.name t new then on.is_on.on_track)
           ]
 
   -- and after the calls before it

@@ -23,7 +23,7 @@ use Rattle.wac_aggregator_taking.proofs.Identifiers.{has_identifier, identifier_
 use Rattle.wac_aggregator_taking.proofs.TakeLemmas.{shared_stands}
 use Rattle.wac_aggregator.specs.Advances.{IsImportPlaced, Advances, added, noted}
 use Rattle.wac_aggregator.specs.Content.{shown, content_of}
-use Rattle.wac_aggregator.proofs.Advancing.{placing, identifier_stays, taken_kept, at_of, of_at}
+use Rattle.wac_aggregator.proofs.Advancing.{placing, rest, taken_kept, at_of, of_at}
 use Rattle.wac_aggregator.proofs.Leading.{PlacedAs, placed_other, placed_still, puts_here, some_is}
 use Rattle.wac_aggregator.proofs.Newer.{higher-newer, not_higher-self, not_higher-old}
 use Rattle.wac_aggregator.proofs.Plain.{on_class}
@@ -108,7 +108,7 @@ module _ (call : Call) (a b : Merging) (may : MayTake call.types a) (filed_a : A
         entry = owner.entry;
         import = listed_of b.imports filed_b i.0 (Instance owner.entry) (ap (import_of b.imports) (filed_b.imports t i is) ∙ is ∙ ap (λ (x : ItemKind). Some (i.0, x)) owner.item);
         identified = has_identifier b.types (interface_key owner.entry) i.0
-            (identifier_stays call a b may filed_a filed_b h (interface_key owner.entry) (shared_stands (state_of h.taken) kept_then (interface_key owner.entry) owner.is_shared) ∙ owner.named);
+            (((rest call a b may filed_a filed_b h).stops kept_then).identifiers (interface_key owner.entry) (shared_stands (state_of h.taken) kept_then (interface_key owner.entry) owner.is_shared) ∙ owner.named);
       }
         where
           kept_then : IsStateKept (state_of h.taken)

@@ -1,16 +1,9 @@
 pub mod Newer
 pub mod Leading
-pub mod Grown
 pub mod Advancing
 pub mod Held
 pub mod Front
-pub mod MetInto
-pub mod AloneMet
 pub mod Calls
-pub mod AloneEntry
-pub mod AloneGrown
-pub mod GrownBy
-pub mod AloneCalls
 pub mod Beginning
 pub mod Trying
 pub mod Listing

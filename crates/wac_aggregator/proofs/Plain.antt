@@ -27,7 +27,7 @@ use Rattle.wac_aggregator_taking.proofs.Plain.{plain_quiet}
 use Rattle.wac_aggregator_taking.proofs.TakeLemmas.{only_grows}
 use Rattle.wac_aggregator.specs.Advances.{Advances, CallHasNoMeet}
 use Rattle.wac_aggregator.specs.Content.{shown, content_of}
-use Rattle.wac_aggregator.proofs.Advancing.{placing, at_of, other_tree}
+use Rattle.wac_aggregator.proofs.Advancing.{placing, at_of}
 use Rattle.wac_aggregator.proofs.Leading.{placed_here, placed_other}
 
 -- what is imported on a track is the import of the class
@@ -59,12 +59,12 @@ module _ (call : Call) (a b : Merging) (may : MayTake call.types a) (filed_a : A
   own_same = h.takes.holds.quiet (plain_quiet call.types (item_keys call.kind) plain)
 
   -- imports that stood keep their trees
-  kept_tree : (q : Class) (i : ImportContent) → import_of a.imports q ≡ Some i → (item_tree h.taken.types i.1 ≡ item_tree a.types i.1) × (class_eq (call_track call) q ≡ false → item_tree b.types i.1 ≡ item_tree a.types i.1)
+  kept_tree : (q : Class) (i : ImportContent) → import_of a.imports q ≡ Some i → (item_tree h.taken.types i.1 ≡ item_tree a.types i.1) × (item_tree b.types i.1 ≡ item_tree a.types i.1)
   kept_tree q i at =
       let name : class_of i.0 ≡ q = filed_a.imports q i at in
       let stands : AllStand a.types (item_keys i.1) = may.kept.imports i.0 i.1 (at_of a.imports i.0 i (ap (import_of a.imports) name ∙ at)) in
       let first = only.grows.trees i.1 stands in
-      (first, λ other. other_tree call a b may filed_a filed_b h q i other at ∙ h.on.grows.trees i.1 (stood (item_keys i.1) stands) ∙ first)
+      (first, h.on.grows.trees i.1 (stood (item_keys i.1) stands) ∙ first)
     where
       stood : (ks : List Key) → AllStand a.types ks → AllStand h.taken.types ks
       stood ks st = AllStand-Extends a.types h.taken.types only.grows ks st
@@ -87,16 +87,16 @@ module _ (call : Call) (a b : Merging) (may : MayTake call.types a) (filed_a : A
   elsewhere : (t : Class) → t ≢ call_track call → track_imports (shown (content_of b)) t ≡ track_imports (shown (content_of a)) t
   elsewhere t ne = track_import b t filed_b ∙ by (class_eq (call_track call) t) refl ∙ sym (track_import a t filed_a)
     where
-      same_trees : class_eq (call_track call) t ≡ false → (o : Option ImportContent) → import_of a.imports t ≡ o → option_map (λ (i : ImportContent). item_tree b.types i.1) o ≡ option_map (λ (i : ImportContent). item_tree a.types i.1) o
-      same_trees other None at = refl
-      same_trees other (Some i) at = ap (λ x. Some x) ((kept_tree t i at).1 other)
+      same_trees : (o : Option ImportContent) → import_of a.imports t ≡ o → option_map (λ (i : ImportContent). item_tree b.types i.1) o ≡ option_map (λ (i : ImportContent). item_tree a.types i.1) o
+      same_trees None at = refl
+      same_trees (Some i) at = ap (λ x. Some x) (kept_tree t i at).1
 
       by : (x : Bool) → class_eq (call_track call) t ≡ x → option_map (λ (i : ImportContent). item_tree b.types i.1) (import_of b.imports t) ≡ option_map (λ (i : ImportContent). item_tree a.types i.1) (import_of a.imports t)
       by true e = absurd (ne (sym ((classes_decided (call_track call) t).0 e)))
       by false e =
           let same : import_of b.imports t ≡ import_of a.imports t
           = placed_other a.imports h.taken.imports b.imports call.name h.import (placing call a b may filed_a filed_b h) h.takes.stays t e ∙ ap (λ is. import_of is t) (h.takes.plain plain) in
-          ap (option_map (λ (i : ImportContent). item_tree b.types i.1)) same ∙ same_trees e (import_of a.imports t) refl
+          ap (option_map (λ (i : ImportContent). item_tree b.types i.1)) same ∙ same_trees (import_of a.imports t) refl
 
   pub plain_step : IsPlainStep (track_imports (shown (content_of a))) (track_imports (shown (content_of b))) call
   plain_step = record { here = here; elsewhere = elsewhere }

@@ -11,22 +11,21 @@ use Rattle.wac_aggregator_narrowing.specs.Identified.{IsCovered, IsUnstopped}
 use Rattle.wac_aggregator_narrowing.proofs.Stopping.{open_stops, stop_identified, stop_reaches}
 use Rattle.wac_aggregator_taking.specs.Growing.{IsOwnMeet}
 
-pub unstopped_covered : (c : Collection) (ks : List Key) → Each (IsUnstopped c) ks → Each (IsCovered c []) ks
+unstopped_covered : (c : Collection) (ks : List Key) → Each (IsUnstopped c) ks → Each (IsCovered c []) ks
 unstopped_covered c ks h = each_among (IsCovered c []) ks (λ k m t n walk is. let at = open_stops c k t n walk is in absurd (among_each (IsUnstopped c) k ks m h at.at at.name at.stops))
 
-pub covered_unstopped : (c : Collection) (ks : List Key) → Each (IsCovered c []) ks → Each (IsUnstopped c) ks
+covered_unstopped : (c : Collection) (ks : List Key) → Each (IsCovered c []) ks → Each (IsUnstopped c) ks
 covered_unstopped c ks h = each_among (IsUnstopped c) ks (λ k m t n stops. none (among_each (IsCovered c []) k ks m h t n (stop_reaches c k t n stops) (stop_identified c k t n stops)))
-  where
-    none : {k : Key} → IsAmong k [] → ⊥
-    none m = elim m [ ]
-
--- nothing is shared
-pub none_good : (c : Collection) → IsSound c → IsGood c []
-none_good c sound = record { sound = sound; shared = tt; identified = λ s m. absurd (none m); covered = tt; isolated = λ k st. each_among _ _ (λ j m s among walk. none among) }
   where
     none : {k : Key} → IsAmong k [] → ⊥
     none m = elim m [ ]
 
 -- so what two such items are met in is one
 pub met_unstopped : (c d : Collection) (x y m : ItemKind) → IsSound c → IsOwnMeet c d x y m → Each (IsUnstopped c) (item_keys x) → Each (IsUnstopped c) (item_keys y) → Each (IsUnstopped d) (item_keys m)
-met_unstopped c d x y m sound met hx hy = covered_unstopped d (item_keys m) (met.covered [] (none_good c sound) (unstopped_covered c (item_keys x) hx) (unstopped_covered c (item_keys y) hy))
+met_unstopped c d x y m sound met hx hy = covered_unstopped d (item_keys m) (met.covered [] good (unstopped_covered c (item_keys x) hx) (unstopped_covered c (item_keys y) hy))
+  where
+    none : {k : Key} → IsAmong k [] → ⊥
+    none m = elim m [ ]
+
+    good : IsGood c []
+    good = record { sound = sound; shared = tt; identified = λ s m. absurd (none m); covered = tt; isolated = λ k st. each_among _ _ (λ j m s among walk. none among) }

@@ -29,9 +29,7 @@ use Rattle.wac_aggregator_taking.proofs.Identifiers.{has_identifier}
 use Rattle.wac_aggregator_taking.proofs.TakeLemmas.{lookup-shared, shared_stands}
 use Rattle.wac_aggregator.specs.Wit.{AreUnstopped}
 use Rattle.wac_aggregator.specs.Advances.{Advances}
-use Rattle.wac_aggregator.proofs.Advancing.{placing, at_of, taken_kept, run, placed_state, placed_kept, identifier_stays, stands_placed, leaves_grown, other_tree}
-use Rattle.wac_aggregator.proofs.Grown.{unstopped_grown}
-use Rattle.wac_aggregator_narrowing.proofs.GrowsTo.{grows_identifier}
+use Rattle.wac_aggregator.proofs.Advancing.{placing, at_of, taken_kept, rest, run}
 use Rattle.wac_aggregator.proofs.Leading.{placed_here, placed_other}
 
 -- ---- tracks of shared entries
@@ -43,8 +41,8 @@ shared_on b taken has s t m on =
     ap (shared_in b.shared.entries) (one_track b.types s t at.0 on (has.shared.identified at.0 s at.1)) ∙ at.1
 
 -- identifiers stay on their tracks
-still_on : (c d : Collection) (s : Id) (t : Class) → identifier_at d (interface_key s) ≡ identifier_at c (interface_key s) → IsIdentifiedOn c s t → IsIdentifiedOn d s t
-still_on c d s t same on = record { name = on.name; identified = sym (identifier_is d s) ∙ same ∙ identifier_is c s ∙ on.identified; on_track = on.on_track }
+still_on : (c d : Collection) (ss ts : List Key) → KeepsStops c ss d ts → (s : Id) (t : Class) → Stands c (interface_key s) → IsIdentifiedOn c s t → IsIdentifiedOn d s t
+still_on c d ss ts keeps s t st on = record { name = on.name; identified = sym (identifier_is d s) ∙ keeps.identifiers (interface_key s) st ∙ identifier_is c s ∙ on.identified; on_track = on.on_track }
 
 -- ---- where open walks don't stop
 
@@ -78,23 +76,14 @@ module _ (call : Call) (a b : Merging) (may : MayTake call.types a) (filed_a : A
   -- is one that was shared before
   pub found_on : (s : Id) (t : Class) → IsAmong (interface_key s) (shared_keys h.taken.shared.entries) → IsIdentifiedOn h.taken.types s t → shared_in b.shared.entries t ≡ Some s
   found_on s t m on = shared_on b after has s t (subst (IsAmong (interface_key s)) (sym same_shared) m)
-      (still_on h.taken.types b.types s t (identifier_stays call a b may filed_a filed_b h (interface_key s) (shared_stands (state_of h.taken) kept_then (interface_key s) m)) on)
+      (still_on h.taken.types b.types (shared_keys h.taken.shared.entries) (shared_keys b.shared.entries) ((rest call a b may filed_a filed_b h).stops kept_then) s t (shared_stands (state_of h.taken) kept_then (interface_key s) m) on)
 
-  keeps : KeepsStops a.types (shared_keys a.shared.entries) h.mid (shared_keys b.shared.entries)
+  keeps : KeepsStops a.types (shared_keys a.shared.entries) b.types (shared_keys b.shared.entries)
   keeps = (run call a b may filed_a filed_b h).stops may.kept
-
-  abbrev then : State
-  then = placed_state call a b may filed_a filed_b h
-
-  then_kept : IsStateKept then
-  then_kept = placed_kept call a b may filed_a filed_b h
-
-  same_identifier : (k : Key) → Stands a.types k → identifier_at b.types k ≡ identifier_at a.types k
-  same_identifier k st = grows_identifier then b.types then_kept h.grows k (((run call a b may filed_a filed_b h).narrows may.kept).standing k st) ∙ keeps.identifiers k st
 
   pub still_shared : (s : Id) (t : Class) → shared_in a.shared.entries t ≡ Some s → shared_in b.shared.entries t ≡ Some s
   still_shared s t at = shared_on b after has s t (keeps.shared (interface_key s) (lookup-shared t a.shared.entries s at))
-      (still_on a.types b.types s t (same_identifier (interface_key s) (was.shared.stands t s at)) (was.shared.identified t s at))
+      (still_on a.types b.types (shared_keys a.shared.entries) (shared_keys b.shared.entries) keeps s t (was.shared.stands t s at) (was.shared.identified t s at))
 
   pub none_before : (t : Class) → shared_in b.shared.entries t ≡ None → shared_in a.shared.entries t ≡ None
   none_before t none = by (shared_in a.shared.entries t) refl
@@ -130,21 +119,20 @@ module _ (call : Call) (a b : Merging) (may : MayTake call.types a) (filed_a : A
   stood_stands t i at = may.kept.imports i.0 i.1 (at_of a.imports i.0 i (ap (import_of a.imports) (filed_a.imports t i at) ∙ at))
 
   module _ (unstopped : AreUnstopped a) where
-    -- an import of another track from which no open walk stopped keeps its tree
-    pub kept_tree : (t : Class) (i : ImportContent) → class_eq (call_track call) t ≡ false → import_of a.imports t ≡ Some i → shared_in a.shared.entries t ≡ None → item_tree b.types i.1 ≡ item_tree a.types i.1
-    kept_tree t i other at none = other_tree call a b may filed_a filed_b h t i other at ∙ keeps.quiet i.1 (stood_stands t i at) (unstopped t i at none)
+    -- an import from which no open walk stopped keeps its tree
+    pub kept_tree : (t : Class) (i : ImportContent) → import_of a.imports t ≡ Some i → shared_in a.shared.entries t ≡ None → item_tree b.types i.1 ≡ item_tree a.types i.1
+    kept_tree t i at none = keeps.quiet i.1 (stood_stands t i at) (unstopped t i at none)
 
     -- and none does still, if none does from the call's import
     pub unstopped_after : (shared_in b.shared.entries (call_track call) ≡ None → Each (IsUnstopped b.types) (item_keys h.import)) → AreUnstopped b
     unstopped_after own t i at none = by (class_eq (call_track call) t) refl
       where
-        old : class_eq (call_track call) t ≡ false → import_of a.imports t ≡ Some i → Each (IsUnstopped b.types) (item_keys i.1)
-        old other stood = unstopped_grown then b.types then_kept h.grows (item_keys i.1) (stands_placed call a b may filed_a filed_b h t i other stood) (leaves_grown call a b may filed_a filed_b h t i other stood)
-            (still_unstopped a.types h.mid (shared_keys a.shared.entries) (shared_keys b.shared.entries) keeps (item_keys i.1) (stood_stands t i stood) (unstopped t i stood (none_before t none)))
+        old : import_of a.imports t ≡ Some i → Each (IsUnstopped b.types) (item_keys i.1)
+        old stood = still_unstopped a.types b.types (shared_keys a.shared.entries) (shared_keys b.shared.entries) keeps (item_keys i.1) (stood_stands t i stood) (unstopped t i stood (none_before t none))
 
         by : (x : Bool) → class_eq (call_track call) t ≡ x → Each (IsUnstopped b.types) (item_keys i.1)
         by true e = let o = on_own t i e at in subst (λ x. Each (IsUnstopped b.types) (item_keys x)) o.1 (own (ap (shared_in b.shared.entries) o.0 ∙ none))
         by false e = elim (on_other t i e at) [
-          | inl stood ↦ old e stood
+          | inl stood ↦ old stood
           | inr s ↦ absurd (let no : None ≡ Some s.0 = sym none ∙ s.1 in cc)
         ]

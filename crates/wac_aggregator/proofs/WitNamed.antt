@@ -133,16 +133,16 @@ module _ (calls front : List Call) (call : Call) (wit : IsWitList (front ++ call
         only_front : (x : ItemTree) → IsPlainTree longer t x → IsPlainTree front t x
         only_front x k = elim (plain_cases front call t x k) [ inl m ↦ m | inr own ↦ absurd (named_not_plain call i n own.0) ]
 
-        old : class_eq c t ≡ false → import_of a.imports t ≡ Some j → IsMeetOf (item_tree b.types j.1) (IsPlainTree longer t)
-        old other stood =
+        old : import_of a.imports t ≡ Some j → IsMeetOf (item_tree b.types j.1) (IsPlainTree longer t)
+        old stood =
             let was = none_before call a b may filed_a filed_b h w.taken g.more w.has g.has t none in
-            subst (λ x. IsMeetOf x (IsPlainTree longer t)) (sym (kept_tree call a b may filed_a filed_b h w.taken g.more w.has g.has w.unstopped t j other stood was))
+            subst (λ x. IsMeetOf x (IsPlainTree longer t)) (sym (kept_tree call a b may filed_a filed_b h w.taken g.more w.has g.has w.unstopped t j stood was))
             (meet_moves (IsPlainTree front t) (IsPlainTree longer t) (plain_before front call t) only_front (item_tree a.types j.1) (w.plain t j stood was))
 
         by : (x : Bool) → class_eq c t ≡ x → IsMeetOf (item_tree b.types j.1) (IsPlainTree longer t)
         by true e = let o = on_own call a b may filed_a filed_b h w.taken g.more w.has g.has t j e at in absurd (let no : None ≡ Some own_instance.0 = sym none ∙ ap (shared_in b.shared.entries) (sym o.0) ∙ own_shared in cc)
         by false e = elim (on_other call a b may filed_a filed_b h w.taken g.more w.has g.has t j e at) [
-          | inl stood ↦ old e stood
+          | inl stood ↦ old stood
           | inr r ↦ absurd (let no : None ≡ Some r.0 = sym none ∙ r.1 in cc)
         ]
 

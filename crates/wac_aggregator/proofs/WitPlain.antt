@@ -25,7 +25,7 @@ use Rattle.wac_aggregator_promises.proofs.Members.{named_not_plain}
 use Rattle.wac_aggregator_promises.proofs.MoreMembers.{members_of_more}
 use Rattle.wac_aggregator_promises.proofs.Sets.{meet_moves, meet_of_more, meet_of_one}
 use Rattle.wac_aggregator_memo.specs.Memo.{memo_of}
-use Rattle.wac_aggregator_imports.specs.Import.{ImportContent, import_of, import_at, AreFiled}
+use Rattle.wac_aggregator_imports.specs.Import.{ImportContent, import_of, AreFiled}
 use Rattle.wac_aggregator_taking.specs.Members.{TakesMembers}
 use Rattle.wac_aggregator_taking.specs.Takes.{shared_in, shared_keys, state_of, MayTake, OnlyGrows}
 use Rattle.wac_aggregator_taking.specs.declared.state.Merging.{Merging}
@@ -38,8 +38,7 @@ use Rattle.wac_aggregator.specs.Content.{shown, content_of}
 use Rattle.wac_aggregator.specs.HandedIn.{IsOneOf}
 use Rattle.wac_aggregator.specs.Served.{AreCallsServed}
 use Rattle.wac_aggregator.specs.Wit.{AreInstances, AreUnstopped, IsWitAfter, trees_of}
-use Rattle.wac_aggregator.proofs.Advancing.{placing, run, placed_kept, other_tree}
-use Rattle.wac_aggregator.proofs.Grown.{members_grown}
+use Rattle.wac_aggregator.proofs.Advancing.{placing, taken_kept, rest, run}
 use Rattle.wac_aggregator.proofs.Leading.{placed_here}
 use Rattle.wac_aggregator.proofs.Plain.{track_import, plain_step}
 use Rattle.wac_aggregator.proofs.Wit.{no_plain, import_due, plain_cases, plain_before}
@@ -60,18 +59,18 @@ module _ (calls front : List Call) (call : Call) (wit : IsWitList (front ++ call
   front_wit = wit_list_fewer front longer (among_front front (call ∷ [])) wit
 
   module _ (p : IsPlainApart longer call) where
-    grows : OnlyGrows f a (record b { types = h.mid })
+    grows : OnlyGrows f a b
     grows =
         let only = only_grows f a h.taken (keys_height f (item_keys call.kind)) (item_keys call.kind) (λ t. IsTakenItem class_of f t call.kind h.own) h.takes p.plain in
         record {
-          grows = Extends-trans a.types h.taken.types h.mid only.grows h.on.grows;
+          grows = Extends-trans a.types h.taken.types b.types only.grows h.on.grows;
           shared = ap (λ (m : Merging). m.shared.entries) h.same ∙ only.shared;
           noted = λ k o is. only.noted k o (ap (λ (m : Merging). memo_of m.taken k) (sym h.same) ∙ is);
         }
 
     -- nothing is taken in
     g : TakesMembers f a b (λ i. ⊥) w.taken
-    g = members_grown f a b h.mid (λ i. ⊥) w.taken (import_at b.imports) (placed_kept call a b may filed_a filed_b h) h.grows (TakesMembers-grown f a (record b { types = h.mid }) (λ i. ⊥) w.taken may.kept (run call a b may filed_a filed_b h) grows w.has)
+    g = TakesMembers-grown f a b (λ i. ⊥) w.taken may.kept (run call a b may filed_a filed_b h) grows w.has
 
     plain_members : AreMembers longer g.more
     plain_members d j = (
@@ -138,7 +137,7 @@ module _ (calls front : List Call) (call : Call) (wit : IsWitList (front ++ call
     plain_plain t j at none = by (class_eq c t) refl
       where
         old : class_eq c t ≡ false → import_of a.imports t ≡ Some j → IsMeetOf (item_tree b.types j.1) (IsPlainTree longer t)
-        old other stood = subst (λ x. IsMeetOf x (IsPlainTree longer t)) (sym (other_tree call a b may filed_a filed_b h t j other stood ∙ grows.grows.trees j.1 (stood_stands call a b may filed_a filed_b h w.taken g.more w.has g.has t j stood)))
+        old other stood = subst (λ x. IsMeetOf x (IsPlainTree longer t)) (sym (grows.grows.trees j.1 (stood_stands call a b may filed_a filed_b h w.taken g.more w.has g.has t j stood)))
             (meet_moves (IsPlainTree front t) (IsPlainTree longer t) (plain_before front call t) only_front (item_tree a.types j.1) (w.plain t j stood (none_then t none)))
           where
             only_front : (x : ItemTree) → IsPlainTree longer t x → IsPlainTree front t x
@@ -160,7 +159,8 @@ module _ (calls front : List Call) (call : Call) (wit : IsWitList (front ++ call
         own_unstopped = taken_unstopped f (state_of h.taken) (item_keys call.kind) (item_keys h.own) h.takes.holds.keys (plain_quiet f (item_keys call.kind) p.plain)
 
         by : shared_in b.shared.entries c ≡ None → (o : Option ImportContent) → import_of a.imports c ≡ o → Each (IsUnstopped b.types) (item_keys h.import)
-        by none None at = h.unstopped_alone at own_unstopped
+        by none None at = subst (λ x. Each (IsUnstopped b.types) (item_keys x)) (sym (h.alone at))
+            (still_unstopped h.taken.types b.types (shared_keys h.taken.shared.entries) (shared_keys b.shared.entries) ((rest call a b may filed_a filed_b h).stops (taken_kept call a b may filed_a filed_b h)) (item_keys h.own) h.takes.holds.stands own_unstopped)
         by none (Some j) at = h.unstopped j at
             (still_unstopped a.types h.taken.types (shared_keys a.shared.entries) (shared_keys h.taken.shared.entries) (h.takes.run.stops may.kept) (item_keys j.1) (stood_stands call a b may filed_a filed_b h w.taken g.more w.has g.has c j at) (w.unstopped c j at (none_then c none)))
             own_unstopped

@@ -1,6 +1,5 @@
 pub mod Advances
 pub mod After
-pub mod Alone
 pub mod Content
 pub mod HandedIn
 pub mod InOrder

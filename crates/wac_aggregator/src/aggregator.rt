@@ -26,36 +26,31 @@ ghost use Rattle.wac_aggregator.specs.Content.{shown, state_in};
 use super::all::Call;
 use super::importing::advance;
 use super::start::no_imports;
-use indexmap::IndexMap;
 use std::alloc::Global;
 use std::marker::Model;
 use wac_aggregator_errors::AggregateError;
 use wac_aggregator_imports::Imports;
 use wac_aggregator_taking::Merging;
 use wac_checker::SubtypeChecker;
-use wac_component::{InterfaceId, ItemKind, Types};
+use wac_component::{ItemKind, Types};
 use wac_mismatch::SubtypeCheck;
-use wac_names::NameClass;
 
 /// Aggregates items of different collections into imports: items that are handed in under
 /// compatible names become one import, which fits where each of them is asked for.
 #[derive(Debug, Drop)]
 pub struct TypeAggregator {
     pub(crate) state: Merging,
-    // The interfaces to which nothing leads but the import of a class.
-    pub(crate) alone: IndexMap<NameClass, InterfaceId>,
 }
 
 impl Model for TypeAggregator {
     ghost use Rattle.wac_aggregator.specs.Content.{AggregatorContent, content_of};
-    ghost use Rattle.wac_aggregator.specs.Alone.{AreAlone};
     ghost use Rattle.wac_aggregator.specs.InOrder.{IsMergingInOrder};
 
     ghost Value = { AggregatorContent };
 
     ghost view = { λ a. content_of a.state };
 
-    ghost invariant = { λ a. IsMergingInOrder a.state × AreAlone a.state a.alone.entries };
+    ghost invariant = { λ a. IsMergingInOrder a.state };
 }
 
 impl TypeAggregator {
@@ -69,7 +64,6 @@ impl TypeAggregator {
     {
         TypeAggregator {
             state: no_imports(alloc, number, SubtypeCheck::Covariant, 0),
-            alone: IndexMap::new(alloc),
         }
     }
 
@@ -146,15 +140,12 @@ impl TypeAggregator {
         ensures depth { depth checker.new ≡ depth checker.old }
         ensures same_cache { checker.new.cache.ghost_name ≡ checker.old.cache.ghost_name }
     {
-        let TypeAggregator {
-            mut state,
-            mut alone,
-        } = self;
+        let mut state = self.state;
         checker.forget(state.types.number());
         state.check = checker.direction();
         types.sound();
-        advance(&mut state, &mut alone, &Call { name, types, kind })?;
+        advance(&mut state, &Call { name, types, kind })?;
         state.imports.filed();
-        Ok(TypeAggregator { state, alone })
+        Ok(TypeAggregator { state })
     }
 }

@@ -21,7 +21,6 @@ ghost use Rattle.wac_aggregator.specs.Content.{shown, state_in};
 use super::aggregator::TypeAggregator;
 use super::importing::advance;
 use super::start::no_imports;
-use indexmap::IndexMap;
 use std::alloc::Global;
 use wac_aggregator_errors::AggregateAllError;
 use wac_checker::SubtypeChecker;
@@ -91,14 +90,13 @@ pub fn aggregate_all(
 {
     checker.forget(number);
     let mut state = no_imports(alloc, number, checker.direction(), calls.len());
-    let mut alone = IndexMap::new(alloc);
     for at in 0..calls.len() {
         let call = &calls[at];
         call.types.sound();
-        if let Err(error) = advance(&mut state, &mut alone, call) {
+        if let Err(error) = advance(&mut state, call) {
             return Err(AggregateAllError { at, error });
         }
         state.imports.filed();
     }
-    Ok(TypeAggregator { state, alone })
+    Ok(TypeAggregator { state })
 }

@@ -1,6 +1,6 @@
 //! One call: an item becomes an import, or is merged into one.
 
-ghost use Rattle.std.specs.Prelude.{◌≡◌, ◌⊎◌, List, Some, None, IsSome, IfErr, IfOk, MatchResult};
+ghost use Rattle.std.specs.Prelude.{◌≡◌, ◌⊎◌, Some, None, IsSome, IfErr, MatchResult};
 ghost use Rattle.std.specs.Option.{option_map};
 ghost use Rattle.wac_model.specs.Desc.{item_desc};
 ghost use Rattle.wac_component.specs.Id.{Id};
@@ -10,42 +10,34 @@ ghost use Rattle.wac_aggregator_promises.specs.Case.{case_of};
 ghost use Rattle.wac_aggregator_promises.specs.Entries.{ReachesByUses};
 ghost use Rattle.wac_aggregator_promises.specs.Reason.{kinds, taken};
 ghost use Rattle.wac_aggregator_imports.specs.Import.{import_of};
-ghost use Rattle.wac_names.specs.Class.{Class, class_of};
+ghost use Rattle.wac_names.specs.Class.{class_of};
 ghost use Rattle.wac_aggregator_errors.specs.declared.error.AggregateError.TheVariants.{Memory};
 ghost use Rattle.wac_aggregator_taking.specs.Members.{AnswersMembers};
 ghost use Rattle.wac_aggregator_errors.specs.Said.{said};
 ghost use Rattle.wac_aggregator_taking.specs.Takes.{MayTake};
 ghost use Rattle.wac_aggregator.specs.HandedIn.{called};
 ghost use Rattle.wac_aggregator.specs.Advances.{Advances, PutsLast, IsRefusedCall};
-ghost use Rattle.wac_aggregator.specs.Alone.{AreAlone};
 ghost use Rattle.wac_aggregator.specs.Wit.{MayHandIn};
 
 use super::all::Call;
 use super::cases::{as_interface, same_case};
 use super::noting::note_import;
-use indexmap::IndexMap;
 use std::alloc::AllocError;
 use wac_aggregator_errors::AggregateError;
 use wac_aggregator_taking::{HandedIn, Merging, take_item};
-use wac_component::{InterfaceId, ItemKind, Types};
+use wac_component::{ItemKind, Types};
 use wac_names::NameClass;
 
 /// Imports an item under a name, and notes what is told of a mismatch.
-pub(crate) fn advance(
-    state: &mut Merging,
-    alone: &mut IndexMap<NameClass, InterfaceId>,
-    call: &Call<'_>,
-) -> Result<(), AggregateError>
+pub(crate) fn advance(state: &mut Merging, call: &Call<'_>) -> Result<(), AggregateError>
     requires source { AllStand call.now.types.now (item_keys call.now.kind) }
     requires state { MayTake call.now.types.now state.old }
-    requires alone { AreAlone state.old alone.old.entries }
-    ensures alone { IfOk result (λ u. AreAlone state.new alone.new.entries) }
     ensures advances { MatchResult result (λ u. Advances (called call.now) state.old state.new) (IsRefusedCall (called call.now) state.old) }
     ensures members { (i : Id) → MayHandIn (called call.now) state.old i → AnswersMembers result call.now.types.now state.old state.new (ReachesByUses call.now.types.now i) }
 {
     let class = NameClass::of(state.alloc(), call.name)?;
     note_handed_in(state, call, &class)?;
-    import(state, alone, class, call)
+    import(state, class, call)
 }
 
 // Notes the interface that is handed in, for what is told of a mismatch, and the class of the name
@@ -62,22 +54,15 @@ fn note_handed_in(state: &mut Merging, call: &Call<'_>, class: &NameClass) -> Re
 }
 
 // Imports an item under a name: into the import on the name's track, if there is one.
-fn import(
-    state: &mut Merging,
-    alone: &mut IndexMap<NameClass, InterfaceId>,
-    class: NameClass,
-    call: &Call<'_>,
-) -> Result<(), AggregateError>
+fn import(state: &mut Merging, class: NameClass, call: &Call<'_>) -> Result<(), AggregateError>
     requires source { AllStand call.now.types.now (item_keys call.now.kind) }
     requires state { MayTake call.now.types.now state.old }
     requires of { class ≡ class_of call.now.name.now }
-    requires alone { AreAlone state.old alone.old.entries }
-    ensures alone { IfOk result (λ u. AreAlone state.new alone.new.entries) }
     ensures advances { MatchResult result (λ u. Advances (called call.now) state.old state.new) (IsRefusedCall (called call.now) state.old) }
     ensures members { (i : Id) → MayHandIn (called call.now) state.old i → AnswersMembers result call.now.types.now state.old state.new (ReachesByUses call.now.types.now i) }
 {
     match state.imports.kind_of(&class) {
-        Some(existing) => merge_import(state, alone, class, existing, call),
+        Some(existing) => merge_import(state, class, existing, call),
         None => add_import(state, class, call),
     }
 }
@@ -88,7 +73,6 @@ fn add_import(state: &mut Merging, class: NameClass, call: &Call<'_>) -> Result<
     requires state { MayTake call.now.types.now state.old }
     requires of { class ≡ class_of call.now.name.now }
     requires new { import_of state.old.imports class ≡ None }
-    ensures alone { IfOk result (λ u. (es : List (Class × Id)) → AreAlone state.old es → AreAlone state.new es) }
     ensures advances { MatchResult result (λ u. Advances (called call.now) state.old state.new) (IsRefusedCall (called call.now) state.old) }
     ensures members { (i : Id) → MayHandIn (called call.now) state.old i → AnswersMembers result call.now.types.now state.old state.new (ReachesByUses call.now.types.now i) }
 {
@@ -119,7 +103,6 @@ fn put_import(
 // Takes in an item, and merges it into the import of a class.
 fn merge_import(
     state: &mut Merging,
-    alone: &mut IndexMap<NameClass, InterfaceId>,
     class: NameClass,
     existing: ItemKind,
     call: &Call<'_>,
@@ -128,13 +111,11 @@ fn merge_import(
     requires state { MayTake call.now.types.now state.old }
     requires of { class ≡ class_of call.now.name.now }
     requires found { option_map (λ i. i.1) (import_of state.old.imports class) ≡ Some existing }
-    requires alone { AreAlone state.old alone.old.entries }
-    ensures alone { IfOk result (λ u. AreAlone state.new alone.new.entries) }
     ensures advances { MatchResult result (λ u. Advances (called call.now) state.old state.new) (IsRefusedCall (called call.now) state.old) }
     ensures members { (i : Id) → MayHandIn (called call.now) state.old i → AnswersMembers result call.now.types.now state.old state.new (ReachesByUses call.now.types.now i) }
 {
     match check_case(&state.types, &existing, call.types, &call.kind) {
-        Ok(()) => merge_taken(state, alone, class, existing, call),
+        Ok(()) => merge_taken(state, class, existing, call),
         Err(error) => Err(error),
     }
 }
@@ -142,7 +123,6 @@ fn merge_import(
 // The same of an item of the import's case: the interface that it is merged with is near to it.
 fn merge_taken(
     state: &mut Merging,
-    alone: &mut IndexMap<NameClass, InterfaceId>,
     class: NameClass,
     existing: ItemKind,
     call: &Call<'_>,
@@ -151,14 +131,12 @@ fn merge_taken(
     requires state { MayTake call.now.types.now state.old }
     requires of { class ≡ class_of call.now.name.now }
     requires found { option_map (λ i. i.1) (import_of state.old.imports class) ≡ Some existing }
-    requires alone { AreAlone state.old alone.old.entries }
-    ensures alone { IfOk result (λ u. AreAlone state.new alone.new.entries) }
     ensures advances { MatchResult result (λ u. Advances (called call.now) state.old state.new) (IsRefusedCall (called call.now) state.old) }
     ensures members { (i : Id) → MayHandIn (called call.now) state.old i → AnswersMembers result call.now.types.now state.old state.new (ReachesByUses call.now.types.now i) }
 {
     let near = as_interface(&existing);
     match take_item(state, call.types, call.kind, near) {
-        Ok(own) => note_import(state, alone, class, call.name, existing, own),
+        Ok(own) => note_import(state, class, call.name, existing, own),
         Err(error) => Err(error),
     }
 }

@@ -4,7 +4,6 @@
 
 mod aggregator;
 mod all;
-mod alone;
 mod cases;
 mod importing;
 mod noting;

@@ -9,23 +9,19 @@ ghost use Rattle.wac_names.specs.Class.{class_of};
 ghost use Rattle.wac_aggregator_errors.specs.declared.error.AggregateError.TheVariants.{Memory};
 ghost use Rattle.wac_aggregator_taking.specs.Growing.{IsOwnMeet};
 ghost use Rattle.wac_aggregator_taking.specs.Refused.{IsMergeRefusal};
-ghost use Rattle.wac_aggregator.specs.Advances.{IsMerged, IsMetInto};
-ghost use Rattle.wac_aggregator.specs.Alone.{AreAlone, AreAloneWith, MayMerge};
+ghost use Rattle.wac_aggregator.specs.Advances.{IsMerged};
 
-use super::alone::{as_smaller, grow_import};
 use super::cases::is_one_instance;
-use indexmap::IndexMap;
 use std::alloc::AllocError;
 use wac_aggregator_errors::{AggregateError, mismatch};
 use wac_aggregator_taking::{Merging, meet_own};
 use wac_aggregator_uses::check_uses_of;
-use wac_component::{InterfaceId, ItemKind};
+use wac_component::ItemKind;
 use wac_names::NameClass;
 
 /// Merges an item that was taken in into the import of a class.
 pub(crate) fn note_import(
     state: &mut Merging,
-    alone: &mut IndexMap<NameClass, InterfaceId>,
     class: NameClass,
     name: &str,
     existing: ItemKind,
@@ -35,12 +31,10 @@ pub(crate) fn note_import(
     requires own { AllStand state.old.types (item_keys own) }
     requires of { class ≡ class_of name.now }
     requires found { IsSome (import_of state.old.imports class) }
-    requires may { MayMerge state.old alone.old.entries (class_of name.now) existing own }
-    ensures alone { IfOk result (λ u. AreAlone state.new alone.new.entries) }
     ensures merged { MatchResult result (λ u. IsMerged state.old state.new name.now existing own) (IsMergeRefusal state.old.types existing own) }
     ensures itself { (i : Id) → existing ≡ Instance i → own ≡ Instance i → IfErr result (λ e. e ≡ Memory) }
 {
-    match merge_items(state, alone, name, existing, own) {
+    match merge_items(state, existing, own) {
         Ok(met) => Ok(note(state, class, name, met)?),
         Err(error) => Err(error),
     }
@@ -50,17 +44,13 @@ pub(crate) fn note_import(
 // instances of one interface. Two interfaces or two worlds may not disagree in what they use.
 fn merge_items(
     state: &mut Merging,
-    alone: &mut IndexMap<NameClass, InterfaceId>,
-    name: &str,
     existing: ItemKind,
     own: ItemKind,
 ) -> Result<ItemKind, AggregateError>
     requires existing { AllStand state.old.types (item_keys existing) }
     requires own { AllStand state.old.types (item_keys own) }
-    requires may { MayMerge state.old alone.old.entries (class_of name.now) existing own }
     ensures same { state.new ≡ record state.old { types = state.new.types } }
-    ensures alone { IfOk result (AreAloneWith state.new alone.new.entries (class_of name.now)) }
-    ensures met { MatchResult result (IsMetInto state.old state.new.types (class_of name.now) existing own) (IsMergeRefusal state.old.types existing own) }
+    ensures met { MatchResult result (IsOwnMeet state.old.types state.new.types existing own) (IsMergeRefusal state.old.types existing own) }
     ensures itself { (i : Id) → existing ≡ Instance i → own ≡ Instance i → IfErr result (λ e. e ≡ Memory) }
 {
     if is_one_instance(existing, own) {
@@ -69,28 +59,6 @@ fn merge_items(
     }
     let alloc = state.alloc();
     check_uses_of(alloc, &state.types, existing, own)?;
-    if let Some((entry, other)) = as_smaller(&state.types, &existing, &own) {
-        let grown = grow_import(state, alone, name, entry, other)?;
-        return Ok(ItemKind::Instance(grown));
-    }
-    match meet_whole(state, existing, own) {
-        Ok(met) => Ok(met),
-        Err(error) => Err(error),
-    }
-}
-
-// The same of items of which neither grows.
-fn meet_whole(
-    state: &mut Merging,
-    existing: ItemKind,
-    own: ItemKind,
-) -> Result<ItemKind, AggregateError>
-    requires existing { AllStand state.old.types (item_keys existing) }
-    requires own { AllStand state.old.types (item_keys own) }
-    ensures same { state.new ≡ record state.old { types = state.new.types } }
-    ensures met { MatchResult result (IsOwnMeet state.old.types state.new.types existing own) (IsMergeRefusal state.old.types existing own) }
-{
-    let alloc = state.alloc();
     match meet_own(alloc, &mut state.types, existing, own)? {
         Some(met) => Ok(met),
         None => {

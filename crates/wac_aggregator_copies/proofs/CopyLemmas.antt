@@ -18,14 +18,12 @@ use Rattle.wac_component.proofs.Last.{IsLast}
 use Rattle.wac_aggregator_memo.proofs.Ordering.{needed_low}
 use Rattle.wac_component.proofs.Returns.{Reaches-trans}
 use Rattle.wac_names.specs.Class.{class_of}
-use Rattle.wac_aggregator_narrowing.specs.Alone.{IsAlone}
 use Rattle.wac_aggregator_narrowing.specs.Entering.{AddsCopy, IsCopiedInto}
 use Rattle.wac_aggregator_narrowing.specs.Last.{last_key}
 use Rattle.wac_aggregator_narrowing.specs.Remembers.{RemembersTruly}
 use Rattle.wac_aggregator_narrowing.specs.State.{State, RunsTaking}
 use Rattle.wac_aggregator_narrowing.specs.Taking.{IsCopiedKey, AreCopiedKeys}
 use Rattle.wac_aggregator_narrowing.proofs.Adding.{last_at}
-use Rattle.wac_aggregator_narrowing.proofs.Alone.{copies_leave_out, last_another, alone_added, pair_another}
 use Rattle.wac_aggregator_narrowing.proofs.Mapped.{paired_each, paired_of}
 use Rattle.wac_aggregator_narrowing.proofs.Running.{RunsTaking-refl, RunsTaking-trans}
 use Rattle.wac_aggregator_reasons.specs.Split.{IsLow, of_copy, StaySplit}
@@ -85,7 +83,6 @@ module _ (f : Collection) where
     added = h.added;
     runs = λ s is. let r = (h.runs s is).0 in (r, p (moved s d n) (IsState-moved c d m n s is r));
     splits = h.splits;
-    alone = h.alone;
   }
 
   -- nothing is copied
@@ -96,7 +93,6 @@ module _ (f : Collection) where
     added = λ s is k stands. inl stands;
     runs = λ s is. (subst (λ t. RunsTaking (RemembersTruly class_of) f s t) (sym (moved-same f c m s is)) (RunsTaking-refl (RemembersTruly class_of) f s), tt);
     splits = λ s is. subst (λ t. StaySplit s t) (sym (moved-same f c m s is)) (record { opens = λ k st o. o; lows = λ k low. low });
-    alone = λ s is k h. subst (λ t. IsAlone t k) (sym (moved-same f c m s is)) h;
   }
 
   pub HasCopies-had : (c : Collection) (m : Memo) (ks : List Key) → Each (HasOwn (memo_of m)) ks → HasCopies f c m c m ks
@@ -125,7 +121,6 @@ module _ (f : Collection) where
           let first = g.splits s is in
           let then = h.splits (moved s d n) (IsState-moved c d m n s is r) in
           record { opens = λ k st o. then.opens k ((r.narrows is.kept).standing k st) (first.opens k st o); lows = λ k low. then.lows k (first.lows k low) };
-      alone = λ s is k was. h.alone (moved s d n) (IsState-moved c d m n s is (g.runs s is).0) k (g.alone s is k was);
     }
 
     pub HasCopies-then : MayCopy f c m → HasCopies f c m d n ks → HasCopies f d n e o js → HasCopies f c m e o (ks ++ js)
@@ -190,11 +185,6 @@ module _ (f : Collection) where
           let low : Each (IsLow u) (entry_keys z) = copies_low f u (next f theirs) (entry_keys z) parts in
           let stand : AllStand u.own (entry_keys z) = paired_each (IsCopiedKey f u) (Stands u.own) (λ i j k. k.copy.own_stands) (next f theirs) (entry_keys z) parts in
           copy_splits u (moved s e o) (own_state s is).kept z added stand (each_among (IsLow u) (import_keys z) (λ j q. among_each (IsLow u) j (entry_keys z) ((imports-apart z j).1 (inl q)) low)) theirs (subst (AddsPair (memo_of m) (memo_of o) theirs) last adds) low);
-      alone = λ s is k h.
-          let u : State = moved s c m in
-          let was : IsAlone u k = subst (λ t. IsAlone t k) (sym (moved-same f c m s is)) h in
-          alone_added u (moved s e o) z k (own_state s is).kept.good.sound added (copies_leave_out f u k (next f theirs) (entry_keys z) was (copied s is).parts) (λ i at. at)
-          (pair_another (memo_of m) (memo_of o) theirs own k adds (λ same. last_another c z k was.stands (sym last ∙ same))) was;
     }
 
     names_new : (s : State) → IsState f c m s → (j : Key) → IsAmong j (next f theirs) → NamesCopy e o theirs j
@@ -268,7 +258,6 @@ module _ (f : Collection) where
         ];
         runs = h.copies.runs;
         splits = h.copies.splits;
-        alone = h.copies.alone;
       };
       has = has_copies;
       named = h.named;

@@ -11,7 +11,6 @@ use Rattle.wac_component.specs.Tree.{root_name}
 use Rattle.wac_aggregator_memo.specs.declared.memo.Memo.{Memo}
 use Rattle.wac_merge.specs.Items.{ExternKinds}
 use Rattle.wac_names.specs.Class.{class_of}
-use Rattle.wac_aggregator_narrowing.specs.Alone.{IsAlone}
 use Rattle.wac_aggregator_narrowing.specs.Remembers.{RemembersTruly}
 use Rattle.wac_aggregator_narrowing.specs.State.{State, IsStateKept, RunsTaking}
 use Rattle.wac_aggregator_narrowing.specs.Taking.{AreMapped, IsCopiedItem, IsCopiedKey, AreCopiedKeys}
@@ -43,15 +42,14 @@ pub record IsBelowCopy (d : Collection) (n : Memo) (ks : List Key) (k : Key) : T
 
 -- what copying these ids of f does to the own collection and to what was copied: entries are only
 -- added, below copies of these ids, each state runs on to one of which the fact holds, no id is
--- noted that is higher than these, what open walks lead to stays apart from copies and from what is
--- below imports, and what is alone stays so
+-- noted that is higher than these, and what open walks lead to stays apart from copies and from
+-- what is below imports
 pub record Copies (f c : Collection) (m : Memo) (d : Collection) (n : Memo) (ks : List Key) (Holds : State → Type 0) : Type 0 where
   pub low : (k : Key) → keys_height f ks < height f k → memo_of m k ≡ None → memo_of n k ≡ None
   pub grows : (s : State) → IsState f c m s → Extends c d
   pub added : (s : State) → IsState f c m s → (k : Key) → Stands d k → Stands c k ⊎ IsBelowCopy d n ks k
   pub runs : (s : State) → IsState f c m s → RunsTaking (RemembersTruly class_of) f s (moved s d n) × Holds (moved s d n)
   pub splits : (s : State) → IsState f c m s → StaySplit s (moved s d n)
-  pub alone : (s : State) → IsState f c m s → (k : Key) → IsAlone s k → IsAlone (moved s d n) k
 
 -- under the same names stand the copies of the items
 abbrev pub AreItemsCopied : Collection → ExternKinds → ExternKinds → State → Type 0

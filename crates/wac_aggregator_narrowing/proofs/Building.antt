@@ -128,20 +128,6 @@ module _ (c d : Collection) (o : Origins) (s : IsSound c) (only : OnlyBuilds c d
         (from_imports b.first b.second b.self b.is_from (names_stand (o k).0 b.first b.first_stands b.first_at) (names_stand (o k).1 b.second b.second_stands b.second_at)
         (rw b.first_at at (closed (o k).0 b.first_stands)) (rw b.second_at at (closed (o k).1 b.second_stands)))
 
-    -- a fact of what entries name, of each added entry
-    pub added_names : ((k : Key) → Stands c k → Each P (next c k)) → (k : Key) → IsAddedBuilt c d o k → Each IsBuiltFrom (next d k)
-    added_names closed k b = each_among IsBuiltFrom (next d k) (λ j m. elim (import_or_open d k j m) [
-      | inl n ↦ among_each IsBuiltFrom j (import_next d k) n (added_imports (λ i st. each_among P (import_next c i) (λ x y. among_each P x (next c i) (import_in_next c i x y) (closed i st))) k b)
-      | inr n ↦ among_each IsBuiltFrom j (other_keys b.self) (subst (λ (ks : List Key). IsAmong j ks) (ap (optional_keys other_keys) b.self_at) n) (all b)
-    ])
-      where
-        others : (i : Key) (e : Entry) → Stands c i → entry_at c i ≡ Some e → Each P (other_keys e)
-        others i e st is = each_among P (other_keys e) (λ x n. among_each P x (next c i) (open_in_next c i x (subst (λ (ks : List Key). IsAmong x ks) (sym (ap (optional_keys other_keys) is)) n)) (closed i st))
-
-        all : (b : IsAddedBuilt c d o k) → Each IsBuiltFrom (other_keys b.self)
-        all b = from_others b.first b.second b.self b.is_from (names_stand (o k).0 b.first b.first_stands b.first_at) (names_stand (o k).1 b.second b.second_stands b.second_at)
-            (others (o k).0 b.first b.first_stands b.first_at) (others (o k).1 b.second b.second_stands b.second_at)
-
     pub from_open_next : ((k j : Key) → P k → IsAmong j (open_next c k) → P j) → (k j : Key) → IsBuiltFrom k → IsAmong j (open_next d k) → IsBuiltFrom j
     from_open_next closed k j (stood st h) m = let n = subst (λ (ks : List Key). IsAmong j ks) (open_next_kept c d s only.extends k st) m in stood (open_stands c s k j st n) (closed k j h n)
     from_open_next closed k j (made st new left right) m = elim (only.added k st) [ inl old ↦ absurd (new old) | inr b ↦ at_added b ]
@@ -171,7 +157,7 @@ module _ (c d : Collection) (o : Origins) (s : IsSound c) (only : OnlyBuilds c d
     from_reaches closed k t h (step {j = j} m w) = from_reaches closed j t (from_next closed k j h m) w
 
     -- where it leads to what stood
-    pub from_stood : (k : Key) → IsBuiltFrom k → Stands c k → P k
+    from_stood : (k : Key) → IsBuiltFrom k → Stands c k → P k
     from_stood k (stood st h) old = h
     from_stood k (made st new left right) old = absurd (new old)
 

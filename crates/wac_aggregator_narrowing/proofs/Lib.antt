@@ -16,6 +16,3 @@ pub mod Entering
 pub mod New
 pub mod Values
 pub mod EnteringLeaves
-pub mod Alone
-pub mod GrownAlone
-pub mod GrowsTo

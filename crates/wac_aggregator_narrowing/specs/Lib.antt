@@ -4,7 +4,6 @@ pub mod Narrows
 pub mod Standing
 pub mod Imports
 pub mod State
-pub mod Alone
 pub mod Remembers
 pub mod Taking
 pub mod Last

@@ -46,7 +46,6 @@ use Rattle.wac_aggregator_alike.specs.Alike.{made_keys, made_next, IsTypeMadeOf,
 use Rattle.wac_aggregator_alike.proofs.MadeOf.{IsTypeKey, is_type_sort, made_opens, made_types, made_stands, made_unidentified, made_or_owned, no_identifier}
 use Rattle.wac_aggregator_taking.specs.Takes.{state_of, MayTake, IsOwnEntry, IsNear, IsNearest, near_keys, AreNear, NearNames, AreWithin, TakesBy, Takes, owners_keys, LeadsToOwner, OwnersImported, IsOwnerImported, IsTakenOwner, AreOwnersTaken}
 use Rattle.wac_aggregator_taking.specs.declared.state.Merging.{Merging}
-use Rattle.wac_aggregator_taking.proofs.Alone.{alone_noted}
 use Rattle.wac_aggregator_taking.proofs.TakeLemmas.{still_none, known_within, known_still, noted_known, trial_within, near_still, near_none, owners_import_still, owners_import_within, shared_from_still, shared_from_within, shared_stands}
 use Rattle.wac_aggregator_taking.proofs.Plain.{plain_within}
 use Rattle.wac_aggregator_taking.proofs.Parts.{owner_still}
@@ -320,7 +319,6 @@ module _ (f : Collection) (sound : IsSound f) (a b : Merging) (now : Memo) (thei
               shared = only.shared;
               noted = λ k o is. elim (noted_known f b c theirs ours stands.0 adds (known_still f a b (theirs ∷ []) g.run all) k o is) [ inl was ↦ only.noted k o was | inr new ↦ inr new ];
             };
-        alone = λ m was. alone_noted t (state_of c) theirs ours m is_own_type refl refl adds (g.alone m was);
         accounts = λ at trial all by.
             let standing = (g.run.narrows may.kept).standing in
             let one = g.accounts at (trial_within at f (map resource_key rs) (theirs ∷ []) within trial) all (near_none at a) in

@@ -40,10 +40,8 @@ use Rattle.wac_merge.specs.Bounded.{KeepsFitting as IsKeptOf}
 use Rattle.wac_merge.specs.Built.{Origins, OnlyBuilds, AreOnes, IsBuilt, uses_of_both}
 use Rattle.wac_merge.specs.Items.{ExternKinds, AreUnhidden, extern_keys}
 use Rattle.wac_merge.proofs.PutLemmas.{lookup-insert_entry}
-use Rattle.wac_aggregator_narrowing.specs.Alone.{LeavesOut}
 use Rattle.wac_aggregator_narrowing.specs.Apart.{IsGood}
 use Rattle.wac_aggregator_narrowing.specs.Identified.{IsCovered}
-use Rattle.wac_aggregator_narrowing.proofs.Alone.{built_unnamed, built_leave_out}
 use Rattle.wac_aggregator_narrowing.proofs.Building.{built_covered, added_unidentified}
 use Rattle.wac_aggregator_narrowing.proofs.Contents.{served_same}
 use Rattle.wac_aggregator_narrowing.proofs.Mapped.{AreServed-trans}
@@ -66,10 +64,10 @@ use Rattle.wac_aggregator_taking.specs.Growing.{StepsOn, IsOwnMeet, IsMetIfAny, 
 -- ---- collections that are only added to
 
 pub StepsOn-refl : (c : Collection) → StepsOn c c
-StepsOn-refl c = record { grows = Extends-refl c; identified = λ k n stands is. stands; steps = λ ss g. IsGoodStep-refl c ss g; unnamed = λ m st h. h }
+StepsOn-refl c = record { grows = Extends-refl c; identified = λ k n stands is. stands; steps = λ ss g. IsGoodStep-refl c ss g }
 
 pub StepsOn-trans : (c d e : Collection) → StepsOn c d → StepsOn d e → StepsOn c e
-StepsOn-trans c d e g h = record { grows = Extends-trans c d e g.grows h.grows; identified = λ k n stands is. let then = h.identified k n stands is in g.identified k n then (ap (λ o. option_map_or entry_identifier o None) (sym (h.grows.same_entry k then)) ∙ is); steps = λ ss k. IsGoodStep-trans c d e ss ss ss (g.steps ss k) (h.steps ss (g.steps ss k).good); unnamed = λ m st was. h.unnamed m (g.grows.standing m st) (g.unnamed m st was) }
+StepsOn-trans c d e g h = record { grows = Extends-trans c d e g.grows h.grows; identified = λ k n stands is. let then = h.identified k n stands is in g.identified k n then (ap (λ o. option_map_or entry_identifier o None) (sym (h.grows.same_entry k then)) ∙ is); steps = λ ss k. IsGoodStep-trans c d e ss ss ss (g.steps ss k) (h.steps ss (g.steps ss k).good) }
 
 module _ (c d : Collection) (on : StepsOn c d) where
   -- what openly led to shared interfaces alone does so still
@@ -188,7 +186,7 @@ built_identified c d o sound only k n stands is = elim (only.added k stands) [
 pub built_met : (c d : Collection) (o : Origins) (a b m : ItemKind) → IsSound c → IsSound d → OnlyBuilds c d o → AreOnes c d o → IsBuilt c d o a b m → AllStand c (item_keys a) → AllStand c (item_keys b) → AllStand d (item_keys m)
     → Fits (item_tree d m) (item_tree c a) → Fits (item_tree d m) (item_tree c b) → ((t : ItemTree) → Fits t (item_tree c a) → Fits t (item_tree c b) → Fits t (item_tree d m)) → (Fits (item_tree c a) (item_tree c b) → m ≡ a) → IsOwnMeet c d a b m
 built_met c d o a b m sound sound_too only ones built sa sb sm fa fb greatest kept = record {
-  on = record { grows = only.extends; identified = built_identified c d o sound only; steps = λ ss g. building_steps c d ss o g sound_too only; unnamed = λ k st h. built_unnamed c d o sound only k st h };
+  on = record { grows = only.extends; identified = built_identified c d o sound only; steps = λ ss g. building_steps c d ss o g sound_too only };
   stands = sm;
   answer = Ok (Some m);
   builds = record { origins = o; only = only; ones = ones; built = built };
@@ -197,7 +195,6 @@ built_met c d o a b m sound sound_too only ones built sa sb sm fa fb greatest ke
   fits_second = fb;
   greatest = greatest;
   kept = kept;
-  beside = λ k st ha hb. built_leave_out c d o sound only k st a b m built sa sb ha hb;
   covered = λ ss g ha hb. built_covered c d o sound only sound_too ss a b m built sa sb ha hb;
 }
 
@@ -260,7 +257,6 @@ met_none c es st = record {
   serve_second = λ n. tt;
   meets = λ n. meet_alone (option_map (item_tree c) (lookup bytes_eq es n));
   others = λ n none. refl;
-  beside = λ k st h j. h;
   covered = λ ss g h k. h;
   accounts = λ at s kept all hx hy. (record { stays = accounted_none at (with_own s c) all; roots = none_roots at (with_own s c) all }, hx);
   along = λ ss rs from g h k. h;
@@ -272,16 +268,14 @@ pub met_put : (c d : Collection) (es ms : ExternKinds) (n : Text) (a m : ItemKin
     → ((ss : List Key) → IsGood c ss → Each (IsCovered c ss) (extern_keys es) → Each (IsCovered c ss) (item_keys a) → Each (IsCovered d ss) (item_keys m))
     → ((at : Attempt) (s : State) → IsStateKept (with_own s c) → (all : IsAccounted at (with_own s c)) → AreOpenItems at (with_own s c) es → IsOpenItem at (with_own s c) n a → StaysAlong at (with_own s c) (with_own s d) all × IsOpenItem at (with_own s d) n m)
     → ((ss : List Key) (rs : List Root) (from : Class) → IsGood c ss → Each (LeadsAlongArrows c ss rs from) (extern_keys es) → Each (LeadsAlongArrows c ss rs from) (item_keys a) → Each (LeadsAlongArrows d ss rs from) (item_keys m))
-    → ((k : Key) → Stands c k → LeavesOut k (extern_keys es) → LeavesOut k (item_keys a) → LeavesOut k (item_keys m))
     → ms ≡ insert_entry bytes_eq es n m → AreMetWith c d es ((n, a) ∷ []) ms
-met_put c d es ms n a m on st sm fits before greatest covers opens leads leaves put = record {
+met_put c d es ms n a m on st sm fits before greatest covers opens leads put = record {
   on = on;
   stand = rw put (each_put (Stands d) es n m (AllStand-Extends c d on.grows (extern_keys es) st) sm);
   serve_first = λ q. rw (found q) (first q (bytes_eq q n) refl (lookup bytes_eq es q) refl);
   serve_second = λ q. rw (found q) (second (bytes_eq q n) (lookup bytes_eq es q));
   meets = λ q. rw (found q) (met q (bytes_eq q n) refl);
   others = λ q none. found q ∙ other (bytes_eq q n) (lookup bytes_eq es q) none;
-  beside = λ k at h j. rw put (each_put (λ i. ¬ (i ≡ k)) es n m h (leaves k at h (Each-left (λ i. ¬ (i ≡ k)) (item_keys a) [] j)));
   covered = λ ss g h k. rw put (each_put (IsCovered d ss) es n m (covered_on c d on ss g (extern_keys es) st h) (covers ss g h (Each-left (IsCovered c ss) (item_keys a) [] k)));
   accounts = λ at s kept all hx hy.
       let r = opens at s kept all hx (hy n a (Contains-first (n, a) [])) in
@@ -338,7 +332,6 @@ met_then c d e es xs ms ns n a absent st sa g h = record {
   others = λ q none.
       let parts = none_or (lookup bytes_eq xs q) (lookup bytes_eq ((n, a) ∷ []) q) (sym (lookup-append bytes_eq xs ((n, a) ∷ []) q) ∙ none) in
       h.others q parts.1 ∙ g.others q parts.0;
-  beside = λ k at x y. h.beside k (g.on.grows.standing k at) (g.beside k at x (first_externs (λ i. ¬ (i ≡ k)) xs ((n, a) ∷ []) y)) (last_externs (λ i. ¬ (i ≡ k)) xs ((n, a) ∷ []) y);
   covered = λ ss good k j.
       h.covered ss (g.on.steps ss good).good (g.covered ss good k (first_externs (IsCovered c ss) xs ((n, a) ∷ []) j))
       (covered_on c d g.on ss good (item_keys a ++ []) (Each-append (Stands c) (item_keys a) [] sa tt) (last_externs (IsCovered c ss) xs ((n, a) ∷ []) j));

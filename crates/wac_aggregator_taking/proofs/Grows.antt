@@ -7,7 +7,7 @@ use Rattle.wac_component.specs.Entries.{identifier_at}
 use Rattle.wac_component.specs.Growth.{Extends}
 use Rattle.wac_component.specs.Height.{height}
 use Rattle.wac_component.specs.Id.{Id}
-use Rattle.wac_component.specs.Key.{Key, Each, Stands, AllStand, interface_entry, entry_at, interface_key, interface_keys, named_keys, use_keys, optional_keys, entry_keys, other_keys}
+use Rattle.wac_component.specs.Key.{Key, Each, Stands, AllStand, interface_entry, entry_at, interface_key, interface_keys, named_keys, use_keys, optional_keys, other_keys}
 use Rattle.wac_aggregator_memo.specs.Memo.{AddsPair, memo_of}
 use Rattle.wac_component.specs.Open.{open_next, step}
 use Rattle.wac_component.specs.Reach.{IsAmong}
@@ -20,16 +20,14 @@ use Rattle.wac_component.proofs.Reading.{interface_at}
 use Rattle.wac_merge.specs.Built.{uses_of_both}
 use Rattle.wac_merge.specs.Items.{ExternKinds, extern_keys, AreUnhidden}
 use Rattle.wac_names.specs.Class.{class_of}
-use Rattle.wac_aggregator_narrowing.specs.Alone.{LeavesOut, IsAlone}
 use Rattle.wac_aggregator_narrowing.specs.Entering.{InterfaceIsTaken}
 use Rattle.wac_aggregator_narrowing.specs.Identified.{IsCovered}
 use Rattle.wac_aggregator_narrowing.specs.Narrows.{IsGoodStep, CanGrow, grown}
 use Rattle.wac_aggregator_narrowing.specs.Remembers.{RemembersTruly}
 use Rattle.wac_aggregator_narrowing.specs.State.{State, IsStateKept, RunsTaking}
 use Rattle.wac_aggregator_narrowing.specs.Taking.{IsTakenKey, IsTakenItem}
-use Rattle.wac_aggregator_narrowing.proofs.Alone.{names_leave_out, taken_leave_out, grown_unnamed, alone_still, pair_another}
 use Rattle.wac_aggregator_narrowing.proofs.Growing.{stood}
-use Rattle.wac_aggregator_narrowing.proofs.Entering.{interface_parts, interface_named, interface_covered, grown_interface_enters}
+use Rattle.wac_aggregator_narrowing.proofs.Entering.{interface_named, interface_covered, grown_interface_enters}
 use Rattle.wac_aggregator_narrowing.proofs.Mapped.{mapped_more, taken_keys_still, taken_item_still}
 use Rattle.wac_aggregator_narrowing.proofs.Remembered.{RemembersTruly-step}
 use Rattle.wac_aggregator_narrowing.proofs.Running.{RunsTaking-step, RunsTaking-trans}
@@ -130,22 +128,6 @@ module _ (f : Collection) (a : Merging) (may : MayTake f a) (p e : Id) (name : T
     exports = served_on a.types d met.on d new.exports old.exports (Each-right (Stands a.types) (named_keys use_keys old.uses) (extern_keys old.exports) old_named) met.serve_first;
   }
 
-  -- what is alone isn't named by the grown entry
-  new_leaves_out : (m : Key) → IsAlone (state_of a) m → LeavesOut m (interface_keys new)
-  new_leaves_out m alone =
-      let P : Key → Type 0 = λ k. ¬ (k ≡ m) in
-      let of_old : Each P (interface_keys old) = subst (λ ks. Each P ks) (ap (optional_keys entry_keys) (interface_at a.types e old was)) (names_leave_out a.types m alone.unnamed (interface_key e) old_stands) in
-      let of_new : Each P (interface_keys z) = taken_leave_out class_of f (state_of a) m (open_next f (interface_key p)) (interface_keys z) alone (interface_parts class_of f (state_of a) may.kept p put.content z put.taken) in
-      named_by P (Each-left P (named_keys use_keys old.uses) (extern_keys old.exports) of_old) (Each-left P (named_keys use_keys us) (extern_keys es) of_new)
-      (met.beside m alone.stands (Each-right P (named_keys use_keys old.uses) (extern_keys old.exports) of_old) (Each-right P (named_keys use_keys us) (extern_keys es) of_new))
-
-  grown_alone : (w : Collection) (n : Memo) → ¬ (NamesReach d (interface_keys new) (interface_key e)) → w ≡ grown d e new → AddsPair (memo_of a.taken) (memo_of n) (interface_key p) (interface_key e)
-      → RunsTaking (RemembersTruly class_of) f (state_of a) (state_of (record a { types = w; taken = n })) → (m : Key) (found : Text) → identifier_at a.types (interface_key e) ≡ Some found → IsAlone (state_of a) m → IsAlone (state_of (record a { types = w; taken = n })) m
-  grown_alone w n acyclic is adds whole m found identified_so alone =
-      alone_still (state_of a) (state_of (record a { types = w; taken = n })) m ((whole.narrows may.kept).standing m alone.stands) ((whole.stops may.kept).identifiers m alone.stands)
-      (grown_unnamed d (state_of a).shared e old new (run.kept may.kept).good can acyclic w m is (met.on.unnamed m alone.stands alone.unnamed) (new_leaves_out m alone))
-      (pair_another (memo_of a.taken) (memo_of n) (interface_key p) (interface_key e) m adds (λ same. let both : None ≡ Some found = sym alone.plain ∙ ap (identifier_at a.types) (sym same) ∙ identified_so in cc)) (λ k at. at) alone
-
   pub Takes-grown : new.uses ≡ uses_of_both old.uses us → AreUnhidden es → AreUnhidden new.exports → (w : Collection) (n : Memo) → ¬ (NamesReach d (interface_keys new) (interface_key e)) → w ≡ grown d e new → AddsPair (memo_of a.taken) (memo_of n) (interface_key p) (interface_key e)
       → Takes f a (record a { types = w; taken = n }) (height f (interface_key p)) (interface_key p ∷ []) (λ t. IsTakenKey class_of f t (interface_key p) (interface_key e))
   Takes-grown uses_are found new_found w n acyclic is adds =
@@ -160,6 +142,6 @@ module _ (f : Collection) (a : Merging) (may : MayTake f a) (p e : Id) (name : T
       let then = stood d (state_of a).shared e old new (run.kept may.kept).good can acyclic k (subst (λ c. Stands c k) is stands) in
       inl (met.on.identified k m then (sym ((enters.run.stops (run.kept may.kept)).identifiers k then) ∙ at)) in
       Takes-entered f a (record a { types = w; taken = n }) (interface_key p) (interface_key e) put.taken.sound put.taken.stands adds refl (AreFiledIn-run f (state_of a) t a.shared.entries may.kept refl whole may.filed) (λ k m. inl m) settled
-      (λ all. absurd (not_known f a (interface_key p) name identified put.absent all)) (λ m was. grown_alone w n acyclic is adds whole m filed.0 filed.1 was)
+      (λ all. absurd (not_known f a (interface_key p) name identified put.absent all))
       (interface_owners f (state_of a) put.taken.sound may.kept p put.content z put.taken) (record { run = whole; taken = enters.taken })
       (λ at trial all. grown_accounted at f (state_of a) p e put.content us es name filed.0 may.kept trial all put.taken put.used identified put.absent among filed.1 filed.2 old new was d met found uses_are new_found t old_named uses can acyclic is refl refl refl adds own_is)

@@ -17,7 +17,6 @@ pub mod ReadyLemmas
 pub mod Enters
 pub mod Within
 pub mod Alike
-pub mod Alone
 pub mod Identifiers
 pub mod Plain
 pub mod Refusals
@@ -29,5 +28,4 @@ pub mod Members
 pub mod Arrowed
 pub mod MemberCycles
 pub mod MemberGrows
-pub mod GrownAlone
 pub mod Served

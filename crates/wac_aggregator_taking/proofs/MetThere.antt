@@ -28,8 +28,7 @@ module _ (c : Collection) (e : Id) (n : Text) (b a : ItemKind) (found : lookup b
       (λ t before this. met.greatest t (before b there) this)
       (λ ss good h k. met.covered ss good (each_found (IsCovered c ss) es n b there h) k)
       (λ at s kept all hx hy. met_open c d b a m met at s n kept all (hx n b there) hy)
-      (λ ss rs from good h k. met_along c d b a m met ss rs from good (each_found (Stands c) es n b there stand) new (each_found (LeadsAlongArrows c ss rs from) es n b there h) k)
-      (λ k st h j. met.beside k st (each_found (λ i. ¬ (i ≡ k)) es n b there h) j) refl
+      (λ ss rs from good h k. met_along c d b a m met ss rs from good (each_found (Stands c) es n b there stand) new (each_found (LeadsAlongArrows c ss rs from) es n b there h) k) refl
 
   refused_among : (r : AggregateError) → IsMergeRefusal c b a r → IsRefusedThere c e n a r
   refused_among r refused es stand same ne =

@@ -46,7 +46,6 @@ met_kept c es n a b st is fits = met_put c c es es n a b (StepsOn-refl c) st (ea
     (λ ss good h k. each_found (IsCovered c ss) es n b is h)
     (λ at s kept all hx new. (record { stays = accounted_none at (with_own s c) all; roots = none_roots at (with_own s c) all }, hx n b is))
     (λ ss rs from good h k. each_found (LeadsAlongArrows c ss rs from) es n b is h)
-    (λ k at h j. each_found (λ i. ¬ (i ≡ k)) es n b is h)
     (sym (put_same es n b is))
 
 set_same : {A : Type 0} (xs : List A) (i : ℕ) (x : A) → slice_get xs i ≡ Some x → slice_set xs i x ≡ xs

@@ -205,7 +205,6 @@ module _ (f : Collection) (near ks : List Key) (sound : IsSound f) (stand : AllS
           identified = adds_then (RemembersTruly class_of) f (state_of a) (state_of b) (state_of c) kept g.run g'.identified g.identified;
           plain = λ p. g.plain (plain_within f (step_key s ∷ []) ks within p) ∙ g'.plain p;
           known = λ all. OnlyGrows-trans f a b c (g'.known all) (g.known (known_within f b (step_key s ∷ []) ks within (known_still f a b ks g'.run all)));
-          alone = λ m was. g.alone m (g'.alone m was);
           accounts = λ at trial all by. accounted_then at (state_of a) (state_of b) (state_of c) (g'.run.narrows may.kept).standing (g'.accounts at trial all by) (stays at trial all by);
           holds = tt;
         }
@@ -323,7 +322,6 @@ Takes-gives f a b top ks Q P p h = record {
   identified = h.identified;
   plain = h.plain;
   known = h.known;
-  alone = h.alone;
   accounts = h.accounts;
   holds = p;
 }

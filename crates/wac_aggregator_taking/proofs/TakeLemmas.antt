@@ -19,7 +19,6 @@ use Rattle.wac_component.specs.Reach.{IsAmong, here, there}
 use Rattle.wac_component.proofs.Among.{among_each, each_among, among_single}
 use Rattle.wac_component.proofs.Reading.{interface_at}
 use Rattle.wac_names.specs.Class.{Class, class_eq, class_of}
-use Rattle.wac_aggregator_narrowing.specs.Alone.{IsAlone}
 use Rattle.wac_aggregator_narrowing.specs.Entering.{AddsEntry, IsEntered, InterfaceIsTaken}
 use Rattle.wac_names.proofs.Classes.{classes_decided}
 use Rattle.wac_aggregator_narrowing.specs.Last.{last_key}
@@ -30,7 +29,6 @@ use Rattle.wac_aggregator_narrowing.specs.Taking.{IsTakenKey, IsCopiedKey, AreCo
 use Rattle.wac_aggregator_narrowing.specs.Identified.{IsCovered}
 use Rattle.wac_aggregator_narrowing.specs.Imports.{IsImportFor}
 use Rattle.wac_aggregator_narrowing.proofs.Adding.{last_at}
-use Rattle.wac_aggregator_narrowing.proofs.Alone.{alone_still}
 use Rattle.wac_aggregator_narrowing.proofs.Mapped.{paired_of}
 use Rattle.wac_aggregator_narrowing.proofs.Running.{RunsTaking-refl, RunsTaking-trans, RunsTaking-import, ImportsFit-refl}
 use Rattle.wac_aggregator_imports.specs.Import.{ImportContent, ImportsContent, import_of, import_at, PutsImport}
@@ -50,7 +48,6 @@ use Rattle.wac_component.proofs.Adding.{Extends-with_entry}
 use Rattle.wac_component.proofs.Extended.{Extends-refl}
 use Rattle.wac_component.proofs.Last.{IsLast}
 use Rattle.wac_aggregator_promises.specs.PlainList.{ArePlain}
-use Rattle.wac_aggregator_taking.proofs.Alone.{alone_enters}
 use Rattle.wac_aggregator_taking.proofs.Plain.{OnlyGrows-refl, OnlyGrows-trans, plain_within, plain_known, not_plain_owner}
 use Rattle.wac_aggregator_taking.proofs.Within.{within_all, openly_within, leads_within}
 
@@ -180,7 +177,6 @@ module _ (f : Collection) {near : List Key} where
     identified = adds_none (state_of a);
     plain = λ p. refl;
     known = λ all. OnlyGrows-refl f a;
-    alone = λ m was. was;
     accounts = λ at trial all h. accounted_none at (state_of a) all;
     holds = q;
   }
@@ -199,7 +195,6 @@ module _ (f : Collection) {near : List Key} where
     identified = h.identified;
     plain = λ p. h.plain (plain_within f ks js within p);
     known = λ all. h.known (known_within f a ks js within all);
-    alone = h.alone;
     accounts = λ at trial all by. h.accounts at (trial_within at f ks js within trial) all by;
     holds = p (state_of b) (h.run.kept may.kept) h.holds;
   }
@@ -233,7 +228,6 @@ module _ (f : Collection) {near : List Key} where
         identified = adds_then (RemembersTruly class_of) f (state_of a) (state_of b) (state_of c) kept h.run g.identified h.identified;
         plain = λ p. h.plain (plain_within f js ls second p) ∙ g.plain (plain_within f ks ls first p);
         known = λ all. OnlyGrows-trans f a b c (g.known (known_within f a ks ls first all)) (h.known (known_within f b js ls second (known_still f a b ls g.run all)));
-        alone = λ m was. h.alone m (g.alone m was);
         accounts = λ at trial all by.
             let standing = (g.run.narrows may.kept).standing in
             let one = g.accounts at (trial_within at f ks ls first trial) all by in
@@ -262,7 +256,6 @@ module _ (f : Collection) where
     identified = h.identified;
     plain = h.plain;
     known = h.known;
-    alone = h.alone;
     accounts = λ at trial all by. h.accounts at trial all (of at all by);
     holds = h.holds;
   }
@@ -342,9 +335,9 @@ module _ (f : Collection) where
   -- what was taken in entered, and nothing was imported
   pub Takes-entered : (a c : Merging) (theirs own : Key) → IsSound f → Stands f theirs → AddsPair (memo_of a.taken) (memo_of c.taken) theirs own → c.imports ≡ a.imports → AreFiledIn c.types c.shared.entries
       → ((e : Key) → IsAmong e (shared_keys c.shared.entries) → IsAmong e (shared_keys a.shared.entries) ⊎ IsSharedFrom f (theirs ∷ []) c e) → AddsSharedOrBelow (state_of a) (state_of c)
-      → (AreKnown f a (theirs ∷ []) → OnlyGrows f a c) → ((m : Key) → IsAlone (state_of a) m → IsAlone (state_of c) m) → HasOwners (state_of a) theirs → IsEntered class_of f (state_of a) (state_of c) theirs own → ((at : Attempt) → IsTrial at f (theirs ∷ []) → IsAccounted at (state_of a) → StaysAccounted at (state_of a) (state_of c))
+      → (AreKnown f a (theirs ∷ []) → OnlyGrows f a c) → HasOwners (state_of a) theirs → IsEntered class_of f (state_of a) (state_of c) theirs own → ((at : Attempt) → IsTrial at f (theirs ∷ []) → IsAccounted at (state_of a) → StaysAccounted at (state_of a) (state_of c))
       → Takes f a c (height f theirs) (theirs ∷ []) (λ t. IsTakenKey class_of f t theirs own)
-  Takes-entered a c theirs own sound stands adds same filed shares identified known alone has in_to accounts = record {
+  Takes-entered a c theirs own sound stands adds same filed shares identified known has in_to accounts = record {
     low = λ k above absent. still_none (memo_of a.taken) (memo_of c.taken) theirs own k adds (λ e. omega (arith, above, ap (height f) e)) absent (memo_of c.taken k) refl;
     run = in_to.run;
     filed = filed;
@@ -356,7 +349,6 @@ module _ (f : Collection) where
     identified = identified;
     plain = λ p. same;
     known = known;
-    alone = alone;
     accounts = λ at trial all by. accounts at trial all;
     holds = in_to.taken;
   }
@@ -390,8 +382,7 @@ module _ (f : Collection) where
       let filed : AreFiledIn c.types c.shared.entries = subst (λ (ss : List (Class × Id)). AreFiledIn c.types ss) (ap (λ (m : Merging). m.shared.entries) (sym same)) (AreFiledIn-run (state_of b) (state_of c) b.shared.entries kept refl in_to.entered.run g.filed) in
       Takes-after f a b c low (height f theirs) ks (theirs ∷ []) Q (λ t. IsTakenKey class_of f t theirs own) below within may g
       (Takes-entered b c theirs own sound stands adds (ap (λ (m : Merging). m.imports) same) filed (λ e among. inl (subst (IsAmong e) (ap (λ (m : Merging). shared_keys m.shared.entries) same) among)) (plain_added (state_of b) (state_of c) z added in_to.plain)
-      (λ all. record { grows = subst (Extends b.types) (sym added) (Extends-with_entry b.types z kept.good.sound); shared = ap (λ (m : Merging). m.shared.entries) same; noted = noted_known b c theirs own stands.0 adds all })
-      (λ m was. alone_enters f (state_of b) (state_of c) theirs own z m kept in_to.made added last adds adds_entry.copies was) in_to.owners
+      (λ all. record { grows = subst (Extends b.types) (sym added) (Extends-with_entry b.types z kept.good.sound); shared = ap (λ (m : Merging). m.shared.entries) same; noted = noted_known b c theirs own stands.0 adds all }) in_to.owners
       (subst (λ k. IsEntered class_of f (state_of b) (state_of c) theirs k) (sym last) in_to.entered)
       (λ at trial all. made_accounted at f (state_of b) theirs z trial all in_to.made (state_of c) kept adds_entry (ap (λ (m : Merging). (state_of m).shared) same)))
 
@@ -449,7 +440,6 @@ module _ (f : Collection) where
             ];
             plain = h.plain;
             known = λ all. OnlyGrows-trans f a mid c (record { grows = grows; shared = refl; noted = λ k o noted. inl noted }) (h.known all);
-            alone = λ m was. h.alone m (copies.alone (state_of a) is_state m was);
             accounts = λ at trial all by.
                 let one = accounted_added at (state_of a) (state_of mid) may.kept grows refl refl refl (copies.splits (state_of a) is_state) all in
                 accounted_then at (state_of a) (state_of mid) (state_of c) (copied_run.narrows may.kept).standing one (h.accounts at trial one.now (near_none at mid));
@@ -528,7 +518,6 @@ module _ (f : Collection) where
       identified = λ k n stands is. inl stands;
       plain = λ p. absurd (not_plain_owner f ks from owner_name among leads p);
       known = λ all. record { grows = Extends-refl a.types; shared = refl; noted = λ k o noted. inl noted };
-      alone = λ m was. alone_still (state_of a) (state_of (record a { imports = is })) m was.stands refl was.unnamed (λ k at. at) (λ k at. at) was;
       accounts = λ at trial all by. accounted_imports at (state_of a) (state_of (record a { imports = is })) may.kept refl refl refl refl (import_open at all) all;
       holds = rw (ap (λ c. option_map (λ (i : ImportContent). i.1) (import_of is c)) on ∙ ap (option_map (λ (i : ImportContent). i.1)) (puts q ∙ ap (λ t. cond t (Some (name, Instance own)) (import_of a.imports q)) ((classes_decided q q).1 refl))) refl;
     }

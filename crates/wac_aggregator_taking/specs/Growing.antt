@@ -25,7 +25,6 @@ use Rattle.wac_merge.specs.Built.{Builds, IsBuilt, uses_of_both}
 use Rattle.wac_merge.specs.Reads.{exports_at}
 use Rattle.wac_names.specs.Class.{Class}
 use Rattle.wac_aggregator_promises.specs.Attempt.{Attempt}
-use Rattle.wac_aggregator_narrowing.specs.Alone.{LeavesOut, IsUnnamed}
 use Rattle.wac_aggregator_narrowing.specs.Apart.{IsGood}
 use Rattle.wac_aggregator_narrowing.specs.Laws.{LeadsAlongArrows}
 use Rattle.wac_aggregator_narrowing.specs.State.{State, IsStateKept}
@@ -34,13 +33,11 @@ use Rattle.wac_aggregator_reasons.specs.Trial.{IsAccounted, IsOpenItem, AreOpenI
 use Rattle.wac_aggregator_narrowing.specs.Identified.{IsCovered}
 use Rattle.wac_aggregator_narrowing.specs.Narrows.{IsGoodStep, grown}
 
--- d is c with entries added to it, none of which has an identifier, and none of which names what
--- stood and wasn't named: a step whatever is shared
+-- d is c with entries added to it, none of which has an identifier: a step whatever is shared
 pub record StepsOn (c d : Collection) : Type 0 where
   pub grows : Extends c d
   pub identified : (k : Key) (n : Text) → Stands d k → identifier_at d k ≡ Some n → Stands c k
   pub steps : (ss : List Key) → IsGood c ss → IsGoodStep c ss d ss
-  pub unnamed : (m : Key) → Stands c m → IsUnnamed c m → IsUnnamed d m
 
 -- the state with another own collection
 abbrev pub with_own : State → Collection → State
@@ -57,7 +54,7 @@ pub record StaysAlong (at : Attempt) (s t : State) (all : IsAccounted at s) : Ty
 
 -- in d stands the greatest item that fits where either of two items of c is asked for,
 -- which is the first where that fits where the second is; it leads openly to shared
--- interfaces alone where both do, and names nothing that stood but what these name
+-- interfaces alone where both do
 pub record IsOwnMeet (c d : Collection) (a b m : ItemKind) : Type 0 where
   pub on : StepsOn c d
   pub stands : AllStand d (item_keys m)
@@ -68,7 +65,6 @@ pub record IsOwnMeet (c d : Collection) (a b m : ItemKind) : Type 0 where
   pub fits_second : Fits (item_tree d m) (item_tree c b)
   pub greatest : (t : ItemTree) → Fits t (item_tree c a) → Fits t (item_tree c b) → Fits t (item_tree d m)
   pub kept : Fits (item_tree c a) (item_tree c b) → m ≡ a
-  pub beside : (k : Key) → Stands c k → LeavesOut k (item_keys a) → LeavesOut k (item_keys b) → LeavesOut k (item_keys m)
   pub covered : (ss : List Key) → IsGood c ss → Each (IsCovered c ss) (item_keys a) → Each (IsCovered c ss) (item_keys b) → Each (IsCovered d ss) (item_keys m)
 
 -- no item fits where both of two items are asked for
@@ -81,8 +77,8 @@ IsMetIfAny c d a b (Some m) = IsOwnMeet c d a b m
 IsMetIfAny c d a b None = Extends c d × AreApartIn d a b
 
 -- the same of named items: under each name the greatest that serves both lists, and under a name of
--- the first alone what it had; they name nothing that stood but what those name. Where those are open
--- and come from sources, these are and do so, and all stays accounted for; and they lead along arrows
+-- the first alone what it had. Where those are open and come from sources, these are and do so, and
+-- all stays accounted for; and they lead along arrows
 pub record AreMetWith (c d : Collection) (es ts ms : ExternKinds) : Type 0 where
   pub on : StepsOn c d
   pub stand : AllStand d (extern_keys ms)
@@ -90,7 +86,6 @@ pub record AreMetWith (c d : Collection) (es ts ms : ExternKinds) : Type 0 where
   pub serve_second : AreServed d c ms ts
   pub meets : (name : Text) → IsMeetIn (Serves Fits) (option_map (item_tree c) (lookup bytes_eq es name)) (option_map (item_tree c) (lookup bytes_eq ts name)) (Some (option_map (item_tree d) (lookup bytes_eq ms name)))
   pub others : (name : Text) → lookup bytes_eq ts name ≡ None → lookup bytes_eq ms name ≡ lookup bytes_eq es name
-  pub beside : (k : Key) → Stands c k → LeavesOut k (extern_keys es) → LeavesOut k (extern_keys ts) → LeavesOut k (extern_keys ms)
   pub accounts : (at : Attempt) (s : State) → IsStateKept (with_own s c) → (all : IsAccounted at (with_own s c)) → AreOpenItems at (with_own s c) es → AreAllOpen at (with_own s c) ts → StaysAlong at (with_own s c) (with_own s d) all × AreOpenItems at (with_own s d) ms
   pub along : (ss : List Key) (rs : List Root) (from : Class) → IsGood c ss → Each (LeadsAlongArrows c ss rs from) (extern_keys es) → Each (LeadsAlongArrows c ss rs from) (extern_keys ts) → Each (LeadsAlongArrows d ss rs from) (extern_keys ms)
   pub covered : (ss : List Key) → IsGood c ss → Each (IsCovered c ss) (extern_keys es) → Each (IsCovered c ss) (extern_keys ts) → Each (IsCovered d ss) (extern_keys ms)

@@ -19,7 +19,6 @@ use Rattle.wac_component.specs.declared.items.ItemKind.TheVariants.{Instance}
 use Rattle.wac_names.specs.Class.{Class, class_eq, class_of}
 use Rattle.wac_aggregator_promises.specs.Attempt.{Attempt}
 use Rattle.wac_aggregator_promises.specs.PlainList.{ArePlain}
-use Rattle.wac_aggregator_narrowing.specs.Alone.{IsAlone}
 use Rattle.wac_aggregator_narrowing.specs.Entering.{InterfaceIsTaken}
 use Rattle.wac_aggregator_narrowing.specs.Identified.{IsCovered}
 use Rattle.wac_aggregator_narrowing.specs.Remembers.{RemembersTruly}
@@ -139,8 +138,8 @@ pub record OnlyGrows (f : Collection) (a b : Merging) : Type 0 where
 -- which the ids openly lead, and each new shared entry has the identifier of an interface to which
 -- they do; each other new interface with an identifier is below an import of a component. Where the
 -- ids are plain, nothing is imported; where all was taken in that they openly lead to and that has
--- an identifier, entries are only added. What is alone stays so. While a call is tried whose item
--- openly reaches the ids, and what is near is open and comes from sources, all stays accounted for
+-- an identifier, entries are only added. While a call is tried whose item openly reaches the ids,
+-- and what is near is open and comes from sources, all stays accounted for
 pub record TakesBy (near : List Key) (f : Collection) (a b : Merging) (top : ℕ) (ks : List Key) (Holds : State → Type 0) : Type 0 where
   pub low : (k : Key) → top < height f k → memo_of a.taken k ≡ None → memo_of b.taken k ≡ None
   pub run : RunsTaking (RemembersTruly class_of) f (state_of a) (state_of b)
@@ -153,7 +152,6 @@ pub record TakesBy (near : List Key) (f : Collection) (a b : Merging) (top : ℕ
   pub identified : AddsSharedOrBelow (state_of a) (state_of b)
   pub plain : ArePlain f ks → b.imports ≡ a.imports
   pub known : AreKnown f a ks → OnlyGrows f a b
-  pub alone : (m : Key) → IsAlone (state_of a) m → IsAlone (state_of b) m
   pub accounts : (at : Attempt) → IsTrial at f ks → IsAccounted at (state_of a) → AreNear at a near → StaysAccounted at (state_of a) (state_of b)
   pub holds : Holds (state_of b)
 

@@ -5,12 +5,11 @@ ghost use Rattle.wac_model.specs.Text.{Text};
 ghost use Rattle.wac_component.specs.Content.{named, use_content};
 ghost use Rattle.wac_component.specs.Entries.{identifier_at};
 ghost use Rattle.wac_component.specs.Key.{Stands, AllStand, item_keys, interface_key, named_keys, use_keys};
-ghost use Rattle.wac_component.specs.Replacing.{NamesReach};
 ghost use Rattle.wac_aggregator_promises.specs.Entries.{ReachesByUses};
 ghost use Rattle.wac_merge.specs.Items.{AreUnhidden, extern_keys, extern_list};
 ghost use Rattle.wac_merge.specs.Reads.{exports_at};
 ghost use Rattle.wac_names.specs.Class.{class_of};
-ghost use Rattle.wac_aggregator_taking.specs.Growing.{AreMetInto, IsOwnMeet, IsMetThere, AreAllPut, with_put, IsGrownBy, put_keys};
+ghost use Rattle.wac_aggregator_taking.specs.Growing.{AreMetInto, IsOwnMeet, IsMetThere, AreAllPut, with_put, IsGrownBy};
 ghost use Rattle.wac_aggregator_taking.specs.Members.{AnswersMembers};
 ghost use Rattle.wac_aggregator_taking.specs.Refused.{IsCycleOf, AreRefusedOwn, MayRefuse, IsMergeRefusal, IsRefusedThere};
 ghost use Rattle.wac_aggregator_taking.specs.Takes.{TakesEntryAs, MayTake, MayPut, shared_in};
@@ -182,25 +181,6 @@ fn put_grown(
     if lead_to(types, &ids, own)? {
         return Err(AggregateError::Cycle { interface });
     }
-    put_apart(types, own, uses, exports)?;
-    Ok(())
-}
-
-/// Puts uses of new names last in the entry of an interface, and exports in the place of those of
-/// their names, or last. No walk leads from these back to the interface.
-pub fn put_apart(
-    types: &mut Types,
-    own: InterfaceId,
-    uses: IndexMap<String, UsedType>,
-    exports: &IndexMap<String, ItemKind>,
-) -> Result<(), AllocError>
-    requires own { Stands types.old (interface_key own) }
-    requires uses { AllStand types.old (named_keys use_keys (named use_content uses.entries)) }
-    requires exports { AllStand types.old (extern_keys (extern_list exports.now)) }
-    requires apart { ¬ (NamesReach types.old (put_keys (named use_content uses.entries) (extern_list exports.now)) (interface_key own)) }
-    ensures { OnOk result (IsGrownBy types.old own (named use_content uses.entries) (extern_list exports.now) types.new) }
-{
-    types.sound();
     let mut entry = take_out(types, own);
     add_new(&mut entry.uses, uses)?;
     put_externs(&mut entry.exports, exports)?;

@@ -17,7 +17,6 @@ mod state;
 mod steps;
 mod worlds;
 
-pub use growing::put_apart;
 pub use handed_in::HandedIn;
 pub use meeting::meet_own;
 pub use state::Merging;

@@ -16,7 +16,6 @@ use Rattle.wac_aggregator_imports.specs.Import.{ImportsContent, import_of}
 use Rattle.wac_aggregator.specs.HandedIn.{called, handed_in}
 use Rattle.wac_aggregator.specs.Served.{AreCallsServed}
 use Rattle.wac_aggregator.proofs.Advancing.{by_track}
-use Rattle.wac_aggregator.proofs.AloneCalls.{none_alone}
 use Rattle.wac_aggregator.proofs.Beginning.{none_held}
 use Rattle.wac_aggregator.proofs.Front.{none_served, all_aggregated}
 use Rattle.wac_aggregator.proofs.Held.{reached_after}
@@ -32,7 +31,6 @@ loop-at-init c =
     let start = c.no_imports-state.ensures in
     record {
       order = start.in_order;
-      alone = none_alone c.no_imports-state.result c.new-alone.result.entries c.new-alone.ensures.empty;
       number = ap (λ (t : Collection). t.number) start.empty;
       runs = λ p. run_starts (handed_in c.args.calls.now) c.no_imports-state.result start.imports;
       served = none_served (handed_in c.args.calls.now) c.no_imports-state.result start.taken start.copies (λ q. ap (λ (is : ImportsContent). import_of is q) start.imports) start.shared;
@@ -63,7 +61,6 @@ loop-at-preserved c =
     let may = may_take calls c.args.number c.requires.one c.requires.apart (take c.loop-at.at calls) call c.loop-at.state among before.number before.order before.served in
     record {
       order = advances_in_order call c.loop-at.state c.advance.new.state may (may_try call c.loop-at.state c.sound.ensures (c.requires.source call among) before.order) before.order.identified before.order.imports c.filed.ensures c.in_default.ensures.advances;
-      alone = c.in_default.ensures.alone;
       number = advances_number call c.loop-at.state c.advance.new.state may before.order.imports c.filed.ensures c.in_default.ensures.advances ∙ before.number;
       runs = λ p. rw add-one (run_on calls c.loop-at.at call at (track_imports (shown (content_of c.loop-at.state))) (track_imports (shown (content_of c.advance.new.state))) (plain_step call c.loop-at.state c.advance.new.state may before.order.imports c.filed.ensures c.in_default.ensures.advances (All-contains (λ (d : Call). IsPlain d.types d.kind) calls call p among)) (before.runs p));
       served = rw add-one (one_more calls c.args.number c.requires.one c.requires.apart c.loop-at.at call c.loop-at.state c.advance.new.state at (c.requires.source call among) c.filed.ensures before.number before.order before.served c.in_default.ensures.advances);

@@ -5,7 +5,6 @@ use Rattle.wac_aggregator_promises.specs.Call.{AreSoundCalls}
 use Rattle.wac_aggregator_promises.specs.Holding.{HoldsReached}
 use Rattle.wac_aggregator_promises.specs.PlainList.{IsPlainList}
 use Rattle.wac_aggregator_promises.specs.PlainRun.{IsPlainRun, no_import_trees}
-use Rattle.wac_aggregator.specs.Alone.{AreAlone}
 use Rattle.wac_aggregator.specs.Content.{shown, content_of}
 use Rattle.wac_aggregator.specs.HandedIn.{handed_in}
 use Rattle.wac_aggregator.specs.InOrder.{IsMergingInOrder}
@@ -17,7 +16,6 @@ use Rattle.wac_aggregator.proofs.all.aggregate_all.Given as goal
 abbrev pub invariant-loop-at : goal.invariant-loop-at
 invariant-loop-at l = record {
   order : IsMergingInOrder l.state;
-  alone : AreAlone l.state l.alone.entries;
   number : l.state.types.number ≡ l.number;
   runs : IsPlainList (handed_in l.calls) → (x : CallsAnswer) → IsPlainRun l.at (track_imports (shown (content_of l.state))) (drop l.at (handed_in l.calls)) x → IsPlainRun 0 no_import_trees (handed_in l.calls) x;
   served : AreCallsServed (handed_in l.calls) (take l.at (handed_in l.calls)) l.state;

@@ -2,7 +2,6 @@ use Rattle.std.proofs.Common.{◌≡◌, None, refl, sym, subst, inl, inr}
 use Rattle.std.proofs.lemmas.Result.{MatchResult-weaker}
 use Rattle.wac_aggregator_imports.specs.Import.{import_of}
 use Rattle.wac_aggregator_taking.proofs.Alike.{IsNear-none}
-use Rattle.wac_aggregator.proofs.AloneCalls.{added_alone}
 use Rattle.wac_aggregator.proofs.Calls.{added_advances}
 use Rattle.wac_aggregator.proofs.Refusing.{item_refused, not_added}
 use Rattle.wac_component.specs.Id.{Id}
@@ -24,10 +23,6 @@ returns-in-Ok-clause-advances c =
     added_advances (called c.args.call.now) c.args.state.now c.take_item.new.state c.in-Ok.own c.requires.state c.in-Ok.ensures.taken c.put_import.new.state h
     (subst (λ q. import_of c.args.state.now.imports q ≡ None) c.requires.of c.requires.new))
     (λ e h. not_added (called c.args.call.now) c.args.state.now c.take_item.new.state c.in-Ok.own c.requires.state c.in-Ok.ensures.taken e (subst (λ q. import_of c.args.state.now.imports q ≡ None) c.requires.of c.requires.new) h)
-
-pub returns-in-Ok-clause-alone : goal.returns-in-Ok-clause-alone
-returns-in-Ok-clause-alone c =
-    MatchResult-weaker c.put_import.result c.put_import.ensures (λ u h. added_alone (called c.args.call.now) c.args.state.now c.take_item.new.state c.in-Ok.own c.requires.state c.in-Ok.ensures.taken c.put_import.new.state h) (λ e h. tt)
 
 pub returns-in-Err-clause-advances : goal.returns-in-Err-clause-advances
 returns-in-Err-clause-advances c = item_refused (called c.args.call.now) c.args.state.now c.in-Err.error c.requires.state c.in-Err.ensures.taken

@@ -5,8 +5,6 @@ use Rattle.wac_aggregator_taking.specs.Takes.{MayTake}
 use Rattle.wac_aggregator_taking.specs.declared.state.Merging.{Merging}
 use Rattle.wac_aggregator.specs.HandedIn.{called}
 use Rattle.wac_aggregator.specs.Advances.{Advances, IsRefusedCall}
-use Rattle.wac_aggregator.specs.Alone.{AreAlone}
-use Rattle.wac_aggregator.proofs.AloneCalls.{told_alone}
 use Rattle.wac_aggregator.proofs.Calls.{told_may, told_advances}
 use Rattle.wac_aggregator.proofs.Refusing.{told_refused}
 use Rattle.wac_component.specs.Id.{Id}
@@ -19,10 +17,6 @@ use Rattle.wac_aggregator.proofs.importing.advance.Goals as goal
 pub import-requires-clause-state : goal.import-requires-clause-state
 import-requires-clause-state c =
     subst (λ (m : Merging). MayTake c.args.call.now.types.now m) (sym c.note_handed_in.ensures) (told_may c.args.state.now c.note_handed_in.new.state.handed_in c.args.call.now.types.now c.requires.state)
-
-pub import-requires-clause-alone : goal.import-requires-clause-alone
-import-requires-clause-alone c =
-    subst (λ (m : Merging). AreAlone m c.args.alone.now.entries) (sym c.note_handed_in.ensures) (told_alone c.args.state.now c.note_handed_in.new.state.handed_in c.args.alone.now.entries c.requires.alone)
 
 pub returns-clause-advances : goal.returns-clause-advances
 returns-clause-advances c =

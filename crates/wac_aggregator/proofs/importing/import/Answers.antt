@@ -1,5 +1,4 @@
 use Rattle.std.proofs.Common.{sym, ◌∙◌}
-use Rattle.std.proofs.lemmas.Result.{IfOk-weaker}
 use Rattle.wac_aggregator_imports.specs.Import.{import_of}
 use Rattle.wac_aggregator.proofs.Calls.{import_none}
 use Rattle.wac_aggregator.proofs.importing.import.Goals as goal
@@ -9,6 +8,3 @@ merge_import-requires-clause-found c = sym c.kind_of.ensures ∙ c.in-Some.is
 
 pub add_import-requires-clause-new : goal.add_import-requires-clause-new
 add_import-requires-clause-new c = import_none (import_of c.args.state.now.imports c.args.class) (sym c.kind_of.ensures ∙ c.in-None.is)
-
-pub returns-in-None-clause-alone : goal.returns-in-None-clause-alone
-returns-in-None-clause-alone c = IfOk-weaker c.add_import.result _ _ (λ u h. h c.args.alone.now.entries c.requires.alone) c.add_import.ensures.alone

@@ -1,18 +1,13 @@
-use Rattle.std.proofs.Common.{◌≡◌, ◌∙◌, Some, IsSome, refl, sym, subst}
+use Rattle.std.proofs.Common.{◌≡◌, ◌∙◌, Some, IsSome, sym, subst}
 use Rattle.std.specs.Option.{option_map}
 use Rattle.std.proofs.lemmas.Result.{MatchResult-weaker}
 use Rattle.wac_component.specs.Height.{keys_height}
 use Rattle.wac_component.specs.Key.{item_keys}
 use Rattle.wac_aggregator_promises.specs.Call.{Call}
-use Rattle.wac_aggregator_imports.specs.Import.{ImportContent, import_of, import_at}
+use Rattle.wac_aggregator_imports.specs.Import.{ImportContent, import_of}
 use Rattle.wac_names.specs.Class.{class_of}
 use Rattle.wac_aggregator_narrowing.specs.Taking.{IsTakenItem}
-use Rattle.wac_aggregator_taking.specs.Members.{TakesMembers}
-use Rattle.wac_aggregator_taking.specs.Takes.{Takes, state_of}
-use Rattle.wac_aggregator_taking.specs.declared.state.Merging.{Merging}
-use Rattle.wac_aggregator_taking.proofs.GrowLemmas.{kept_on}
-use Rattle.wac_aggregator.proofs.Grown.{members_grown}
-use Rattle.wac_aggregator.proofs.AloneCalls.{may_merge}
+use Rattle.wac_aggregator_taking.specs.Takes.{Takes}
 use Rattle.wac_aggregator.proofs.Calls.{near_import, existing_stands, some_still, merged_advances}
 use Rattle.wac_aggregator.proofs.Refusing.{item_refused, not_merged}
 use Rattle.wac_aggregator.proofs.Trying.{taken_near, refused_by_near}
@@ -49,13 +44,6 @@ note_import-requires-clause-existing c =
     let found = subst (λ q. option_map (λ (i : ImportContent). i.1) (import_of c.args.state.now.imports q) ≡ Some c.args.existing) c.requires.of c.requires.found in
     existing_stands call c.args.state.now c.take_item.new.state c.in-Ok.own c.requires.state (taken_near call c.args.state.now c.requires.state c.args.existing found c.as_interface-near.result c.as_interface-near.ensures c.take_item.new.state _ _ _ c.in-Ok.ensures.taken) c.args.existing found
 
-pub note_import-requires-clause-may : goal.note_import-requires-clause-may
-note_import-requires-clause-may c =
-    let call : Call = called c.args.call.now in
-    let found = subst (λ q. option_map (λ (i : ImportContent). i.1) (import_of c.args.state.now.imports q) ≡ Some c.args.existing) c.requires.of c.requires.found in
-    may_merge call c.args.state.now c.take_item.new.state c.in-Ok.own c.requires.state (taken_near call c.args.state.now c.requires.state c.args.existing found c.as_interface-near.result c.as_interface-near.ensures c.take_item.new.state _ _ _ c.in-Ok.ensures.taken)
-    c.args.existing found c.args.alone.now.entries c.requires.alone
-
 pub note_import-requires-clause-found : goal.note_import-requires-clause-found
 note_import-requires-clause-found c =
     let call : Call = called c.args.call.now in
@@ -76,12 +64,7 @@ returns-in-Ok-clause-members c = λ i hand taken wit has all.
     let g = c.in-Ok.ensures.members i hand.named.instance taken wit has all in
     let one = the_instance call a mid c.in-Ok.own c.requires.state takes i hand g.more g.has in
     match_with c.note_import.result _ _ _ (λ e. e ≡ Memory) _ c.note_import.ensures.merged (c.note_import.ensures.itself one.0 (import_is_own call a mid c.in-Ok.own c.requires.state takes i hand g.more g.has c.args.existing found ∙ one.1) one.1)
-    (λ u h.
-    let kept = takes.run.kept c.requires.state.kept in
-    let now : Merging = record mid { types = b.types; imports = b.imports } in
-    let then = members_onward call.types a mid (record mid { types = h.met.mid; imports = b.imports }) P taken kept h.met.on refl g in
-    subst (λ (m : Merging). TakesMembers call.types a m P taken) (sym h.same)
-    (members_grown call.types a now h.met.mid P taken (import_at mid.imports) (kept_on mid.types h.met.mid h.met.on (state_of mid) kept) h.met.grows then))
+    (λ u h. members_onward call.types a mid b P taken (takes.run.kept c.requires.state.kept) h.met.on h.same g)
     (λ e h memory. member_memory call.types P taken e memory)
 
 pub returns-in-Err-clause-members : goal.returns-in-Err-clause-members

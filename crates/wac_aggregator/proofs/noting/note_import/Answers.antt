@@ -1,7 +1,5 @@
 use Rattle.std.proofs.Common.{◌≡◌, Some, refl, subst}
 use Rattle.wac_aggregator_imports.specs.Import.{ImportContent, import_of, IsImportNoted}
-use Rattle.wac_names.specs.Class.{class_of}
-use Rattle.wac_aggregator.proofs.AloneCalls.{merged_alone}
 use Rattle.wac_aggregator.proofs.Calls.{still_found, is_merged}
 use Rattle.wac_aggregator.proofs.noting.note_import.Goals as goal
 
@@ -14,10 +12,3 @@ returns-in_ok-note-in-Ok-clause-merged c =
     let b = c.note.new.state in
     is_merged c.args.state.now m b c.merge_items.ensures.same c.note.ensures.same c.args.name.now c.args.existing c.args.own c.in-Ok.met c.in-Ok.ensures.met
     (subst (λ q. (i : ImportContent) → import_of m.imports q ≡ Some i → IsImportNoted m.imports b.imports q i.0 c.args.name.now c.in-Ok.met) c.requires.of c.in_ok-note-in-Ok.ensures.noted)
-
-pub returns-in_ok-note-in-Ok-clause-alone : goal.returns-in_ok-note-in-Ok-clause-alone
-returns-in_ok-note-in-Ok-clause-alone c =
-    let m = c.merge_items.new.state in
-    let b = c.note.new.state in
-    merged_alone c.args.state.now m b c.merge_items.ensures.same c.note.ensures.same (class_of c.args.name.now) c.args.name.now c.args.existing c.in-Ok.met c.requires.may.import
-    (subst (λ q. (i : ImportContent) → import_of m.imports q ≡ Some i → IsImportNoted m.imports b.imports q i.0 c.args.name.now c.in-Ok.met) c.requires.of c.in_ok-note-in-Ok.ensures.noted) c.merge_items.new.alone.entries c.in-Ok.ensures.alone

@@ -12,7 +12,6 @@ use Rattle.wac_aggregator_narrowing.specs.Narrows.{AddsShared}
 use Rattle.wac_aggregator_narrowing.proofs.Adding.{last_at}
 use Rattle.wac_aggregator_narrowing.proofs.Entering.{interface_named, shared_interface_enters}
 use Rattle.wac_aggregator_taking.specs.Takes.{state_of}
-use Rattle.wac_aggregator_taking.proofs.Alone.{alone_put}
 use Rattle.wac_aggregator_taking.proofs.TakeLemmas.{content_identifier, taken_as, Takes-entered, AreFiledIn-put, not_known}
 use Rattle.wac_component.specs.Open.{stay}
 use Rattle.wac_component.specs.Reach.{IsAmong, here}
@@ -55,7 +54,6 @@ returns-clause-taken c =
       | inr same ↦ inr (inl (subst (λ j. IsAmong j (state_of now).shared) (sym same) shares.is))
     ])
     (λ all. absurd (not_known f was theirs name found.1 c.requires.taken.absent all))
-    (λ m alone. alone_put f (state_of was) (state_of now) c.args.id (interface_key c.in_ok-own.own) c.requires.taken.content z m c.requires.state.kept (taken_as f (state_of was) c.args.id c.requires.taken.content _ _ z.id taken) c.in_ok-own.ensures.added last pair refl alone)
     (interface_owners f (state_of was) taken.sound c.requires.state.kept c.args.id c.requires.taken.content _ taken)
     (subst (λ k. IsEntered class_of f (state_of was) (state_of now) theirs k) (sym last) enters)
     (λ at trial all. shared_accounted at f (state_of was) c.args.id c.requires.taken.content z name c.requires.state.kept trial all (taken_as f (state_of was) c.args.id c.requires.taken.content _ _ z.id c.requires.taken.taken) found.1 (state_of now) c.requires.taken.used is_named adds shares)

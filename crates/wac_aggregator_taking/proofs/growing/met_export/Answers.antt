@@ -28,7 +28,7 @@ returns-in_default c = λ es stand same.
     let none : lookup bytes_eq es (string_bytes c.args.name.now) ≡ None = same ∙ ap (λ (l : ExternKinds). lookup bytes_eq l (string_bytes c.args.name.now)) there ∙ sym c.in_default.ensures in
     met_put c.args.types.now c.args.types.now es _ (string_bytes c.args.name.now) c.args.kind c.args.kind (StepsOn-refl c.args.types.now) stand c.requires.new (Fits-refl (item_tree c.args.types.now c.args.kind))
     (λ b is. let both : None ≡ Some b = sym none ∙ is in absurd (cc)) (λ t before this. this) (λ ss good h k. k)
-    (λ at s kept all hx new. (record { stays = accounted_none at (with_own s c.args.types.now) all; roots = none_roots at (with_own s c.args.types.now) all }, new)) (λ ss rs from good h k. k) (λ k st h j. j) refl
+    (λ at s kept all hx new. (record { stays = accounted_none at (with_own s c.args.types.now) all; roots = none_roots at (with_own s c.args.types.now) all }, new)) (λ ss rs from good h k. k) refl
 
 pub returns : goal.returns
 returns c =

@@ -2,13 +2,12 @@ use Rattle.std.proofs.Common.{◌≡◌, [], Some, None, ap, sym, ◌∙◌, ari
 use Rattle.wac_component.specs.Collection.{Collection}
 use Rattle.wac_aggregator_imports.specs.Import.{ImportsContent, import_of}
 use Rattle.wac_aggregator_imports.specs.Left.{listed_imports}
-use Rattle.wac_aggregator.proofs.AloneCalls.{none_alone}
 use Rattle.wac_aggregator.proofs.Front.{none_served}
 use Rattle.wac_aggregator.proofs.Remembering.{truly_in, owners_in}
 use Rattle.wac_aggregator.proofs.aggregator.TypeAggregator.new.Goals as goal
 
 pub invariant_of-result : goal.invariant_of-result
-invariant_of-result c = (c.no_imports.ensures.in_order, none_alone c.no_imports.result c.new.result.entries c.new.ensures.empty)
+invariant_of-result c = c.no_imports.ensures.in_order
 
 pub returns-clause-number : goal.returns-clause-number
 returns-clause-number c = ap (λ (t : Collection). t.number) c.no_imports.ensures.empty
