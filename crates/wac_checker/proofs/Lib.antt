@@ -3,6 +3,7 @@ pub mod TruthLemmas
 pub mod CoreLemmas
 pub mod CacheGrowth
 pub mod BelievedLemmas
+pub mod KeptPairs
 pub mod WalkLemmas
 pub mod ComparedGrowth
 pub mod RefusalLemmas

@@ -1,5 +1,5 @@
 -- The error of a pair, and of the items that are asked about.
-use Rattle.std.proofs.Common.{◌≡◌, ℕ, List, [], ◌∷◌, Bool}
+use Rattle.std.proofs.Common.{◌≡◌, ℕ, List, [], ◌∷◌, Bool, refl}
 use Rattle.std.specs.Prelude.{Err}
 use Rattle.wac_component.specs.Collection.{Collection}
 use Rattle.wac_mismatch.specs.Steps.{IsHere, IsUnder}
@@ -9,11 +9,14 @@ use Rattle.wac_mismatch.specs.declared.error.SubtypeError.TheVariants.{Mismatch,
 use Rattle.wac_mismatch.specs.declared.fault.Fault.{Fault}
 use Rattle.wac_mismatch.specs.declared.frame.Frame.{Frame}
 use Rattle.wac_mismatch.specs.Difference.{IsFaultOf}
-use Rattle.wac_checker_parts.specs.Listing.{IsPairTurn}
-use Rattle.wac_checker_parts.specs.Pairs.{EntriesPath, Entries, ExplainsEntries, ExplainsPair, IsPairFrame, check_of, entries_of, left_of, right_of, two_of}
+use Rattle.wac_checker_parts.specs.Listing.{AreModules, IsPairTurn}
+use Rattle.wac_checker_parts.specs.Pairs.{EntriesPath, Entries, ExplainsEntries, ExplainsPair, IsPairFrame, Modules, check_of, entries_by, entries_of, id_in, left_of, right_of, two_of}
 use Rattle.wac_mismatch.specs.declared.difference.Difference.{Difference}
 use Rattle.wac_checker_parts.specs.declared.parts.EntryPair.{EntryPair}
 use Rattle.wac_checker_parts.specs.declared.parts.PairPart.{PairPart}
+use Rattle.wac_checker_parts.specs.declared.parts.PairSort.{PairSort}
+use Rattle.wac_checker_parts.specs.declared.parts.PairSort.TheVariants as sort
+use Rattle.wac_component.specs.Id.{Id}
 use Rattle.wac_checker_parts.specs.declared.parts.Halt.TheVariants as halt
 
 module _ (check : SubtypeCheck) (l r : Collection) (e : Entries) where
@@ -34,3 +37,15 @@ module _ (check : SubtypeCheck) (l r : Collection) (p : EntryPair) (ms : List Pa
   -- a part of it differs
   pub refused_part : (i : ℕ) (b : Bool) (x : Difference) (f : Frame) (g s : SubtypeError) → IsPairTurn l r p ms (Err (halt.PartApart i b x)) → IsHere (IsFaultOf (check_of (check_of check p.swapped) b) x) g → IsUnder (λ y. y ≡ f) g s → IsPairFrame l r (two_of l r p) i f → ExplainsPair check l r (two_of l r p) s
   refused_part i b x f g s h here under at = under_explained (check_of check p.swapped) (left_of l r p.swapped) (right_of l r p.swapped) (entries_of (left_of l r p.swapped) (right_of l r p.swapped) p) (IsFaultOf (check_of (check_of check p.swapped) b) x) f g s (λ y fault. h.2 (check_of check p.swapped) f y at fault) here under
+
+-- the two are core modules
+
+entries_modules : (s : PairSort) (a b : Id) → AreModules (entries_by s a b) → entries_by s a b ≡ Modules a b
+entries_modules sort.Defined a b h = elim h [ ]
+entries_modules sort.Func a b h = elim h [ ]
+entries_modules sort.Interface a b h = elim h [ ]
+entries_modules sort.World a b h = elim h [ ]
+entries_modules sort.Module a b h = refl
+
+pub modules_listed : (l r : Collection) (p : EntryPair) (ms : List PairPart) → IsPairTurn l r p ms (Err halt.Modules) → entries_of (left_of l r p.swapped) (right_of l r p.swapped) p ≡ Modules (id_in (left_of l r p.swapped) p.left) (id_in (right_of l r p.swapped) p.right)
+modules_listed l r p ms h = entries_modules p.sort (id_in (left_of l r p.swapped) p.left) (id_in (right_of l r p.swapped) p.right) h.2

@@ -1,15 +1,12 @@
 -- What a verdict on two items answers.
-use Rattle.std.proofs.Common.{◌≡◌, ◌⊎◌, List, [], ◌∷◌, Result, Ok, Err, IsOk, refl, subst, inl, inr}
-use Rattle.wac_model.specs.Text.{Text}
-use Rattle.wac_model.specs.ItemTree.{ItemTree, Kind, Leaf, leaf, resource, value, item, type_item}
-use Rattle.wac_model.specs.Order.{Fits, leaves}
-use Rattle.wac_mismatch.specs.Place.{item_side, value_side, by_check, Place, place}
-use Rattle.wac_mismatch.specs.Path.{Leads, Path}
+use Rattle.std.proofs.Common.{◌⊎◌, Result, Ok, Err, IsOk, inl, inr}
+use Rattle.wac_model.specs.ItemTree.{ItemTree}
+use Rattle.wac_model.specs.Order.{Fits}
+use Rattle.wac_mismatch.specs.Place.{item_side}
 use Rattle.wac_mismatch.specs.declared.check.SubtypeCheck.{SubtypeCheck}
-use Rattle.wac_mismatch.specs.declared.check.SubtypeCheck.TheVariants.{Covariant, Contravariant}
 use Rattle.wac_mismatch.specs.declared.error.SubtypeError.{SubtypeError}
 use Rattle.wac_mismatch.specs.declared.error.SubtypeError.TheVariants.{Mismatch, Memory}
-use Rattle.wac_mismatch.proofs.PathLemmas.{explains_refutes, values_hold}
+use Rattle.wac_mismatch.proofs.PathLemmas.{explains_refutes}
 use Rattle.wac_checker.specs.Checker.{Answers, IsOneAnswer}
 use Rattle.wac_checker.specs.Verdict.{IsItemVerdict}
 

@@ -1,5 +1,5 @@
 -- How a comparison of pairs goes on.
-use Rattle.std.proofs.Common.{◌≡◌, ◌≤◌, ◌<◌, ◌+◌, ◌-◌, ◌⊎◌, inl, inr, ℕ, zero, suc, List, [], ◌∷◌, ◌++◌, length, take, reverse, Bool, true, false, Some, slice_get, refl, ap, sym, subst, ◌∙◌, arith}
+use Rattle.std.proofs.Common.{Global, Vec, Option, ◌≡◌, ◌≤◌, ◌<◌, ◌+◌, ◌-◌, ◌⊎◌, inl, inr, ℕ, zero, suc, List, [], ◌∷◌, ◌++◌, length, take, reverse, Bool, true, false, Some, slice_get, refl, ap, sym, subst, ◌∙◌, arith}
 use Rattle.std.specs.Prelude.{Contains}
 use Rattle.std.proofs.Math.Seq.{take-append_seam}
 use Rattle.std.proofs.Common.{length-append}
@@ -29,19 +29,24 @@ use Rattle.wac_mismatch.specs.declared.error.SubtypeError.{SubtypeError}
 use Rattle.wac_mismatch.specs.declared.error.SubtypeError.TheVariants.{Mismatch, Memory}
 use Rattle.wac_checker_parts.proofs.ListingLemmas.{put_named}
 use Rattle.wac_checker_parts.specs.Pairs.{AreOfItems, ArePairsOf, ExplainsPair, IsBelowPair, IsFitting, IsPairFrame, IsStanding, Two, entries_by, entries_of, flag_of, id_in, left_of, pair_height, placed_pair, right_of, two_of}
-use Rattle.wac_checker.specs.Walk.{AreListed, IsAtStep, IsBegun, IsOpen, IsPartOfPair, IsWalkPath, IsPathTo, LeadFrom, LeadsTo, PathFrom}
+use Rattle.wac_checker.specs.Walk.{AreListed, IsAtStep, IsBegun, IsHaltNoted, IsOpen, IsPartOfPair, IsWalkPath, IsPathTo, LeadFrom, LeadsTo, NotesHalt, PathFrom, kept_pair}
 use Rattle.wac_checker.specs.declared.compared.Compared.{Compared}
 use Rattle.wac_checker_parts.specs.declared.parts.EntryPair.{EntryPair}
 use Rattle.wac_checker_parts.specs.declared.parts.PairPart.{PairPart}
 use Rattle.wac_checker_parts.specs.declared.parts.PairSort.{PairSort}
 use Rattle.wac_mismatch.specs.declared.difference.Difference.{Difference}
+use Rattle.wac_checker_parts.specs.declared.parts.Halt.{Halt}
 use Rattle.wac_checker_parts.specs.declared.parts.Halt.TheVariants as halt
 use Rattle.wac_checker.specs.declared.walk.WalkStep.{WalkStep}
 use Rattle.wac_checker.specs.declared.walk.Walk.{Walk}
 use Rattle.wac_checker_parts.proofs.CountLemmas.{last_or_before}
 use Rattle.wac_checker_parts.proofs.KnownLemmas.{element_at, pairs_push}
 use Rattle.wac_checker_parts.proofs.PairLemmas.{below_pair}
+use Rattle.wac_checker.proofs.KeptPairs.{SameByNumber, fits_kept, kept_fits, kept_height, kept_stands, kept_unfit}
 use Rattle.wac_checker.proofs.BelievedLemmas.{among_fits, left_has_keys, none_in_order, right_has_keys}
+
+none_among : (xs : List EntryPair) (p : EntryPair) → xs ≡ [] → Contains xs p → ⊥
+none_among xs p none m = let there = subst (λ (ys : List EntryPair). Contains ys p) none m in omega (arith, there.1)
 
 -- ---- what is listed of a pair
 
@@ -188,12 +193,12 @@ module _ (c d : Collection) (r : EntryPair) where
   path_refuses [] h = h
   path_refuses (s ∷ ss) h = path_unfit ss s.part h.2 h.1
 
-  pub open_unfit : (ss : List WalkStep) → IsPathTo c d r ss → (p : EntryPair) → IsOpen ss p → IsStanding c d p × (¬ (IsFitting c d p))
-  open_unfit [] h p o = absurd (omega (arith, o.1.1))
-  open_unfit (s ∷ ss) h p o = subst (λ (x : EntryPair). IsStanding c d x × (¬ (IsFitting c d x))) o.2 (elim (Contains-cases o.0 s ss o.1) [
+  pub open_unfit : SameByNumber c d → (ss : List WalkStep) → IsPathTo c d r ss → (p : EntryPair) → IsOpen c d ss p → IsStanding c d p × (¬ (IsFitting c d p))
+  open_unfit one [] h p o = absurd (omega (arith, o.1.1))
+  open_unfit one (s ∷ ss) h p o = subst (λ (x : EntryPair). IsStanding c d x × (¬ (IsFitting c d x))) o.2 (kept_unfit c d one o.0.part.pair (elim (Contains-cases o.0 s ss o.1) [
     | inl e ↦ subst (λ (u : WalkStep). IsStanding c d u.part.pair × (¬ (IsFitting c d u.part.pair))) e (h.0, h.1)
     | inr later ↦ steps_unfit ss s.part h.2 h.1 o.0 later
-  ])
+  ]))
 
 pub reverse_push : (ss : List WalkStep) (s : WalkStep) → reverse (ss ++ s ∷ []) ≡ s ∷ reverse ss
 reverse_push ss s = reverse-append ss (s ∷ [])
@@ -207,16 +212,25 @@ reverse_has (x ∷ ss) s m = elim (Contains-push_cases (reverse ss) x s (subst (
 
 -- ---- what is known
 
-open_cases : (s : WalkStep) (ss : List WalkStep) (p : EntryPair) → IsOpen (s ∷ ss) p → (s.part.pair ≡ p) ⊎ IsOpen ss p
-open_cases s ss p o = elim (Contains-cases o.0 s ss o.1) [ inl e ↦ inl (ap (λ (t : WalkStep). t.part.pair) e ∙ o.2) | inr later ↦ inr (o.0, later, o.2) ]
+module _ (c d : Collection) where
+  open_cases : (s : WalkStep) (ss : List WalkStep) (p : EntryPair) → IsOpen c d (s ∷ ss) p → (kept_pair c d s.part.pair ≡ p) ⊎ IsOpen c d ss p
+  open_cases s ss p o = elim (Contains-cases o.0 s ss o.1) [ inl e ↦ inl (ap (λ (t : WalkStep). kept_pair c d t.part.pair) e ∙ o.2) | inr later ↦ inr (o.0, later, o.2) ]
 
-open_first : (s : WalkStep) (ss : List WalkStep) → IsOpen (s ∷ ss) s.part.pair
-open_first s ss = (s, Contains-first s ss, refl)
+  open_first : (s : WalkStep) (ss : List WalkStep) → IsOpen c d (s ∷ ss) (kept_pair c d s.part.pair)
+  open_first s ss = (s, Contains-first s ss, refl)
 
-open_later : (s : WalkStep) (ss : List WalkStep) (p : EntryPair) → IsOpen ss p → IsOpen (s ∷ ss) p
-open_later s ss p o = (o.0, Contains-later o.0 s ss o.1, o.2)
+  open_later : (s : WalkStep) (ss : List WalkStep) (p : EntryPair) → IsOpen c d ss p → IsOpen c d (s ∷ ss) p
+  open_later s ss p o = (o.0, Contains-later o.0 s ss o.1, o.2)
 
-module _ (ps : List Pair) (c d : Collection) (k : Compared) where
+-- before anything was compared
+pub knows_nothing : (c d : Collection) (k : Compared) → pairs_of k.known ≡ [] → pairs_of k.unfit ≡ [] → KnowsTruly c d k
+knows_nothing c d k known unfit = record {
+  pairs = rw known (tt, λ p m. absurd (none_among [] p refl m));
+  unfit = λ p m. absurd (none_among (pairs_of k.unfit) p unfit m);
+  known = λ p m. absurd (none_among (pairs_of k.known) p known m);
+}
+
+module _ (ps : List Pair) (c d : Collection) (one : SameByNumber c d) (k : Compared) where
   pub truly_but : (ss : List WalkStep) → KnowsTruly c d k → KnowsBut ps c d k ss
   truly_but ss h = record { pairs = h.pairs; unfit = h.unfit; known = λ p m. inl (elim (h.known p m) [ inl fits ↦ inl (λ told. fits) | inr there ↦ inr there ]) }
 
@@ -227,7 +241,7 @@ module _ (ps : List Pair) (c d : Collection) (k : Compared) where
     unfit = h.unfit;
     known = λ p m. elim (h.known p m) [
       | inl told ↦ inl told
-      | inr o ↦ elim (open_cases s ss p o) [ inl e ↦ inl (inl (subst (λ (x : EntryPair). IsFittingBy ps c d x) e fits)) | inr later ↦ inr later ]
+      | inr o ↦ elim (open_cases c d s ss p o) [ inl e ↦ inl (inl (subst (λ (x : EntryPair). IsFittingBy ps c d x) e (λ given. kept_fits c d one s.part.pair (fits given)))) | inr later ↦ inr later ]
     ];
   }
 
@@ -241,26 +255,29 @@ module _ (ps : List Pair) (c d : Collection) (k : Compared) where
     unfit = h.unfit;
     known = λ p m. elim (h.known p m) [
       | inl told ↦ inl told
-      | inr o ↦ elim (open_cases s ss p o) [ inl e ↦ inr (subst (λ (x : EntryPair). IsOpen (t ∷ ss) x) (ap (λ (x : PairPart). x.pair) same ∙ e) (open_first t ss)) | inr later ↦ inr (open_later t ss p later) ]
+      | inr o ↦ elim (open_cases c d s ss p o) [ inl e ↦ inr (subst (λ (x : EntryPair). IsOpen c d (t ∷ ss) x) (ap (λ (x : PairPart). kept_pair c d x.pair) same ∙ e) (open_first c d t ss)) | inr later ↦ inr (open_later c d t ss p later) ]
     ];
   }
 
   -- one more pair is known, that of a step
-  pub knows_opened : (k' : Compared) (s : WalkStep) (ss : List WalkStep) → KnowsBut ps c d k ss → (Contains (pairs_of k.known) s.part.pair → ⊥) → IsStanding c d s.part.pair → pairs_of k'.known ≡ pairs_of k.known ++ s.part.pair ∷ [] → pairs_of k'.unfit ≡ pairs_of k.unfit → KnowsBut ps c d k' (s ∷ ss)
+  pub knows_opened : (k' : Compared) (s : WalkStep) (ss : List WalkStep) → KnowsBut ps c d k ss → (Contains (pairs_of k.known) (kept_pair c d s.part.pair) → ⊥) → IsStanding c d s.part.pair → pairs_of k'.known ≡ pairs_of k.known ++ kept_pair c d s.part.pair ∷ [] → pairs_of k'.unfit ≡ pairs_of k.unfit → KnowsBut ps c d k' (s ∷ ss)
   knows_opened k' s ss h new stands more same = record {
-    pairs = rw more (pairs_push c d (pairs_of k.known) s.part.pair h.pairs new stands);
+    pairs = rw more (pairs_push c d (pairs_of k.known) (kept_pair c d s.part.pair) h.pairs new (kept_stands c d one s.part.pair stands));
     unfit = λ p m. h.unfit p (rw same at m);
-    known = λ p m. elim (Contains-push_cases (pairs_of k.known) s.part.pair p (rw more at m)) [
-      | inl old ↦ elim (h.known p old) [ inl told ↦ inl (elim told [ inl fits ↦ inl fits | inr no_fit ↦ inr (rw same no_fit) ]) | inr o ↦ inr (open_later s ss p o) ]
-      | inr e ↦ inr (subst (λ (x : EntryPair). IsOpen (s ∷ ss) x) e (open_first s ss))
+    known = λ p m. elim (Contains-push_cases (pairs_of k.known) (kept_pair c d s.part.pair) p (rw more at m)) [
+      | inl old ↦ elim (h.known p old) [ inl told ↦ inl (elim told [ inl fits ↦ inl fits | inr no_fit ↦ inr (rw same no_fit) ]) | inr o ↦ inr (open_later c d s ss p o) ]
+      | inr e ↦ inr (subst (λ (x : EntryPair). IsOpen c d (s ∷ ss) x) e (open_first c d s ss))
     ];
   }
 
   -- a part that is known fits, if it isn't known not to
-  pub part_fits : (r : EntryPair) (ss : List WalkStep) (q : PairPart) → KnowsBut ps c d k ss → PathFrom c d r ss q → (Contains (pairs_of k.unfit) q.pair → ⊥) → Contains (pairs_of k.known) q.pair → IsFittingBy ps c d q.pair
-  part_fits r ss q h path nw m = elim (h.known q.pair m) [
-    | inl told ↦ elim told [ inl fits ↦ fits | inr there ↦ absurd (nw there) ]
-    | inr o ↦ absurd (let lower = path_lower c d r ss q path o.0 o.1 in let same = ap (λ (x : EntryPair). pair_height c d (two_of c d x)) o.2 in omega (arith, lower, same))
+  pub part_fits : (r : EntryPair) (ss : List WalkStep) (q : PairPart) → KnowsBut ps c d k ss → PathFrom c d r ss q → (Contains (pairs_of k.unfit) (kept_pair c d q.pair) → ⊥) → Contains (pairs_of k.known) (kept_pair c d q.pair) → IsFittingBy ps c d q.pair
+  part_fits r ss q h path nw m = elim (h.known (kept_pair c d q.pair) m) [
+    | inl told ↦ elim told [ inl fits ↦ (λ given. fits_kept c d one q.pair (fits given)) | inr there ↦ absurd (nw there) ]
+    | inr o ↦ absurd (
+        let lower = path_lower c d r ss q path o.0 o.1 in
+        let same = sym (kept_height c d one o.0.part.pair) ∙ ap (λ (x : EntryPair). pair_height c d (two_of c d x)) o.2 ∙ kept_height c d one q.pair in
+        omega (arith, lower, same))
   ]
 
   pub knows_same : (k' : Compared) (ss : List WalkStep) → KnowsBut ps c d k ss → pairs_of k'.known ≡ pairs_of k.known → pairs_of k'.unfit ≡ pairs_of k.unfit → KnowsBut ps c d k' ss
@@ -270,31 +287,36 @@ module _ (ps : List Pair) (c d : Collection) (k : Compared) where
     known = λ p m. elim (h.known p (rw known at m)) [ inl told ↦ inl (elim told [ inl fits ↦ inl fits | inr no_fit ↦ inr (rw unfit no_fit) ]) | inr o ↦ inr o ];
   }
 
+noted_same : (c d : Collection) (o o' : Option Halt) (ss ss' : List WalkStep) → o' ≡ o → ss' ≡ ss → IsHaltNoted c d o ss → IsHaltNoted c d o' ss'
+noted_same c d o o' ss ss' halt steps h = rw (halt, steps) h
+
 -- ---- turns
 
-module _ (ps : List Pair) (c d : Collection) (k : Compared) (w : Walk) (s : WalkStep) (h : IsComparing ps c d k w s) where
+module _ (ps : List Pair) (c d : Collection) (one : SameByNumber c d) (k : Compared) (w : Walk) (s : WalkStep) (h : IsComparing ps c d k w s) where
   way_path : PathFrom c d w.asked (reverse w.open.items) s.part
   way_path = lead_path ps c d w.asked (take s.first w.parts.before) (reverse w.open.items) s.part h.lead
 
   -- the two differ after their parts
-  pub way_differs : (v : Walk) → v.open.items ≡ w.open.items ++ s ∷ [] → v.asked ≡ w.asked → s.differs ≡ true → IsAnswered ps c d k v false
-  way_differs v opened asked differs = rw (asked, opened, reverse_push w.open.items s) (h.knows, (h.at.stands, h.at.apart differs, way_path))
+  pub way_differs : (v : Walk) → v.open.items ≡ w.open.items ++ s ∷ [] → v.asked ≡ w.asked → v.halt ≡ w.halt → s.differs ≡ true → IsAnswered ps c d k v false
+  way_differs v opened asked halt differs = rw (asked, opened, halt, reverse_push w.open.items s) (h.knows, (h.at.stands, h.at.apart differs, way_path), λ none. h.halt.0 differs)
 
   module _ (all : length w.parts.before ≤ s.next) (even : s.differs ≡ false) where
     this_fits : IsFittingBy ps c d s.part.pair
     this_fits = step_fits ps c d w.parts.before s s.next h.at all even
 
     -- back to the step above
-    pub way_back : (os : List WalkStep) (a : WalkStep) (v : Walk) → w.open.items ≡ os ++ a ∷ [] → v.open.items ≡ os → v.parts.before ≡ take s.first w.parts.before → v.asked ≡ w.asked → v.parts.items ≡ w.parts.items → IsComparing ps c d k v a
-    way_back os a v was kept parts asked listed =
+    pub way_back : (os : List WalkStep) (a : WalkStep) (v : Walk) → w.open.items ≡ os ++ a ∷ [] → v.open.items ≡ os → v.parts.before ≡ take s.first w.parts.before → v.asked ≡ w.asked → v.parts.items ≡ w.parts.items → v.halt ≡ w.halt → IsComparing ps c d k v a
+    way_back os a v was kept parts asked listed halt =
         let knows = rw (was, reverse_push os a) at h.knows in
         let lead = rw (was, reverse_push os a) at h.lead in
+        let noted = rw (was, reverse_push os a) at (h.halt.1 even) in
         let at = step_next ps c d (take s.first w.parts.before) a lead.0.place lead.0.at s.part a refl refl refl lead.0.here this_fits in
         record {
-          knows = rw kept (knows_closed ps c d k s (a ∷ reverse os) knows this_fits);
+          knows = rw kept (knows_closed ps c d one k s (a ∷ reverse os) knows this_fits);
           at = rw parts (subst (λ (n : ℕ). IsAtStep ps c d (take s.first w.parts.before) a n) (sym lead.0.next) at);
           lead = rw (asked, parts, kept) lead.1;
           listed = listed ∙ h.listed;
+          halt = noted_same c d w.halt v.halt (a ∷ reverse os) (a ∷ reverse v.open.items) halt (ap (λ (xs : List WalkStep). a ∷ reverse xs) kept) noted;
         }
 
     -- to the end
@@ -302,7 +324,7 @@ module _ (ps : List Pair) (c d : Collection) (k : Compared) (w : Walk) (s : Walk
     way_end v was asked =
         let knows = rw was at h.knows in
         let lead = rw was at h.lead in
-        rw asked (λ told. (knows_all ps c d k (knows_closed ps c d k s [] knows this_fits) told, subst (λ (p : EntryPair). IsFitting c d p) lead (this_fits told)))
+        rw asked (λ told. (knows_all ps c d one k (knows_closed ps c d one k s [] knows this_fits) told, subst (λ (p : EntryPair). IsFitting c d p) lead (this_fits told)))
 
   module _ (q : PairPart) (here : slice_get w.parts.before s.next ≡ Some q) where
     this_part : IsPartOfPair c d s.part.pair q
@@ -315,41 +337,43 @@ module _ (ps : List Pair) (c d : Collection) (k : Compared) (w : Walk) (s : Walk
     part_path = (h.at.stands, this_part, way_path)
 
     -- the next part is known not to fit
-    pub way_unfit : (v : Walk) → Contains (pairs_of k.unfit) q.pair → v.open.items ≡ w.open.items ++ moved s ∷ [] → v.asked ≡ w.asked → IsAnswered ps c d k v false
-    way_unfit v m opened asked = rw (asked, opened, reverse_push w.open.items (moved s)) (knows_moved ps c d k s (moved s) (reverse w.open.items) refl h.knows, (h.at.stands, (λ fits. (h.knows.unfit q.pair m).1 (this_part.1.needed fits)), way_path))
+    pub way_unfit : (v : Walk) → Contains (pairs_of k.unfit) (kept_pair c d q.pair) → v.open.items ≡ w.open.items ++ moved s ∷ [] → v.asked ≡ w.asked → IsAnswered ps c d k v false
+    way_unfit v m opened asked = rw (asked, opened, reverse_push w.open.items (moved s)) (knows_moved ps c d one k s (moved s) (reverse w.open.items) refl h.knows, (h.at.stands, (λ fits. (h.knows.unfit (kept_pair c d q.pair) m).1 (kept_fits c d one q.pair (this_part.1.needed fits))), way_path), λ none. absurd (none_among (pairs_of k.unfit) (kept_pair c d q.pair) none m))
 
     -- the next part fits
-    way_fits : (k' : Compared) → KnowsBut ps c d k' (moved s ∷ reverse w.open.items) → IsFittingBy ps c d q.pair → (v : Walk) → v.open ≡ w.open → v.parts.before ≡ w.parts.before → v.asked ≡ w.asked → v.parts.items ≡ [] → IsComparing ps c d k' v (moved s)
-    way_fits k' knows fits v kept parts asked listed = record {
+    way_fits : (k' : Compared) → KnowsBut ps c d k' (moved s ∷ reverse w.open.items) → IsFittingBy ps c d q.pair → (v : Walk) → v.open ≡ w.open → v.parts.before ≡ w.parts.before → v.asked ≡ w.asked → v.parts.items ≡ [] → v.halt ≡ w.halt → IsComparing ps c d k' v (moved s)
+    way_fits k' knows fits v kept parts asked listed halt = record {
       knows = rw kept knows;
       at = rw parts (step_next ps c d w.parts.before s s.next h.at q (moved s) refl refl refl here fits);
       lead = rw (asked, parts, kept) h.lead;
       listed = listed;
+      halt = noted_same c d w.halt v.halt (moved s ∷ reverse w.open.items) (moved s ∷ reverse v.open.items) halt (ap (λ (xs : Vec WalkStep Global). moved s ∷ reverse xs.items) kept) h.halt;
     }
 
     -- it is believed to
     pub way_told : IsFittingBy ps c d q.pair → IsComparing ps c d k w (moved s)
-    way_told fits = way_fits k (knows_moved ps c d k s (moved s) (reverse w.open.items) refl h.knows) fits w refl refl refl h.listed
+    way_told fits = way_fits k (knows_moved ps c d one k s (moved s) (reverse w.open.items) refl h.knows) fits w refl refl refl h.listed refl
 
     -- it is known to
-    pub way_known : (k' : Compared) → (Contains (pairs_of k.unfit) q.pair → ⊥) → Contains (pairs_of k.known) q.pair → pairs_of k'.known ≡ pairs_of k.known → pairs_of k'.unfit ≡ pairs_of k.unfit → IsComparing ps c d k' w (moved s)
-    way_known k' nw m known unfit = way_fits k' (knows_same ps c d k k' (moved s ∷ reverse w.open.items) (knows_moved ps c d k s (moved s) (reverse w.open.items) refl h.knows) known unfit) (part_fits ps c d k w.asked (s ∷ reverse w.open.items) q h.knows part_path nw m) w refl refl refl h.listed
+    pub way_known : (k' : Compared) → (Contains (pairs_of k.unfit) (kept_pair c d q.pair) → ⊥) → Contains (pairs_of k.known) (kept_pair c d q.pair) → pairs_of k'.known ≡ pairs_of k.known → pairs_of k'.unfit ≡ pairs_of k.unfit → IsComparing ps c d k' w (moved s)
+    way_known k' nw m known unfit = way_fits k' (knows_same ps c d one k k' (moved s ∷ reverse w.open.items) (knows_moved ps c d one k s (moved s) (reverse w.open.items) refl h.knows) known unfit) (part_fits ps c d one k w.asked (s ∷ reverse w.open.items) q h.knows part_path nw m) w refl refl refl h.listed refl
 
     -- it is opened
-    module _ (k' : Compared) (v : Walk) (b : WalkStep) (new : Contains (pairs_of k.known) q.pair → ⊥) (more : pairs_of k'.known ≡ pairs_of k.known ++ q.pair ∷ []) (same : pairs_of k'.unfit ≡ pairs_of k.unfit) where
+    module _ (k' : Compared) (v : Walk) (b : WalkStep) (new : Contains (pairs_of k.known) (kept_pair c d q.pair) → ⊥) (more : pairs_of k'.known ≡ pairs_of k.known ++ kept_pair c d q.pair ∷ []) (same : pairs_of k'.unfit ≡ pairs_of k.unfit) where
       pub pairs_opened : ArePairsOf c d (pairs_of k'.known)
-      pairs_opened = rw more (pairs_push c d (pairs_of k.known) q.pair h.knows.pairs new part_stands)
+      pairs_opened = rw more (pairs_push c d (pairs_of k.known) (kept_pair c d q.pair) h.knows.pairs new (kept_stands c d one q.pair part_stands))
 
-      module _ (begins : IsBegun ps c d q w.parts.before v.parts.before b) (asked : v.asked ≡ w.asked) (listed : v.parts.items ≡ []) where
+      module _ (begins : IsBegun ps c d q w.parts.before v.parts.before b) (notes : NotesHalt c d b w.halt v.halt) (asked : v.asked ≡ w.asked) (listed : v.parts.items ≡ []) where
         -- and has parts, or differs
         pub way_below : v.open.items ≡ w.open.items ++ moved s ∷ [] → IsComparing ps c d k' v b
         way_below opened =
-            let knows = knows_opened ps c d k k' b (moved s ∷ reverse w.open.items) (knows_moved ps c d k s (moved s) (reverse w.open.items) refl h.knows) (λ m. new (rw begins.part at m)) (rw begins.part part_stands) (rw begins.part more) same in
+            let knows = knows_opened ps c d one k k' b (moved s ∷ reverse w.open.items) (knows_moved ps c d one k s (moved s) (reverse w.open.items) refl h.knows) (λ m. new (rw begins.part at m)) (rw begins.part part_stands) (rw begins.part more) same in
             record {
               knows = rw (opened, reverse_push w.open.items (moved s)) knows;
               at = subst (λ (n : ℕ). IsAtStep ps c d v.parts.before b n) (sym begins.next) begins.at;
               lead = rw (asked, opened, reverse_push w.open.items (moved s), begins.first, begins.before, begins.part) (step_leads ps c d w.parts.before s s.next h.at q (moved s) refl refl refl refl here, h.lead);
               listed = listed;
+              halt = rw (opened, reverse_push w.open.items (moved s)) (notes.0, λ e. noted_same c d w.halt v.halt (moved s ∷ reverse w.open.items) (moved s ∷ reverse w.open.items) (notes.1 e) refl h.halt);
             }
 
         -- and has none, and doesn't differ
@@ -358,34 +382,35 @@ module _ (ps : List Pair) (c d : Collection) (k : Compared) (w : Walk) (s : Walk
             let few : length v.parts.before ≤ length w.parts.before = subst (λ (n : ℕ). length v.parts.before ≤ n) begins.first none in
             let parts : v.parts.before ≡ w.parts.before = sym (take_all (length w.parts.before) v.parts.before few) ∙ begins.before in
             let fits : IsFitting c d q.pair = subst (λ (x : PairPart). IsFitting c d x.pair) begins.part (begins.at.same even (λ i x le at. absurd (let below : i < length v.parts.before = slice_get_within v.parts.before i x at in omega (arith, below, none, le)))) in
-            let knows = knows_opened ps c d k k' (record { part = q; first = 0; next = 0; differs = false }) (moved s ∷ reverse w.open.items) (knows_moved ps c d k s (moved s) (reverse w.open.items) refl h.knows) new part_stands more same in
-            way_fits k' (knows_closed ps c d k' (record { part = q; first = 0; next = 0; differs = false }) (moved s ∷ reverse w.open.items) knows (λ told. fits)) (λ told. fits) v opened parts asked listed
+            let knows = knows_opened ps c d one k k' (record { part = q; first = 0; next = 0; differs = false }) (moved s ∷ reverse w.open.items) (knows_moved ps c d one k s (moved s) (reverse w.open.items) refl h.knows) new part_stands more same in
+            way_fits k' (knows_closed ps c d one k' (record { part = q; first = 0; next = 0; differs = false }) (moved s ∷ reverse w.open.items) knows (λ told. fits)) (λ told. fits) v opened parts asked listed (notes.1 even)
 
 -- ---- a comparison begins
 
-module _ (ps : List Pair) (c d : Collection) (k : Compared) (w : Walk) (h : KnowsTruly c d k) (stands : IsStanding c d w.asked) (kept : w.open.items ≡ []) where
-  pub known_answer : (k' : Compared) → (Contains (pairs_of k.unfit) w.asked → ⊥) → Contains (pairs_of k.known) w.asked → pairs_of k'.known ≡ pairs_of k.known → pairs_of k'.unfit ≡ pairs_of k.unfit → IsAnswered ps c d k' w true
+module _ (ps : List Pair) (c d : Collection) (one : SameByNumber c d) (k : Compared) (w : Walk) (h : KnowsTruly c d k) (stands : IsStanding c d w.asked) (kept : w.open.items ≡ []) where
+  pub known_answer : (k' : Compared) → (Contains (pairs_of k.unfit) (kept_pair c d w.asked) → ⊥) → Contains (pairs_of k.known) (kept_pair c d w.asked) → pairs_of k'.known ≡ pairs_of k.known → pairs_of k'.unfit ≡ pairs_of k.unfit → IsAnswered ps c d k' w true
   known_answer k' nw m known unfit told = (
-    knows_all ps c d k' (knows_same ps c d k k' [] (truly_but ps c d k [] h) known unfit) told,
-    elim (h.known w.asked m) [ inl fits ↦ fits | inr there ↦ absurd (nw there) ],
+    knows_all ps c d one k' (knows_same ps c d one k k' [] (truly_but ps c d one k [] h) known unfit) told,
+    elim (h.known (kept_pair c d w.asked) m) [ inl fits ↦ fits_kept c d one w.asked fits | inr there ↦ absurd (nw there) ],
   )
 
-  pub unfit_answer : Contains (pairs_of k.unfit) w.asked → IsAnswered ps c d k w false
-  unfit_answer m = rw kept (truly_but ps c d k [] h, (h.unfit w.asked m).1)
+  pub unfit_answer : Contains (pairs_of k.unfit) (kept_pair c d w.asked) → IsAnswered ps c d k w false
+  unfit_answer m = rw kept (truly_but ps c d one k [] h, (λ fits. (h.unfit (kept_pair c d w.asked) m).1 (kept_fits c d one w.asked fits)), λ none. absurd (none_among (pairs_of k.unfit) (kept_pair c d w.asked) none m))
 
-  module _ (k' : Compared) (new : Contains (pairs_of k.known) w.asked → ⊥) (more : pairs_of k'.known ≡ pairs_of k.known ++ w.asked ∷ []) (same : pairs_of k'.unfit ≡ pairs_of k.unfit) where
+  module _ (k' : Compared) (new : Contains (pairs_of k.known) (kept_pair c d w.asked) → ⊥) (more : pairs_of k'.known ≡ pairs_of k.known ++ kept_pair c d w.asked ∷ []) (same : pairs_of k'.unfit ≡ pairs_of k.unfit) where
     pub pairs_first : ArePairsOf c d (pairs_of k'.known)
-    pairs_first = rw more (pairs_push c d (pairs_of k.known) w.asked h.pairs new stands)
+    pairs_first = rw more (pairs_push c d (pairs_of k.known) (kept_pair c d w.asked) h.pairs new (kept_stands c d one w.asked stands))
 
-    pub way_first : (q : PairPart) (v : Walk) (b : WalkStep) → q.pair ≡ w.asked → w.parts.before ≡ [] → IsBegun ps c d q w.parts.before v.parts.before b → v.asked ≡ w.asked → v.open ≡ w.open → v.parts.items ≡ [] → IsComparing ps c d k' v b
-    way_first q v b pair none begins asked opened listed =
+    pub way_first : (q : PairPart) (v : Walk) (b : WalkStep) → q.pair ≡ w.asked → w.parts.before ≡ [] → IsBegun ps c d q w.parts.before v.parts.before b → NotesHalt c d b w.halt v.halt → v.asked ≡ w.asked → v.open ≡ w.open → v.parts.items ≡ [] → IsComparing ps c d k' v b
+    way_first q v b pair none begins notes asked opened listed =
         let first : b.part.pair ≡ w.asked = ap (λ (x : PairPart). x.pair) begins.part ∙ pair in
-        let knows = knows_opened ps c d k k' b [] (truly_but ps c d k [] h) (λ m. new (rw first at m)) (rw first stands) (rw first more) same in
+        let knows = knows_opened ps c d one k k' b [] (truly_but ps c d one k [] h) (λ m. new (rw first at m)) (rw first stands) (rw first more) same in
         record {
           knows = rw (opened, kept) knows;
           at = subst (λ (n : ℕ). IsAtStep ps c d v.parts.before b n) (sym begins.next) begins.at;
           lead = rw (asked, opened, kept) first;
           listed = listed;
+          halt = rw (opened, kept) (notes.0, λ e. tt);
         }
 
 -- ---- frames
@@ -417,12 +442,12 @@ module _ (old new : List EntryPair) (p : EntryPair) (answer : Result Bool AllocE
   add_there false is = subst (λ (xs : List EntryPair). Contains xs p) (sym (same (λ e. absurd (cc (e, is))))) (there is)
 
 -- the pairs of all steps were added
-pub all_noted : (c d : Collection) (r : EntryPair) (k k' : Compared) (ss : List WalkStep) → pairs_of k'.known ≡ pairs_of k.known → ((p : EntryPair) → Contains (pairs_of k.unfit) p → Contains (pairs_of k'.unfit) p) → ((p : EntryPair) → Contains (pairs_of k'.unfit) p → Contains (pairs_of k.unfit) p ⊎ IsOpen ss p) → ((j : ℕ) (s : WalkStep) → slice_get ss j ≡ Some s → Contains (pairs_of k'.unfit) s.part.pair) → KnowsBut [] c d k (reverse ss) → IsPathTo c d r (reverse ss) → KnowsTruly c d k'
-all_noted c d r k k' ss known kept only added h path = record {
+pub all_noted : (c d : Collection) → SameByNumber c d → (r : EntryPair) (k k' : Compared) (ss : List WalkStep) → pairs_of k'.known ≡ pairs_of k.known → ((p : EntryPair) → Contains (pairs_of k.unfit) p → Contains (pairs_of k'.unfit) p) → ((p : EntryPair) → Contains (pairs_of k'.unfit) p → Contains (pairs_of k.unfit) p ⊎ IsOpen c d ss p) → ((j : ℕ) (s : WalkStep) → slice_get ss j ≡ Some s → Contains (pairs_of k'.unfit) (kept_pair c d s.part.pair)) → KnowsBut [] c d k (reverse ss) → IsPathTo c d r (reverse ss) → KnowsTruly c d k'
+all_noted c d one r k k' ss known kept only added h path = record {
   pairs = rw known h.pairs;
   unfit = λ p m. elim (only p m) [
     | inl old ↦ h.unfit p old
-    | inr o ↦ open_unfit c d r (reverse ss) path p (o.0, has_reverse ss o.0 o.1, o.2)
+    | inr o ↦ open_unfit c d r one (reverse ss) path p (o.0, has_reverse ss o.0 o.1, o.2)
   ];
   known = λ p m. elim (h.known p (rw known at m)) [
     | inl told ↦ elim told [ inl fits ↦ inl (fits (none_in_order c d)) | inr there ↦ inr (kept p there) ]
@@ -474,7 +499,7 @@ module _ (l r : Collection) (x y : ItemKind) (p : EntryPair) (straight : p.swapp
   named_told ps among may = named_fits (among_fits ps l r p named_stands among (may (left_has_keys l r x y (entries_of l r p) of) (right_has_keys l r x y (entries_of l r p) of)))
 
 -- what is answered about the pair that is named for two items
-pub asked_answer : (ps : List Pair) (l r : Collection) (x y : ItemKind) (p : EntryPair) → p.swapped ≡ false → AreOfItems l r x y (entries_of l r p) → (k : Compared) (w : Walk) → w.asked ≡ p → (answer : Result Bool AllocError) → IfOk answer (IsAnswered ps l r k w) → IfOk answer (AreAnswered ps l r x y w)
-asked_answer ps l r x y p straight of k w same (Ok true) h = λ may. named_fits l r x y p straight of (subst (λ (q : EntryPair). IsFitting l r q) same (h (may (left_has_keys l r x y (entries_of l r p) of) (right_has_keys l r x y (entries_of l r p) of))).1)
-asked_answer ps l r x y p straight of k w same (Ok false) h = (rw same straight, rw same of, h.1)
-asked_answer ps l r x y p straight of k w same (Err e) h = tt
+pub asked_answer : (ps : List Pair) (l r : Collection) (x y : ItemKind) (p : EntryPair) → p.swapped ≡ false → AreOfItems l r x y (entries_of l r p) → (k : Compared) (w : Walk) → w.asked ≡ p → pairs_of k.unfit ≡ [] → (answer : Result Bool AllocError) → IfOk answer (IsAnswered ps l r k w) → IfOk answer (AreAnswered ps l r x y w)
+asked_answer ps l r x y p straight of k w same none (Ok true) h = λ may. named_fits l r x y p straight of (subst (λ (q : EntryPair). IsFitting l r q) same (h (may (left_has_keys l r x y (entries_of l r p) of) (right_has_keys l r x y (entries_of l r p) of))).1)
+asked_answer ps l r x y p straight of k w same none (Ok false) h = (rw same straight, rw same of, h.1, h.2 none)
+asked_answer ps l r x y p straight of k w same none (Err e) h = tt

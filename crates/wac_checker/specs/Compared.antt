@@ -14,7 +14,7 @@ use Rattle.wac_mismatch.specs.declared.check.SubtypeCheck.{SubtypeCheck}
 use Rattle.wac_mismatch.specs.declared.error.SubtypeError.{SubtypeError}
 use Rattle.wac_checker.specs.Verdict.{IsItemVerdict}
 use Rattle.wac_checker_parts.specs.declared.sides.Sides.{Sides}
-use Rattle.wac_checker.specs.Walk.{IsAtStep, IsOpen, IsPathTo, LeadFrom}
+use Rattle.wac_checker.specs.Walk.{EndsApart, IsAtStep, IsHaltNoted, IsOpen, IsPathTo, LeadFrom}
 use Rattle.wac_checker.specs.declared.compared.Compared.{Compared}
 use Rattle.wac_checker_parts.specs.declared.parts.EntryPair.{EntryPair}
 use Rattle.wac_checker.specs.declared.walk.WalkStep.{WalkStep}
@@ -31,7 +31,7 @@ pub record KnowsTruly (c d : Collection) (k : Compared) : Type 0 where
 pub record KnowsBut (ps : List Pair) (c d : Collection) (k : Compared) (ss : List WalkStep) : Type 0 where
   pub pairs : ArePairsOf c d (pairs_of k.known)
   pub unfit : (p : EntryPair) → Contains (pairs_of k.unfit) p → IsStanding c d p × (¬ (IsFitting c d p))
-  pub known : (p : EntryPair) → Contains (pairs_of k.known) p → (IsFittingBy ps c d p ⊎ Contains (pairs_of k.unfit) p) ⊎ IsOpen ss p
+  pub known : (p : EntryPair) → Contains (pairs_of k.known) p → (IsFittingBy ps c d p ⊎ Contains (pairs_of k.unfit) p) ⊎ IsOpen c d ss p
 
 -- a comparison is at a step
 pub record IsComparing (ps : List Pair) (c d : Collection) (k : Compared) (w : Walk) (s : WalkStep) : Type 0 where
@@ -39,12 +39,13 @@ pub record IsComparing (ps : List Pair) (c d : Collection) (k : Compared) (w : W
   pub at : IsAtStep ps c d w.parts.before s s.next
   pub lead : LeadFrom ps c d w.asked (take s.first w.parts.before) (reverse w.open.items) s.part
   pub listed : w.parts.items ≡ []
+  pub halt : IsHaltNoted c d w.halt (s ∷ reverse w.open.items)
 
 -- it has come to an end: the pair that was asked about fits, or the open steps lead to one that
--- doesn't
+-- doesn't, of which it is noted why, if no pair was known not to fit
 abbrev pub IsAnswered : List Pair → Collection → Collection → Compared → Walk → Bool → Type 0
 IsAnswered ps c d k w true = AreInOrder c d ps → KnowsTruly c d k × IsFitting c d w.asked
-IsAnswered ps c d k w false = KnowsBut ps c d k (reverse w.open.items) × IsPathTo c d w.asked (reverse w.open.items)
+IsAnswered ps c d k w false = KnowsBut ps c d k (reverse w.open.items) × IsPathTo c d w.asked (reverse w.open.items) × (pairs_of k.unfit ≡ [] → EndsApart c d w.halt (reverse w.open.items))
 
 -- it goes on, or has come to an end
 abbrev pub IsGoingOn : List Pair → Collection → Collection → Compared → Walk → WalkStep → Option Bool → Type 0
@@ -55,10 +56,11 @@ IsGoingOn ps c d k w s (Some b) = IsAnswered ps c d k w b
 abbrev pub AreNamedAlone : Collection → Collection → ItemKind → ItemKind → List PairPart → Type 0
 AreNamedAlone c d x y ms = AreItemsNamed c d false 0 x y [] ms (Ok true)
 
--- two items fit, or the open steps lead from the pair that is named for them to one that doesn't
+-- two items fit, or the open steps lead from the pair that is named for them to one that doesn't, of
+-- which it is noted why
 abbrev pub AreAnswered : List Pair → Collection → Collection → ItemKind → ItemKind → Walk → Bool → Type 0
 AreAnswered ps c d x y w true = MayBelieve ps c d x y → Fits (item_tree c x) (item_tree d y)
-AreAnswered ps c d x y w false = (w.asked.swapped ≡ false) × AreOfItems c d x y (entries_of c d w.asked) × IsPathTo c d w.asked (reverse w.open.items)
+AreAnswered ps c d x y w false = (w.asked.swapped ≡ false) × AreOfItems c d x y (entries_of c d w.asked) × IsPathTo c d w.asked (reverse w.open.items) × EndsApart c d w.halt (reverse w.open.items)
 
 -- a verdict on two items, by what is believed of them
 abbrev pub IsVerdictOn : Sides → SubtypeCheck → List Pair → Pair → Result (Unit {0}) SubtypeError → Type 0

@@ -1,5 +1,5 @@
 -- How far a comparison of pairs is.
-use Rattle.std.specs.Prelude.{◌≡◌, ◌+◌, ◌<◌, ◌≤◌, ℕ, List, [], ◌∷◌, Bool, true, false, Some, slice_get, length, take, Contains}
+use Rattle.std.specs.Prelude.{◌≡◌, ◌==◌, ◌&&◌, ◌+◌, ◌<◌, ◌≤◌, ℕ, List, [], ◌∷◌, Bool, true, false, not, Option, Some, None, Err, slice_get, length, take, Contains}
 use Rattle.wac_component.specs.Collection.{Collection}
 use Rattle.wac_checker_parts.specs.Pairs.{IsFitting, IsStanding, IsBelowPair, PairHasPart, PairPath, two_of}
 use Rattle.wac_mismatch.specs.declared.check.SubtypeCheck.{SubtypeCheck}
@@ -7,8 +7,10 @@ use Rattle.wac_mismatch.specs.declared.fault.Fault.{Fault}
 use Rattle.wac_mismatch.specs.declared.frame.Frame.{Frame}
 use Rattle.wac_checker.specs.Believed.{IsFittingBy}
 use Rattle.wac_checker.specs.Cache.{Pair}
-use Rattle.wac_checker_parts.specs.Listing.{AllFit}
+use Rattle.wac_checker_parts.specs.Listing.{AllFit, IsPairTurn}
 use Rattle.wac_checker_parts.specs.declared.parts.EntryPair.{EntryPair}
+use Rattle.wac_checker_parts.specs.declared.parts.Halt.{Halt}
+use Rattle.wac_checker_parts.specs.declared.parts.Halt.TheVariants as halt
 use Rattle.wac_checker_parts.specs.declared.parts.PairPart.{PairPart}
 use Rattle.wac_checker_parts.specs.declared.sides.Sides.{Sides}
 use Rattle.wac_checker.specs.declared.walk.WalkStep.{WalkStep}
@@ -54,9 +56,36 @@ abbrev pub LeadFrom : List Pair → Collection → Collection → EntryPair → 
 LeadFrom ps c d r l [] q = q.pair ≡ r
 LeadFrom ps c d r l (s ∷ ss) q = LeadsTo ps c d l s q × LeadFrom ps c d r (take s.first l) ss s.part
 
--- the pair of one of the steps
-abbrev pub IsOpen : List WalkStep → EntryPair → Type 0
-IsOpen ss p = (s : WalkStep) × Contains ss s × (s.part.pair ≡ p)
+-- a pair as it is kept: of one collection, swapped entries are asked about as they stand
+abbrev pub kept_pair : Collection → Collection → EntryPair → EntryPair
+kept_pair c d p = record { left = p.left; right = p.right; sort = p.sort; swapped = p.swapped && not (c.number == d.number) }
+
+-- the pair of one of the steps, as it is kept
+abbrev pub IsOpen : Collection → Collection → List WalkStep → EntryPair → Type 0
+IsOpen c d ss p = (s : WalkStep) × Contains ss s × (kept_pair c d s.part.pair ≡ p)
+
+-- why the parts of a pair whose two differ aren't listed further
+abbrev pub IsHaltOf : Collection → Collection → EntryPair → Halt → Type 0
+IsHaltOf c d p halt.Memory = ⊥
+IsHaltOf c d p h = (ms : List PairPart) × IsPairTurn c d p ms (Err h)
+
+abbrev pub HasHalt : Collection → Collection → EntryPair → Option Halt → Type 0
+HasHalt c d p None = ⊥
+HasHalt c d p (Some h) = IsHaltOf c d p h
+
+-- where the two of a step's pair differ, it is noted why; else what was noted stays
+abbrev pub NotesHalt : Collection → Collection → WalkStep → Option Halt → Option Halt → Type 0
+NotesHalt c d s before after = (s.differs ≡ true → HasHalt c d s.part.pair after) × (s.differs ≡ false → after ≡ before)
+
+-- of the first of these steps whose two differ it is noted why they do
+abbrev pub IsHaltNoted : Collection → Collection → Option Halt → List WalkStep → Type 0
+IsHaltNoted c d o [] = Unit {0}
+IsHaltNoted c d o (s ∷ ss) = (s.differs ≡ true → HasHalt c d s.part.pair o) × (s.differs ≡ false → IsHaltNoted c d o ss)
+
+-- the two of the first of these steps differ, and it is noted why
+abbrev pub EndsApart : Collection → Collection → Option Halt → List WalkStep → Type 0
+EndsApart c d o [] = ⊥
+EndsApart c d o (s ∷ ss) = HasHalt c d s.part.pair o
 
 -- steps, the last one first, are a path from a pair to a part
 abbrev pub PathFrom : Collection → Collection → EntryPair → List WalkStep → PairPart → Type 0

@@ -9,14 +9,14 @@ ghost use Rattle.wac_checker.specs.Believed.{told};
 ghost use Rattle.wac_checker.specs.Compared.{IsAnswered, IsGoingOn, IsComparing, KnowsTruly, KnowsBut};
 ghost use Rattle.wac_checker.specs.Known.{pairs_of};
 ghost use Rattle.wac_checker_parts.specs.Pairs.{ArePairsOf, IsFitting, IsStanding};
-ghost use Rattle.wac_checker.specs.Walk.{IsPathTo};
+ghost use Rattle.wac_checker.specs.Walk.{IsPathTo, kept_pair};
 ghost use Rattle.wac_checker_parts.specs.declared.parts.EntryPair.{EntryPair};
 
 use super::cache::{Believed, Kinds, is_believed};
 use super::known::Known;
 use super::walk::{Walk, WalkStep, has_more};
 use std::alloc::{AllocError, Global};
-use wac_checker_parts::{PairPart, Sides};
+use wac_checker_parts::{EntryPair, PairPart, Sides};
 use wac_component::{ItemKind, Types};
 
 /// The pairs of entries of two collections that were compared, and those of them that don't fit.
@@ -45,8 +45,8 @@ impl Compared {
 
     /// Whether the item `a` of the collection `at` fits where the item `b` of `bt` is asked for
     /// (Component Model explainer, "Subtyping"). Of each pair that is compared for it the answer
-    /// is remembered, so that none is compared again; two entries as they stand and swapped, as
-    /// below an import, are two pairs.
+    /// is remembered, so that none is compared again. Two entries of two collections, as they stand
+    /// and swapped, as below an import, are two pairs.
     pub fn fits(
         &mut self,
         alloc: Global,
@@ -80,7 +80,7 @@ impl Compared {
     }
 
     // Whether the pair fits that is asked about. After a no all pairs that are open don't fit.
-    fn answer(&mut self, walk: &mut Walk, sides: &Sides<'_>) -> Result<bool, AllocError>
+    fn answer<'a>(&mut self, walk: &mut Walk<'a>, sides: &Sides<'a>) -> Result<bool, AllocError>
         requires straight { sides.now.swapped ≡ false }
         requires stands { IsStanding sides.now.left.now sides.now.right.now walk.old.asked }
         requires parts { walk.old.parts.before ≡ [] }
@@ -97,7 +97,7 @@ impl Compared {
         match self.compare(walk, sides, &nothing) {
             Ok(true) => Ok(true),
             Ok(false) => {
-                self.note(sides.alloc, walk.open.as_slice())?;
+                self.note(sides, walk.open.as_slice())?;
                 Ok(false)
             }
             Err(e) => {
@@ -116,13 +116,13 @@ impl Compared {
     }
 
     // The pairs of steps don't fit.
-    fn note(&mut self, alloc: Global, open: &[WalkStep]) -> Result<(), AllocError>
-        ensures { (c d : Collection) (r : EntryPair) → KnowsBut [] c d self.old (reverse open.now) → IsPathTo c d r (reverse open.now) → KnowsTruly c d self.new }
+    fn note(&mut self, sides: &Sides<'_>, steps: &[WalkStep]) -> Result<(), AllocError>
+        ensures { let c = sides.now.left.now in let d = sides.now.right.now in (r : EntryPair) → KnowsBut [] c d self.old (reverse steps.now) → IsPathTo c d r (reverse steps.now) → KnowsTruly c d self.new }
     {
-        for i in 0..open.len() {
-            let step = open[i];
-            if let Err(e) = self.unfit.add(&step.part.pair) {
-                self.forget(alloc);
+        for i in 0..steps.len() {
+            let step = steps[i];
+            if let Err(e) = self.unfit.add(&kept_pair(sides, &step.part.pair)) {
+                self.forget(sides.alloc);
                 return Err(e);
             }
         }
@@ -131,10 +131,10 @@ impl Compared {
 
     /// Whether the pair fits that is asked about, by comparing it and each pair below it that
     /// wasn't compared before. At a no the open steps lead to a pair that doesn't fit.
-    pub(crate) fn compare(
+    pub(crate) fn compare<'a>(
         &mut self,
-        walk: &mut Walk,
-        sides: &Sides<'_>,
+        walk: &mut Walk<'a>,
+        sides: &Sides<'a>,
         believed: &Believed<'_>,
     ) -> Result<bool, AllocError>
         requires straight { sides.now.swapped ≡ false }
@@ -146,11 +146,13 @@ impl Compared {
         ensures answer { IfOk result (IsAnswered (told believed.now) sides.now.left.now sides.now.right.now self.new walk.new) }
         ensures asked { walk.new.asked ≡ walk.old.asked }
         ensures pairs { ArePairsOf sides.now.left.now sides.now.right.now (pairs_of self.new.known) }
+        ensures unfit { self.new.unfit ≡ self.old.unfit }
     {
-        if self.unfit.has(&walk.asked) {
+        let asked = kept_pair(sides, &walk.asked);
+        if self.unfit.has(&asked) {
             return Ok(false);
         }
-        if !self.known.add(&walk.asked)? {
+        if !self.known.add(&asked)? {
             return Ok(true);
         }
         let part = PairPart {
@@ -167,10 +169,10 @@ impl Compared {
     }
 
     // Goes on with the pair at hand: with its next part, or with the pair above it, or to the end.
-    fn turn(
+    fn turn<'a>(
         &mut self,
-        walk: &mut Walk,
-        sides: &Sides<'_>,
+        walk: &mut Walk<'a>,
+        sides: &Sides<'a>,
         step: &mut WalkStep,
         believed: &Believed<'_>,
     ) -> Result<Option<bool>, AllocError>
@@ -179,6 +181,7 @@ impl Compared {
         ensures way { IfOk result (IsGoingOn (told believed.now) sides.now.left.now sides.now.right.now self.new walk.new step.new) }
         ensures asked { walk.new.asked ≡ walk.old.asked }
         ensures pairs { ArePairsOf sides.now.left.now sides.now.right.now (pairs_of self.new.known) }
+        ensures unfit { self.new.unfit ≡ self.old.unfit }
     {
         if step.next < walk.parts.len() {
             return self.go_below(walk, sides, step, believed);
@@ -198,10 +201,10 @@ impl Compared {
     }
 
     // Goes on with the next part of the pair at hand.
-    fn go_below(
+    fn go_below<'a>(
         &mut self,
-        walk: &mut Walk,
-        sides: &Sides<'_>,
+        walk: &mut Walk<'a>,
+        sides: &Sides<'a>,
         step: &mut WalkStep,
         believed: &Believed<'_>,
     ) -> Result<Option<bool>, AllocError>
@@ -212,17 +215,19 @@ impl Compared {
         ensures way { IfOk result (IsGoingOn (told believed.now) sides.now.left.now sides.now.right.now self.new walk.new step.new) }
         ensures asked { walk.new.asked ≡ walk.old.asked }
         ensures pairs { ArePairsOf sides.now.left.now sides.now.right.now (pairs_of self.new.known) }
+        ensures unfit { self.new.unfit ≡ self.old.unfit }
     {
         let part = walk.parts.at(step.next);
         step.next += 1;
-        if self.unfit.has(&part.pair) {
+        let kept = kept_pair(sides, &part.pair);
+        if self.unfit.has(&kept) {
             walk.open.push(*step)?;
             return Ok(Some(false));
         }
         if is_believed(believed, sides, &part.pair) {
             return Ok(None);
         }
-        if self.known.add(&part.pair)? {
+        if self.known.add(&kept)? {
             let below = walk.begin(sides, part)?;
             // those that fit and have no parts are done
             if has_more(&below, &walk.parts) {
@@ -231,5 +236,18 @@ impl Compared {
             }
         }
         Ok(None)
+    }
+}
+
+// The pair as it is kept: of one collection, swapped entries are asked about as they stand.
+#[inline(always)]
+fn kept_pair(sides: &Sides<'_>, pair: &EntryPair) -> EntryPair
+    ensures { result ≡ kept_pair sides.now.left.now sides.now.right.now pair.now }
+{
+    EntryPair {
+        left: pair.left,
+        right: pair.right,
+        sort: pair.sort,
+        swapped: pair.swapped && sides.left.number() != sides.right.number(),
     }
 }

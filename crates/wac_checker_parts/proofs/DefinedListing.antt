@@ -18,7 +18,6 @@ use Rattle.wac_component.specs.declared.items.ValueType.{ValueType}
 use Rattle.wac_component.proofs.Lists.{append_nil}
 use Rattle.wac_component.proofs.Members.{AllStand-member, keys_height-member}
 use Rattle.wac_mismatch.specs.Place.{value_side}
-use Rattle.wac_mismatch.specs.declared.check.SubtypeCheck.TheVariants.{Covariant}
 use Rattle.wac_mismatch.specs.declared.fault.CountOf.TheVariants as count_of
 use Rattle.wac_mismatch.specs.declared.fault.NameOf.TheVariants as name_of
 use Rattle.wac_mismatch.specs.declared.fault.ResultPart.TheVariants as result_part
@@ -95,13 +94,13 @@ second_lower c (Some q) (Some v) =
 
 module _ (l r : Collection) (w : Bool) (m n : ℕ) where
   oks_turn : (o p e g : Option ValueType) (ms ns : List PairPart) (k : Turn) → keys_height l (flat_map value_keys (option_to_list o)) < m → keys_height r (flat_map value_keys (option_to_list p)) < n → IsOptionalTurn l r w 0 (difference.ResultPart result_part.Ok (is_some o) (is_some p)) o p ms ns k → IsTurnTo l r w (result_side l o e) (result_side r p g) m n 0 ms (Ok tt) → IsTurnTo l r w (result_side l o e) (result_side r p g) m n 1 ns k
-  oks_turn None None e g ms ns k left right h before = rw (h.0, h.1) (turn_same l r w (result_side l None e) (result_side r None g) m n 0 ms (part_of_oks Covariant l r m n None None e g Same left right refl).1 before)
+  oks_turn None None e g ms ns k left right h before = rw (h.0, h.1) (turn_same l r w (result_side l None e) (result_side r None g) m n 0 ms (part_of_oks l r m n None None e g Same left right refl).1 before)
   oks_turn (Some v) (Some x) e g ms ns k left right h before = turn_last l r w (result_side l (Some v) e) (result_side r (Some x) g) m n 0 v x ms ns (omega arith) (oks_at l r v x e g) (rw (append_nil (value_keys v)) at left) (rw (append_nil (value_keys x)) at right) k h before
   oks_turn None (Some x) e g ms ns k left right h before = rw (h.0, h.1) (before.0, oks_differ l r None (Some x) e g (λ e'. absurd (cc (e'))))
   oks_turn (Some v) None e g ms ns k left right h before = rw (h.0, h.1) (before.0, oks_differ l r (Some v) None e g (λ e'. absurd (cc (e'))))
 
   errs_turn : (o p e g : Option ValueType) (ms ns : List PairPart) (k : Turn) → keys_height l (flat_map value_keys (option_to_list e)) < m → keys_height r (flat_map value_keys (option_to_list g)) < n → IsOptionalTurn l r w 1 (difference.ResultPart result_part.Err (is_some e) (is_some g)) e g ms ns k → IsTurnTo l r w (result_side l o e) (result_side r p g) m n 1 ms (Ok tt) → IsTurnTo l r w (result_side l o e) (result_side r p g) m n 2 ns k
-  errs_turn o p None None ms ns k left right h before = rw (h.0, h.1) (turn_same l r w (result_side l o None) (result_side r p None) m n 1 ms (part_of_errs Covariant l r m n o p None None Same left right refl).1 before)
+  errs_turn o p None None ms ns k left right h before = rw (h.0, h.1) (turn_same l r w (result_side l o None) (result_side r p None) m n 1 ms (part_of_errs l r m n o p None None Same left right refl).1 before)
   errs_turn o p (Some v) (Some x) ms ns k left right h before = turn_last l r w (result_side l o (Some v)) (result_side r p (Some x)) m n 1 v x ms ns (omega arith) (errs_at l r o p v x) (rw (append_nil (value_keys v)) at left) (rw (append_nil (value_keys x)) at right) k h before
   errs_turn o p None (Some x) ms ns k left right h before = rw (h.0, h.1) (before.0, errs_differ l r o p None (Some x) (λ e'. absurd (cc (e'))))
   errs_turn o p (Some v) None ms ns k left right h before = rw (h.0, h.1) (before.0, errs_differ l r o p (Some v) None (λ e'. absurd (cc (e'))))

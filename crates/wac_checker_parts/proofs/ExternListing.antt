@@ -111,7 +111,7 @@ others_differ a b s t l r ne c f is = inl (items_by c f s t ne (subst₂ (λ (x 
 -- one more is named
 pub next_extern : (l r : Collection) (w : Bool) (first : ℕ) (es ts : KindsByName) (j i : ℕ) (n : Text) (x y : ItemKind) (ms ns os : List PairPart) → i ≡ first + j → IsPlace ts j → AreNamed es ts j n x y → AreItemsNamed l r w i x y ns os (Ok true) → AreExternsOf l r w first es ts ms ns × AreServedTo l r w es ts j ns → AreExternsOf l r w first es ts ms os × AreServedTo l r w es ts (j + 1) os
 next_extern l r w first es ts j i n x y ms ns os e place' are named' h = elim named' [
-  | inl one ↦ rw one.0 (h.0, λ all k b. elim (last_or_before k j (omega (arith, b))) [ inl last ↦ subst (λ (m : ℕ). IsExternPart Covariant l r es ts m Same) (sym last) (place', (n, x, y, are, one.1)) | inr before ↦ h.1 all k before ])
+  | inl one ↦ rw one.0 (h.0, λ all k b. elim (last_or_before k j (omega (arith, b))) [ inl last ↦ subst (λ (m : ℕ). IsExternPart l r es ts m Same) (sym last) (place', (n, x, y, are, one.1)) | inr before ↦ h.1 all k before ])
   | inr put ↦ (
     (
       (λ q m. put_keeps i put.0 ns os put.3 q (h.0.0 q m)),
@@ -121,7 +121,7 @@ next_extern l r w first es ts j i n x y ms ns os e place' are named' h = elim na
         let there' = put_named i put.0 ns os put.3 in
         let fits = fit_here l r w put.0 put.1 (subst (λ (p : EntryPair). IsFitting (left_of l r w) (right_of l r w) p) there'.2 (all there'.0 there'.1)) in
         elim (last_or_before k j (omega (arith, b))) [
-          | inl last ↦ subst (λ (m : ℕ). IsExternPart Covariant l r es ts m Same) (sym last) (place', (n, x, y, are, put.2.enough fits))
+          | inl last ↦ subst (λ (m : ℕ). IsExternPart l r es ts m Same) (sym last) (place', (n, x, y, are, put.2.enough fits))
           | inr before ↦ h.1 (λ q m. all q (put_keeps i put.0 ns os put.3 q m)) k before
         ],
   )
@@ -149,21 +149,21 @@ module _ (l r : Collection) (w : Bool) (a b : Id) (es ts : KindsByName) (ms : Li
     | inl none ↦ absurd (omega (arith, none.1))
     | inr of ↦ (
         let at : q.index ≡ of.0 = omega (arith, of.1) in
-        let found = interface_found Covariant l r a b es ts q.index left right left_lower right_lower (Below (record { entries = entries_of l r q.pair; swapped = false })) (subst (λ (n : ℕ). IsExternPart Covariant l r es ts n (Below (record { entries = entries_of l r q.pair; swapped = false }))) (sym at) of.3) in
+        let found = interface_found l r a b es ts q.index left right left_lower right_lower (Below (record { entries = entries_of l r q.pair; swapped = false })) (subst (λ (n : ℕ). IsExternPart l r es ts n (Below (record { entries = entries_of l r q.pair; swapped = false }))) (sym at) of.3) in
         (false, of.2 ∙ flag_same w, found.0, found.1))
   ]
 
   pub interface_turn : (k : Turn) → IsExportsTurn l r w (codes "instance") 0 es ts [] ms k → IsTurn l r w (Interfaces a b) ms k
-  interface_turn (Ok u) h = (interface_parts h.0, λ all. interface_found Covariant l r a b es ts (length ts) left right left_lower right_lower End (omega arith) (λ j below. (interface_found Covariant l r a b es ts j left right left_lower right_lower Same (h.1 all j below)).1))
+  interface_turn (Ok u) h = (interface_parts h.0, λ all. interface_found l r a b es ts (length ts) left right left_lower right_lower End (omega arith) (λ j below. (interface_found l r a b es ts j left right left_lower right_lower Same (h.1 all j below)).1))
   interface_turn (Err (halt.Apart x)) h = (interface_parts h.0, (λ c f is k. rw (left, right) (h.1 k interface no_items no_items refl c f is)), (λ fit. differ_refutes x (item_side (composite item interface no_items (items_of (item_tree l) es))) (item_side (composite item interface no_items (items_of (item_tree r) ts))) (h.1 item interface no_items no_items refl) (rw (left, right) at (fit item))))
   interface_turn (Err (halt.PartApart i s x)) h =
       let there' = h.2 in
       let at : i ≡ there'.0 = omega (arith, there'.1) in
       let of = there'.2 in (
         interface_parts h.0,
-        subst (λ (n : ℕ). HasPart l r (Interfaces a b) n) (sym at) (interface_place Covariant l r a b es ts there'.0 left right left_lower right_lower of.0),
-        (λ c f g is fault. interface_leads Covariant l r a b es ts there'.0 left right left_lower right_lower of.1.0 of.1.1 of.1.2 of.1.3 c f g (subst (λ (n : ℕ). IsFrameOf l r (Interfaces a b) n f) at is) (of.1.4 c g (rw h.1 at fault))),
-        (λ fit. of.1.5 (interface_needed Covariant l r a b es ts there'.0 left right left_lower right_lower of.1.0 of.1.1 of.1.2 of.1.3 fit)),
+        subst (λ (n : ℕ). HasPart l r (Interfaces a b) n) (sym at) (interface_place l r a b es ts there'.0 left right left_lower right_lower of.0),
+        (λ c f g is fault. interface_leads l r a b es ts there'.0 left right left_lower right_lower of.1.0 of.1.1 of.1.2 of.1.3 c f g (subst (λ (n : ℕ). IsFrameOf l r (Interfaces a b) n f) at is) (of.1.4 c g (rw h.1 at fault))),
+        (λ fit. of.1.5 (interface_needed l r a b es ts there'.0 left right left_lower right_lower of.1.0 of.1.1 of.1.2 of.1.3 fit)),
       )
   interface_turn (Err halt.Modules) h = elim h [ ]
   interface_turn (Err halt.Memory) h = tt
@@ -188,14 +188,14 @@ module _ (l r : Collection) (w : Bool) (a b : Id) (is js es ts : KindsByName)
   import_part : (q : PairPart) → IsExternOf r l (not w) 0 js is q → IsPartOf l r w (Worlds a b) q
   import_part q of =
       let at : q.index ≡ of.0 = omega (arith, of.1) in
-      let found = import_found Contravariant l r a b is js es ts left_imports right_imports left_exports right_exports left_imports_lower right_imports_lower left_exports_lower right_exports_lower of.0 of.3.0.0 (Below (record { entries = entries_of r l q.pair; swapped = false })) (Below (record { entries = entries_of r l q.pair; swapped = true })) (refl, refl) of.3 in
+      let found = import_found l r a b is js es ts left_imports right_imports left_exports right_exports left_imports_lower right_imports_lower left_exports_lower right_exports_lower of.0 of.3.0.0 (Below (record { entries = entries_of r l q.pair; swapped = false })) (Below (record { entries = entries_of r l q.pair; swapped = true })) (refl, refl) of.3 in
       let here = subst (λ (n : ℕ). HasPart l r (Worlds a b) n × IsBelow l r (Worlds a b) n (record { entries = entries_of r l q.pair; swapped = true })) (sym at) (found.0, found.1) in
       (true, of.2 ∙ flag_turned w, here.0, here.1)
 
   export_part : (q : PairPart) → IsExternOf l r w (length is) es ts q → IsPartOf l r w (Worlds a b) q
   export_part q of =
       let at : q.index - length is ≡ of.0 = omega (arith, of.1) in
-      let found = export_found Covariant l r a b is js es ts left_imports right_imports left_exports right_exports left_imports_lower right_imports_lower left_exports_lower right_exports_lower q.index (omega (arith, of.1)) few (Below (record { entries = entries_of l r q.pair; swapped = false })) (subst (λ (n : ℕ). IsExternPart Covariant l r es ts n (Below (record { entries = entries_of l r q.pair; swapped = false }))) (sym at) of.3) in
+      let found = export_found l r a b is js es ts left_imports right_imports left_exports right_exports left_imports_lower right_imports_lower left_exports_lower right_exports_lower q.index (omega (arith, of.1)) few (Below (record { entries = entries_of l r q.pair; swapped = false })) (subst (λ (n : ℕ). IsExternPart l r es ts n (Below (record { entries = entries_of l r q.pair; swapped = false }))) (sym at) of.3) in
       (false, of.2 ∙ flag_same w, found.0, found.1)
 
   imports_parts : (ms : List PairPart) → AreExternsOf r l (not w) 0 js is [] ms → ArePartsOf l r w (Worlds a b) ms
@@ -212,9 +212,9 @@ module _ (l r : Collection) (w : Bool) (a b : Id) (is js es ts : KindsByName)
   world_imports ms (Err (halt.PartApart i s x)) other h =
       let of = h.2.1 in (
         imports_parts ms h.0,
-        import_place Covariant l r a b is js es ts left_imports right_imports left_exports right_exports left_imports_lower right_imports_lower left_exports_lower right_exports_lower i h.2.0.0 h.2.0,
-        (λ c f g frame fault. import_path Covariant l r a b is js es ts left_imports right_imports left_exports right_exports left_imports_lower right_imports_lower left_exports_lower right_exports_lower i h.2.0.0 of.0 of.2 of.1 of.3 c f g frame (of.4 (turned c) g (rw h.1 at fault))),
-        (λ fit. of.5 (import_needed Covariant l r a b is js es ts left_imports right_imports left_exports right_exports left_imports_lower right_imports_lower left_exports_lower right_exports_lower i h.2.0.0 of.0 of.2 of.1 of.3 fit)),
+        import_place l r a b is js es ts left_imports right_imports left_exports right_exports left_imports_lower right_imports_lower left_exports_lower right_exports_lower i h.2.0.0 h.2.0,
+        (λ c f g frame fault. import_path l r a b is js es ts left_imports right_imports left_exports right_exports left_imports_lower right_imports_lower left_exports_lower right_exports_lower i h.2.0.0 of.0 of.2 of.1 of.3 c f g frame (of.4 (turned c) g (rw h.1 at fault))),
+        (λ fit. of.5 (import_needed l r a b is js es ts left_imports right_imports left_exports right_exports left_imports_lower right_imports_lower left_exports_lower right_exports_lower i h.2.0.0 of.0 of.2 of.1 of.3 fit)),
       )
   world_imports ms (Err halt.Modules) other h = elim h [ ]
   world_imports ms (Err halt.Memory) other h = tt
@@ -225,13 +225,13 @@ module _ (l r : Collection) (w : Bool) (a b : Id) (is js es ts : KindsByName)
 
     parts_fit : AreExternsOf l r w (length is) es ts ms ns → AreServedTo l r w es ts (length ts) ns → AllFitBy l r w ns → (j : ℕ) → j < length is + length ts → PartFits l r (Worlds a b) j
     parts_fit more served all j below = elim (first_or_past j (length is)) [
-      | inl within ↦ (import_found Contravariant l r a b is js es ts left_imports right_imports left_exports right_exports left_imports_lower right_imports_lower left_exports_lower right_exports_lower j within Same Same refl (before.1 (turned_fit l r w ms (λ q m. all q (more.0 q m))) j within)).1
-      | inr past ↦ (export_found Covariant l r a b is js es ts left_imports right_imports left_exports right_exports left_imports_lower right_imports_lower left_exports_lower right_exports_lower j past few Same (served all (j - length is) (omega (arith, past, below)))).1
+      | inl within ↦ (import_found l r a b is js es ts left_imports right_imports left_exports right_exports left_imports_lower right_imports_lower left_exports_lower right_exports_lower j within Same Same refl (before.1 (turned_fit l r w ms (λ q m. all q (more.0 q m))) j within)).1
+      | inr past ↦ (export_found l r a b is js es ts left_imports right_imports left_exports right_exports left_imports_lower right_imports_lower left_exports_lower right_exports_lower j past few Same (served all (j - length is) (omega (arith, past, below)))).1
     ]
 
     -- the exports come after them
     pub world_turn : (k : Turn) → IsExportsTurn l r w (codes "component") (length is) es ts ms ns k → IsTurn l r w (Worlds a b) ns k
-    world_turn (Ok u) h = (world_parts h.0, λ all. export_found Covariant l r a b is js es ts left_imports right_imports left_exports right_exports left_imports_lower right_imports_lower left_exports_lower right_exports_lower (length is + length ts) (omega arith) few End (omega arith) (parts_fit h.0 h.1 all))
+    world_turn (Ok u) h = (world_parts h.0, λ all. export_found l r a b is js es ts left_imports right_imports left_exports right_exports left_imports_lower right_imports_lower left_exports_lower right_exports_lower (length is + length ts) (omega arith) few End (omega arith) (parts_fit h.0 h.1 all))
     world_turn (Err (halt.Apart x)) h = (
       world_parts h.0,
       (λ c f is' k. rw (left_exports, right_exports) (h.1 k world (externs l (world_key a)).imports (externs r (world_key b)).imports refl c f is')),
@@ -244,9 +244,9 @@ module _ (l r : Collection) (w : Bool) (a b : Id) (is js es ts : KindsByName)
         let of = there'.2.1 in
         let are = subst (λ (n : ℕ). AreNamed es ts n of.0 of.1 of.2) (sym at) of.3 in (
           world_parts h.0,
-          export_place Covariant l r a b is js es ts left_imports right_imports left_exports right_exports left_imports_lower right_imports_lower left_exports_lower right_exports_lower i past few (subst (λ (n : ℕ). IsPlace ts n) (sym at) there'.2.0),
-          (λ c f g frame fault. export_path Covariant l r a b is js es ts left_imports right_imports left_exports right_exports left_imports_lower right_imports_lower left_exports_lower right_exports_lower i past few of.0 of.1 of.2 are c f g frame (of.4 c g (rw h.1 at fault))),
-          (λ fit. of.5 (export_needed Covariant l r a b is js es ts left_imports right_imports left_exports right_exports left_imports_lower right_imports_lower left_exports_lower right_exports_lower i past few of.0 of.1 of.2 are fit)),
+          export_place l r a b is js es ts left_imports right_imports left_exports right_exports left_imports_lower right_imports_lower left_exports_lower right_exports_lower i past few (subst (λ (n : ℕ). IsPlace ts n) (sym at) there'.2.0),
+          (λ c f g frame fault. export_path l r a b is js es ts left_imports right_imports left_exports right_exports left_imports_lower right_imports_lower left_exports_lower right_exports_lower i past few of.0 of.1 of.2 are c f g frame (of.4 c g (rw h.1 at fault))),
+          (λ fit. of.5 (export_needed l r a b is js es ts left_imports right_imports left_exports right_exports left_imports_lower right_imports_lower left_exports_lower right_exports_lower i past few of.0 of.1 of.2 are fit)),
         )
     world_turn (Err halt.Modules) h = elim h [ ]
     world_turn (Err halt.Memory) h = tt

@@ -102,7 +102,7 @@ module _ (c d : Collection) (es ts : Externs) (i : ℕ) (n : Text) (x y : ItemKi
 
 -- ---- of interfaces
 
-module _ (check : SubtypeCheck) (c d : Collection) (a b : Id) (es ts : Externs) (i : ℕ)
+module _ (c d : Collection) (a b : Id) (es ts : Externs) (i : ℕ)
     (left : (externs c (interface_key a)).exports ≡ items_of (item_tree c) es) (right : (externs d (interface_key b)).exports ≡ items_of (item_tree d) ts)
     (left_lower : keys_height c (named_keys item_keys es) < height c (interface_key a)) (right_lower : keys_height d (named_keys item_keys ts) < height d (interface_key b)) where
   pub interface_place : IsPlace ts i → HasPart c d (Interfaces a b) i
@@ -128,7 +128,7 @@ module _ (check : SubtypeCheck) (c d : Collection) (a b : Id) (es ts : Externs) 
     needed = λ fit. of.needed (interface_needed n x y are fit);
   }
 
-  pub interface_found : (p : Finding) → IsExternPart check c d es ts i p → IsEntriesPart check c d (Interfaces a b) i p
+  pub interface_found : (p : Finding) → IsExternPart c d es ts i p → IsEntriesPart c d (Interfaces a b) i p
   interface_found End h = λ fit k. composites (all_served (externs c (interface_key a)).exports (externs d (interface_key b)).exports (λ j below. fit j (let count = rw right at below in omega (arith, listed_count (item_tree d) ts, count, h)))) (λ n. not_asked)
   interface_found Same h = (interface_place h.0, rw (left, right) (served_here c d es ts i h.1.0 h.1.1 h.1.2 h.1.3 h.1.4))
   interface_found (Below q) h = (interface_place h.0, subst (λ (s : Bool). IsBelow c d (Interfaces a b) i (record { entries = q.entries; swapped = s })) (sym h.1) (interface_below h.2.0 h.2.1 h.2.2 q.entries h.2.3 h.2.4))
@@ -143,7 +143,7 @@ module _ (check : SubtypeCheck) (c d : Collection) (a b : Id) (es ts : Externs) 
 
 -- ---- of worlds
 
-module _ (check : SubtypeCheck) (c d : Collection) (a b : Id) (is js es ts : Externs)
+module _ (c d : Collection) (a b : Id) (is js es ts : Externs)
     (left_imports : (externs c (world_key a)).imports ≡ items_of (item_tree c) is) (right_imports : (externs d (world_key b)).imports ≡ items_of (item_tree d) js)
     (left_exports : (externs c (world_key a)).exports ≡ items_of (item_tree c) es) (right_exports : (externs d (world_key b)).exports ≡ items_of (item_tree d) ts)
     (left_imports_lower : keys_height c (named_keys item_keys is) < height c (world_key a)) (right_imports_lower : keys_height d (named_keys item_keys js) < height d (world_key b))
@@ -181,7 +181,7 @@ module _ (check : SubtypeCheck) (c d : Collection) (a b : Id) (is js es ts : Ext
       needed = λ fit. of.needed (import_needed n x y are fit);
     }
 
-    pub import_found : (p q : Finding) → AreSwapped p q → IsExternPart (turned check) d c js is i p → IsEntriesPart check c d (Worlds a b) i q
+    pub import_found : (p q : Finding) → AreSwapped p q → IsExternPart d c js is i p → IsEntriesPart c d (Worlds a b) i q
     import_found End q s h = absurd (omega (arith, within, h))
     import_found Same q s h = rw s (import_place h.0, import_here h.1.0 h.1.2 h.1.1 h.1.3 h.1.4)
     import_found (Below p) (Below q) s h = (import_place h.0, import_pair q.entries q.swapped (s.1 ∙ ap not h.1) (subst (λ (e : Entries). AreOfItems d c h.2.1 h.2.2 e) (sym s.0) h.2.4))
@@ -238,7 +238,7 @@ module _ (check : SubtypeCheck) (c d : Collection) (a b : Id) (is js es ts : Ext
         let here : (import_count c a + j) - import_count c a ≡ j = omega arith in
         subst (λ (l : ℕ). IsServedAt (externs c (world_key a)).exports (externs d (world_key b)).exports l) here ((fit (import_count c a + j) (omega arith)).1 (omega arith)))
 
-    pub export_found : (p : Finding) → IsExternPart check c d es ts (i - length is) p → IsEntriesPart check c d (Worlds a b) i p
+    pub export_found : (p : Finding) → IsExternPart c d es ts (i - length is) p → IsEntriesPart c d (Worlds a b) i p
     export_found End h = λ fit k. composites (exports_served h fit) (imports_served fit)
     export_found Same h = (export_place h.0, export_here h.1.0 h.1.1 h.1.2 h.1.3 h.1.4)
     export_found (Below q) h = (export_place h.0, subst (λ (s : Bool). IsBelow c d (Worlds a b) i (record { entries = q.entries; swapped = s })) (sym h.1) (export_below h.2.0 h.2.1 h.2.2 q.entries h.2.3 h.2.4))

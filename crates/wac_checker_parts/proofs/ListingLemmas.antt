@@ -164,7 +164,7 @@ turn_same l r w s t m n i ms here h = (h.0, λ all j b. elim (last_or_before j i
 module _ (l r : Collection) (w : Bool) (s t : Side) (m n i : ℕ) (v x : ValueType) (ms ns : List PairPart)
     (room : i + 1 < 2 ^ 64) (at : AreAt s t i (value_tree l v) (value_tree r x)) (left_below : keys_height l (value_keys v) < m) (right_below : keys_height r (value_keys x) < n) where
   member_here : (p : EntryPair) → p.swapped ≡ w → AreOf l r v x (entries_of l r p) → IsMemberOf l r w s t m n (record { pair = p; index = i })
-  member_here p e of = let found = part_of_values Covariant l r s t m n i v x room at left_below right_below (Below (record { entries = entries_of l r p; swapped = false })) (refl, of) in (found.0, e, found.2)
+  member_here p e of = let found = part_of_values l r s t m n i v x room at left_below right_below (Below (record { entries = entries_of l r p; swapped = false })) (refl, of) in (found.0, e, found.2)
 
   same_trees : (e : Entries) → AreOf l r v x e → EntriesFit l r e → value_tree l v ≡ value_tree r x
   same_trees (DefinedTypes a b) of fits = of.0 ∙ fits item ∙ sym of.1
@@ -215,8 +215,8 @@ module _ (l r : Collection) (w : Bool) (a b : Id) (e f : DefinedContent) (ms : L
   defined_parts : AreMembersOf l r w (value_side (content_tree (value_tree l) e)) (value_side (content_tree (value_tree r) f)) (keys_height l (defined_keys e) + 1) (keys_height r (defined_keys f) + 1) ms → ArePartsOf l r w (DefinedTypes a b) ms
   defined_parts h q c =
       let here = rw (← left_tree, ← right_tree) at (h q c) in
-      let lower = have_below Covariant l r (value_side (value_tree l (Defined a))) (value_side (value_tree r (Defined b))) (keys_height l (defined_keys e) + 1) (keys_height r (defined_keys f) + 1) (height l (defined_key a)) (height r (defined_key b)) q.index (omega arith) (omega arith) (entries_of l r q.pair) here.2 in
-      let part = entries_of_defined Covariant l r a b q.index (Below (record { entries = entries_of l r q.pair; swapped = false })) (here.0, refl, lower) in
+      let lower = have_below l r (value_side (value_tree l (Defined a))) (value_side (value_tree r (Defined b))) (keys_height l (defined_keys e) + 1) (keys_height r (defined_keys f) + 1) (height l (defined_key a)) (height r (defined_key b)) q.index (omega arith) (omega arith) (entries_of l r q.pair) here.2 in
+      let part = entries_of_defined l r a b q.index (Below (record { entries = entries_of l r q.pair; swapped = false })) (here.0, refl, lower) in
       (false, here.1 ∙ flag_same w, part.0, part.1)
 
   pub defined_turn : (k : Turn) → IsSideTurn l r w (value_side (content_tree (value_tree l) e)) (value_side (content_tree (value_tree r) f)) (keys_height l (defined_keys e) + 1) (keys_height r (defined_keys f) + 1) ms k → IsTurn l r w (DefinedTypes a b) ms k
@@ -240,8 +240,8 @@ module _ (l r : Collection) (w : Bool) (a b : Id) (e f : FuncContent) (ms : List
   func_parts h q c =
       let below : (k : Kind) → IsIndex (item_side (leaf k (func (func_tree l a)))) q.index × HaveAt l r (item_side (leaf k (func (func_tree l a)))) (item_side (leaf k (func (func_tree r b)))) (height l (func_key a)) (height r (func_key b)) q.index (entries_of l r q.pair) = λ k.
       let here = subst₂ (λ (x y : FuncTree). IsMemberOf l r w (item_side (leaf k (func x))) (item_side (leaf k (func y))) (keys_height l (func_keys e) + 1) (keys_height r (func_keys f) + 1) q) (sym left_tree) (sym right_tree) (h k q c) in
-      (here.0, have_below Covariant l r (item_side (leaf k (func (func_tree l a)))) (item_side (leaf k (func (func_tree r b)))) (keys_height l (func_keys e) + 1) (keys_height r (func_keys f) + 1) (height l (func_key a)) (height r (func_key b)) q.index (omega arith) (omega arith) (entries_of l r q.pair) here.2) in
-      let part = entries_of_func Covariant l r a b q.index (Below (record { entries = entries_of l r q.pair; swapped = false })) (λ k. ((below k).0, refl, (below k).1)) in
+      (here.0, have_below l r (item_side (leaf k (func (func_tree l a)))) (item_side (leaf k (func (func_tree r b)))) (keys_height l (func_keys e) + 1) (keys_height r (func_keys f) + 1) (height l (func_key a)) (height r (func_key b)) q.index (omega arith) (omega arith) (entries_of l r q.pair) here.2) in
+      let part = entries_of_func l r a b q.index (Below (record { entries = entries_of l r q.pair; swapped = false })) (λ k. ((below k).0, refl, (below k).1)) in
       (false, (h item q c).1 ∙ flag_same w, part.0, part.1)
 
   one_func : EntriesFit l r (Funcs a b) → (k : Kind) → func_side k l e ≡ func_side k r f

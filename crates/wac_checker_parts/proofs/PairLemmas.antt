@@ -44,7 +44,7 @@ explains_needed P (Mismatch frames f) check a b h fits = λ p. explains_refutes 
 explains_needed P Memory check a b h fits = tt
 
 -- what is found of the parts of two defined types is what is found of the two entries
-module _ (check : SubtypeCheck) (c d : Collection) (a b : Id) (i : ℕ) where
+module _ (c d : Collection) (a b : Id) (i : ℕ) where
   -- the two are one only if their parts at a place are
   parts_needed : (x y : ValueTree) → AreAt (value_side (value_tree c (Defined a))) (value_side (value_tree d (Defined b))) i x y → EntriesFit c d (DefinedTypes a b) → x ≡ y
   parts_needed x y at fit = parts_one (value_side (value_tree c (Defined a))) (value_side (value_tree d (Defined b))) i x y at (ap value_side (fit item))
@@ -62,13 +62,13 @@ module _ (check : SubtypeCheck) (c d : Collection) (a b : Id) (i : ℕ) where
   below_of (Worlds x y) h = elim h [ ]
   below_of (Modules x y) h = elim h [ ]
 
-  pub entries_of_defined : (p : Finding) → IsValuePart check c d (value_side (value_tree c (Defined a))) (value_side (value_tree d (Defined b))) (height c (defined_key a)) (height d (defined_key b)) i p → IsEntriesPart check c d (DefinedTypes a b) i p
+  pub entries_of_defined : (p : Finding) → IsValuePart c d (value_side (value_tree c (Defined a))) (value_side (value_tree d (Defined b))) (height c (defined_key a)) (height d (defined_key b)) i p → IsEntriesPart c d (DefinedTypes a b) i p
   entries_of_defined End h = λ fit k. trees_one (value_tree c (Defined a)) (value_tree d (Defined b)) (h fit)
   entries_of_defined Same h = h
   entries_of_defined (Below q) h = (h.0, subst (λ (s : Bool). IsBelow c d (DefinedTypes a b) i (record { entries = q.entries; swapped = s })) (sym h.1) (below_of q.entries h.2))
 
 -- and so of two functions
-module _ (check : SubtypeCheck) (c d : Collection) (a b : Id) (i : ℕ) where
+module _ (c d : Collection) (a b : Id) (i : ℕ) where
   func_parts_needed : (x y : ValueTree) → AreAt (item_side (leaf item (func (func_tree c a)))) (item_side (leaf item (func (func_tree d b)))) i x y → EntriesFit c d (Funcs a b) → x ≡ y
   func_parts_needed x y at fit = parts_one (item_side (leaf item (func (func_tree c a)))) (item_side (leaf item (func (func_tree d b)))) i x y at (ap (λ (l : Leaf). item_side (leaf item l)) (leaf_fits (fit item)))
 
@@ -85,7 +85,7 @@ module _ (check : SubtypeCheck) (c d : Collection) (a b : Id) (i : ℕ) where
   below_of_func (Worlds x y) h = elim (h item) [ ]
   below_of_func (Modules x y) h = elim (h item) [ ]
 
-  pub entries_of_func : (p : Finding) → ((k : Kind) → IsValuePart check c d (item_side (leaf k (func (func_tree c a)))) (item_side (leaf k (func (func_tree d b)))) (height c (func_key a)) (height d (func_key b)) i p) → IsEntriesPart check c d (Funcs a b) i p
+  pub entries_of_func : (p : Finding) → ((k : Kind) → IsValuePart c d (item_side (leaf k (func (func_tree c a)))) (item_side (leaf k (func (func_tree d b)))) (height c (func_key a)) (height d (func_key b)) i p) → IsEntriesPart c d (Funcs a b) i p
   entries_of_func End h = λ fit k. equal_leaves k (func (func_tree c a)) (func (func_tree d b)) (leaf_one k (func (func_tree c a)) (func (func_tree d b)) (h k fit))
   entries_of_func Same h = h item
   entries_of_func (Below q) h = ((h item).0, subst (λ (s : Bool). IsBelow c d (Funcs a b) i (record { entries = q.entries; swapped = s })) (sym (h item).1) (below_of_func q.entries (λ k. (h k).2)))

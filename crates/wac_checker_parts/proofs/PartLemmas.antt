@@ -35,7 +35,7 @@ pub pair_of : {A B : Type 0} (p q : A × B) → Some p ≡ Some q → p ≡ q
 pair_of p q h = cc
 
 -- what was found of the types of two parts is what was found of the parts
-module _ (check : SubtypeCheck) (c d : Collection) (s t : Side) (m n i : ℕ) (v w : ValueType)
+module _ (c d : Collection) (s t : Side) (m n i : ℕ) (v w : ValueType)
     (room : i + 1 < 2 ^ 64) (at : AreAt s t i (value_tree c v) (value_tree d w)) (left_below : keys_height c (value_keys v) < m) (right_below : keys_height d (value_keys w) < n) where
   have_at : (e : Entries) → AreOf c d v w e → HaveAt c d s t m n i e
   have_at (DefinedTypes x y) h =
@@ -48,7 +48,7 @@ module _ (check : SubtypeCheck) (c d : Collection) (s t : Side) (m n i : ℕ) (v
   pub index : IsIndex s i
   index = (slice_get_within (side_parts s) i (at.0, Some (value_tree c v)) at.1, room)
 
-  pub part_of_values : (p : Finding) → AreValuesCompared check c d v w p → IsValuePart check c d s t m n i p
+  pub part_of_values : (p : Finding) → AreValuesCompared c d v w p → IsValuePart c d s t m n i p
   part_of_values End h = elim h [ ]
   part_of_values Same h = (index, at.1 ∙ ap (λ (u : ValueTree). Some (at.0, Some u)) h ∙ sym at.2)
   part_of_values (Below q) h = (index, h.0, have_at q.entries h.1)
@@ -205,20 +205,20 @@ errs_at c d None (Some y) v w = ([], refl, refl, λ check f is. rw is (record { 
 errs_at c d (Some x) None v w = ([], refl, refl, λ check f is. rw is (record { alike = tt; same_check = refl; left = refl; right = refl }))
 errs_at c d (Some x) (Some y) v w = ([], refl, refl, λ check f is. rw is (record { alike = tt; same_check = refl; left = refl; right = refl }))
 
-module _ (check : SubtypeCheck) (c d : Collection) (m n : ℕ) where
+module _ (c d : Collection) (m n : ℕ) where
   -- what was found of the `ok` parts is what was found of the results at their first place
-  pub part_of_oks : (o o' e e' : Option ValueType) (p : Finding) → keys_height c (flat_map value_keys (option_to_list o)) < m → keys_height d (flat_map value_keys (option_to_list o')) < n → AreOptionsCompared check c d o o' p → IsValuePart check c d (result_side c o e) (result_side d o' e') m n 0 p
+  pub part_of_oks : (o o' e e' : Option ValueType) (p : Finding) → keys_height c (flat_map value_keys (option_to_list o)) < m → keys_height d (flat_map value_keys (option_to_list o')) < n → AreOptionsCompared c d o o' p → IsValuePart c d (result_side c o e) (result_side d o' e') m n 0 p
   part_of_oks None None e e' p l r h = rw h ((omega (arith, ap length (result_parts c None e)), omega arith), refl)
   part_of_oks None (Some w) e e' p l r h = elim h [ ]
   part_of_oks (Some v) None e e' p l r h = elim h [ ]
-  part_of_oks (Some v) (Some w) e e' p l r h = part_of_values check c d (result_side c (Some v) e) (result_side d (Some w) e') m n 0 v w (omega arith) (oks_at c d v w e e') (rw (append_nil (value_keys v)) at l) (rw (append_nil (value_keys w)) at r) p h
+  part_of_oks (Some v) (Some w) e e' p l r h = part_of_values c d (result_side c (Some v) e) (result_side d (Some w) e') m n 0 v w (omega arith) (oks_at c d v w e e') (rw (append_nil (value_keys v)) at l) (rw (append_nil (value_keys w)) at r) p h
 
   -- and so of the `err` parts
-  pub part_of_errs : (o o' e e' : Option ValueType) (p : Finding) → keys_height c (flat_map value_keys (option_to_list e)) < m → keys_height d (flat_map value_keys (option_to_list e')) < n → AreOptionsCompared check c d e e' p → IsValuePart check c d (result_side c o e) (result_side d o' e') m n 1 p
+  pub part_of_errs : (o o' e e' : Option ValueType) (p : Finding) → keys_height c (flat_map value_keys (option_to_list e)) < m → keys_height d (flat_map value_keys (option_to_list e')) < n → AreOptionsCompared c d e e' p → IsValuePart c d (result_side c o e) (result_side d o' e') m n 1 p
   part_of_errs o o' None None p l r h = rw h ((omega (arith, ap length (result_parts c o None)), omega arith), ap (λ (ps : List (Text × Option ValueTree)). slice_get ps 1) (result_parts c o None) ∙ sym (ap (λ (ps : List (Text × Option ValueTree)). slice_get ps 1) (result_parts d o' None)))
   part_of_errs o o' None (Some w) p l r h = elim h [ ]
   part_of_errs o o' (Some v) None p l r h = elim h [ ]
-  part_of_errs o o' (Some v) (Some w) p l r h = part_of_values check c d (result_side c o (Some v)) (result_side d o' (Some w)) m n 1 v w (omega arith) (errs_at c d o o' v w) (rw (append_nil (value_keys v)) at l) (rw (append_nil (value_keys w)) at r) p h
+  part_of_errs o o' (Some v) (Some w) p l r h = part_of_values c d (result_side c o (Some v)) (result_side d o' (Some w)) m n 1 v w (omega arith) (errs_at c d o o' v w) (rw (append_nil (value_keys v)) at l) (rw (append_nil (value_keys w)) at r) p h
 
 pub ok_disagrees : (check : SubtypeCheck) (c d : Collection) (o o' e e' : Option ValueType) → is_some o ≢ is_some o' → by_check check (HoldsOfSides (fault.ResultPart result_of.Ok (expected_of check (is_some o) (is_some o')))) (result_side c o e) (result_side d o' e')
 ok_disagrees Covariant c d o o' e e' ne = (λ same. ne (sym same), refl)
@@ -239,7 +239,7 @@ results_same c d o e o' e' i l same =
 
 -- ---- of what two entries say
 
-module _ (check : SubtypeCheck) (c d : Collection) (s t : Side) (m n k l i : ℕ) (left : m ≤ k) (right : n ≤ l) where
+module _ (c d : Collection) (s t : Side) (m n k l i : ℕ) (left : m ≤ k) (right : n ≤ l) where
   pub have_below : (e : Entries) → HaveAt c d s t m n i e → HaveAt c d s t k l i e
   have_below (DefinedTypes x y) h = (h.0, h.1, omega (arith, h.2), omega (arith, h.3))
   have_below (Funcs x y) h = elim h [ ]

@@ -26,14 +26,13 @@ use Rattle.wac_mismatch.specs.Holds.{IsOfNames}
 use Rattle.wac_mismatch.specs.declared.fault.CountOf.{CountOf}
 use Rattle.wac_mismatch.specs.declared.fault.NameOf.{NameOf}
 use Rattle.wac_mismatch.specs.declared.check.SubtypeCheck.{SubtypeCheck}
-use Rattle.wac_mismatch.specs.declared.check.SubtypeCheck.TheVariants.{Covariant}
 use Rattle.wac_mismatch.specs.declared.fault.Fault.{Fault}
 use Rattle.wac_mismatch.specs.declared.frame.Frame.{Frame}
 use Rattle.wac_model.specs.Text.{Text}
 use Rattle.wac_checker_parts.specs.Items.{AreOtherItems, AreOtherKinds}
 use Rattle.wac_checker_parts.specs.Content.{composed_side, variant_side}
 use Rattle.wac_checker_parts.specs.Parts.{IsFrameAt, IsIndex, SameBefore}
-use Rattle.wac_checker_parts.specs.Pairs.{Entries, EntriesFit, EntriesPath, HasPart, HaveAt, IsBelow, IsExternPart, IsFitting, IsFrameOf, IsPlace, AreNamed, AreOf, AreOfItems, Below, Same, check_of, entries_of, flag_of, left_of, right_of}
+use Rattle.wac_checker_parts.specs.Pairs.{Entries, Modules, EntriesFit, EntriesPath, HasPart, HaveAt, IsBelow, IsExternPart, IsFitting, IsFrameOf, IsPlace, AreNamed, AreOf, AreOfItems, Below, Same, check_of, entries_of, flag_of, left_of, right_of}
 use Rattle.wac_checker_parts.specs.declared.parts.EntryPair.{EntryPair}
 use Rattle.wac_checker_parts.specs.declared.parts.PairPart.{PairPart}
 use Rattle.wac_checker_parts.specs.declared.parts.PairSort.{PairSort}
@@ -196,7 +195,7 @@ KindsByName = List (Text × ItemKind)
 
 -- a part is what is asked for at a place, which is told from a first one, and what is there of its name
 abbrev pub IsExternOf : Collection → Collection → Bool → ℕ → KindsByName → KindsByName → PairPart → Type 0
-IsExternOf l r w first es ts q = (j : ℕ) × (q.index ≡ first + j) × (q.pair.swapped ≡ w) × IsExternPart Covariant l r es ts j (Below (record { entries = entries_of l r q.pair; swapped = false }))
+IsExternOf l r w first es ts q = (j : ℕ) × (q.index ≡ first + j) × (q.pair.swapped ≡ w) × IsExternPart l r es ts j (Below (record { entries = entries_of l r q.pair; swapped = false }))
 
 -- more parts are such
 abbrev pub AreExternsOf : Collection → Collection → Bool → ℕ → KindsByName → KindsByName → List PairPart → List PairPart → Type 0
@@ -204,7 +203,7 @@ AreExternsOf l r w first es ts ms ns = ((q : PairPart) → Contains ms q → Con
 
 -- what is asked for before a place is there, and fits, where the pairs do
 abbrev pub AreServedTo : Collection → Collection → Bool → KindsByName → KindsByName → ℕ → List PairPart → Type 0
-AreServedTo l r w es ts i ns = AllFitBy l r w ns → (j : ℕ) → j < i → IsExternPart Covariant l r es ts j Same
+AreServedTo l r w es ts i ns = AllFitBy l r w ns → (j : ℕ) → j < i → IsExternPart l r es ts j Same
 
 -- these items have the name of what is asked for at a place, and differ themselves
 abbrev pub DifferThere : Collection → Collection → KindsByName → KindsByName → ℕ → Difference → Type 0
@@ -254,12 +253,17 @@ IsPartOf l r w e q = (b : Bool) × (q.pair.swapped ≡ flag_of w b) × HasPart l
 abbrev pub ArePartsOf : Collection → Collection → Bool → Entries → List PairPart → Type 0
 ArePartsOf l r w e ms = (q : PairPart) → Contains ms q → IsPartOf l r w e q
 
+-- the two are core modules
+abbrev pub AreModules : Entries → Type 0
+AreModules (Modules a b) = Unit {0}
+AreModules e = ⊥
+
 -- what is found of two entries whose parts are listed
 abbrev pub IsTurn : Collection → Collection → Bool → Entries → List PairPart → Turn → Type 0
 IsTurn l r w e ms (Ok u) = ArePartsOf l r w e ms × (AllFitBy l r w ms → EntriesFit l r e)
 IsTurn l r w e ms (Err (halt.Apart x)) = ArePartsOf l r w e ms × ((c : SubtypeCheck) (f : Fault) → IsFaultOf c x f → EntriesPath c l r e [] f) × (¬ (EntriesFit l r e))
 IsTurn l r w e ms (Err (halt.PartApart i b x)) = ArePartsOf l r w e ms × HasPart l r e i × ((c : SubtypeCheck) (f : Frame) (g : Fault) → IsFrameOf l r e i f → IsFaultOf (check_of c b) x g → EntriesPath c l r e (f ∷ []) g) × (¬ (EntriesFit l r e))
-IsTurn l r w e ms (Err halt.Modules) = ArePartsOf l r w e ms × (¬ (EntriesFit l r e))
+IsTurn l r w e ms (Err halt.Modules) = ArePartsOf l r w e ms × (¬ (EntriesFit l r e)) × AreModules e
 IsTurn l r w e ms (Err halt.Memory) = Unit {0}
 
 -- the same of a pair

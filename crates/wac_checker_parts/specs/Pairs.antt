@@ -105,10 +105,10 @@ AreOf c d v w (DefinedTypes x y) = (value_tree c v ≡ value_tree c (Defined x))
 AreOf c d v w e = ⊥
 
 -- two value types are one, or so far as two others are
-abbrev pub AreValuesCompared : SubtypeCheck → Collection → Collection → ValueType → ValueType → Finding → Type 0
-AreValuesCompared check c d v w End = ⊥
-AreValuesCompared check c d v w Same = value_tree c v ≡ value_tree d w
-AreValuesCompared check c d v w (Below q) = (q.swapped ≡ false) × AreOf c d v w q.entries
+abbrev pub AreValuesCompared : Collection → Collection → ValueType → ValueType → Finding → Type 0
+AreValuesCompared c d v w End = ⊥
+AreValuesCompared c d v w Same = value_tree c v ≡ value_tree d w
+AreValuesCompared c d v w (Below q) = (q.swapped ≡ false) × AreOf c d v w q.entries
 
 -- the parts at a place are those of two defined types, which are below these heights
 abbrev pub HaveAt : Collection → Collection → Side → Side → ℕ → ℕ → ℕ → Entries → Type 0
@@ -117,16 +117,16 @@ HaveAt c d s t m n i e = ⊥
 
 -- the parts at a place of two sides: there are no more, they are one, or so far as
 -- two others are
-abbrev pub IsValuePart : SubtypeCheck → Collection → Collection → Side → Side → ℕ → ℕ → ℕ → Finding → Type 0
-IsValuePart check c d s t m n i End = SameBefore s t i → s ≡ t
-IsValuePart check c d s t m n i Same = IsIndex s i × SamePart s t i
-IsValuePart check c d s t m n i (Below q) = IsIndex s i × (q.swapped ≡ false) × HaveAt c d s t m n i q.entries
+abbrev pub IsValuePart : Collection → Collection → Side → Side → ℕ → ℕ → ℕ → Finding → Type 0
+IsValuePart c d s t m n i End = SameBefore s t i → s ≡ t
+IsValuePart c d s t m n i Same = IsIndex s i × SamePart s t i
+IsValuePart c d s t m n i (Below q) = IsIndex s i × (q.swapped ≡ false) × HaveAt c d s t m n i q.entries
 
 -- the same of what may be there
-abbrev pub AreOptionsCompared : SubtypeCheck → Collection → Collection → Option ValueType → Option ValueType → Finding → Type 0
-AreOptionsCompared check c d None None p = p ≡ Same
-AreOptionsCompared check c d (Some v) (Some w) p = AreValuesCompared check c d v w p
-AreOptionsCompared check c d v w p = ⊥
+abbrev pub AreOptionsCompared : Collection → Collection → Option ValueType → Option ValueType → Finding → Type 0
+AreOptionsCompared c d None None p = p ≡ Same
+AreOptionsCompared c d (Some v) (Some w) p = AreValuesCompared c d v w p
+AreOptionsCompared c d v w p = ⊥
 
 -- two items are those of two entries, which are no higher: they fit where the entries do and only
 -- there, and a path from these is one from them
@@ -147,10 +147,10 @@ abbrev pub IsPlace : List (Text × ItemKind) → ℕ → Type 0
 IsPlace ts i = (i < length ts) × (i + 1 < 2 ^ 63)
 
 -- what is found of what is asked for at a place, and what is there of its name
-abbrev pub IsExternPart : SubtypeCheck → Collection → Collection → List (Text × ItemKind) → List (Text × ItemKind) → ℕ → Finding → Type 0
-IsExternPart check c d es ts i End = length ts ≤ i
-IsExternPart check c d es ts i Same = IsPlace ts i × ((n : Text) × (x : ItemKind) × (y : ItemKind) × AreNamed es ts i n x y × Fits (item_tree c x) (item_tree d y))
-IsExternPart check c d es ts i (Below q) = IsPlace ts i × (q.swapped ≡ false) × ((n : Text) × (x : ItemKind) × (y : ItemKind) × AreNamed es ts i n x y × AreOfItems c d x y q.entries)
+abbrev pub IsExternPart : Collection → Collection → List (Text × ItemKind) → List (Text × ItemKind) → ℕ → Finding → Type 0
+IsExternPart c d es ts i End = length ts ≤ i
+IsExternPart c d es ts i Same = IsPlace ts i × ((n : Text) × (x : ItemKind) × (y : ItemKind) × AreNamed es ts i n x y × Fits (item_tree c x) (item_tree d y))
+IsExternPart c d es ts i (Below q) = IsPlace ts i × (q.swapped ≡ false) × ((n : Text) × (x : ItemKind) × (y : ItemKind) × AreNamed es ts i n x y × AreOfItems c d x y q.entries)
 
 -- what is found of two sides is found of the two the other way round
 abbrev pub AreSwapped : Finding → Finding → Type 0
@@ -286,10 +286,10 @@ pub record IsBelowPair (c d : Collection) (p : Two) (i : ℕ) (q : Two) : Type 0
   pub needed : PairFits c d p → PairFits c d q
 
 -- what a comparison of the parts at a place of two entries says
-abbrev pub IsEntriesPart : SubtypeCheck → Collection → Collection → Entries → ℕ → Finding → Type 0
-IsEntriesPart check c d e i End = PartsFit c d e i → EntriesFit c d e
-IsEntriesPart check c d e i Same = HasPart c d e i × PartFits c d e i
-IsEntriesPart check c d e i (Below q) = HasPart c d e i × IsBelow c d e i q
+abbrev pub IsEntriesPart : Collection → Collection → Entries → ℕ → Finding → Type 0
+IsEntriesPart c d e i End = PartsFit c d e i → EntriesFit c d e
+IsEntriesPart c d e i Same = HasPart c d e i × PartFits c d e i
+IsEntriesPart c d e i (Below q) = HasPart c d e i × IsBelow c d e i q
 
 -- the pair that stands below one that is swapped or isn't, told from the two collections
 abbrev pub placed_pair : Bool → Two → Two

@@ -91,11 +91,7 @@ impl<'a> Sides<'a> {
     {
         if let (ValueType::Defined(x), ValueType::Defined(y)) = (a, b) {
             let (left, right) = (&self.left[*x], &self.right[*y]);
-            // most lists and options are plain
-            if are_plainly_one(left, right) {
-                return Ok(true);
-            }
-            // and most types are no aliases
+            // most types are no aliases
             if !is_alias(left) && !is_alias(right) {
                 return self.name_resolved(parts, index, a, b);
             }
@@ -404,26 +400,6 @@ fn is_alias(ty: &DefinedType) -> bool
 {
     match ty {
         DefinedType::Alias(_) => true,
-        _ => false,
-    }
-}
-
-// Whether two are lists or options of the same primitive type: a short test that most lists pass.
-fn are_plainly_one(a: &DefinedType, b: &DefinedType) -> bool
-    ensures { IsTrue result → (l r : Collection) → content_tree (value_tree l) (defined_content a.now) ≡ content_tree (value_tree r) (defined_content b.now) }
-{
-    match (a, b) {
-        (DefinedType::List(x), DefinedType::List(y)) => is_one_primitive(x, y),
-        (DefinedType::Option(x), DefinedType::Option(y)) => is_one_primitive(x, y),
-        _ => false,
-    }
-}
-
-fn is_one_primitive(a: &ValueType, b: &ValueType) -> bool
-    ensures { IsTrue result → (l r : Collection) → value_tree l a.now ≡ value_tree r b.now }
-{
-    match (a, b) {
-        (ValueType::Primitive(x), ValueType::Primitive(y)) => x == y,
         _ => false,
     }
 }

@@ -9,3 +9,9 @@ returns-then-not-branch-2-clause-answer c =
 
 pub returns-clause-only : goal.returns-clause-only
 returns-clause-only c = λ p m. elim (c.in_ok-add_pair.ensures.only p m) [ inl before ↦ inl before | inr e ↦ inr (e, refl) ]
+
+pub refused_at-requires-clause-path : goal.refused_at-requires-clause-path
+refused_at-requires-clause-path c = let told = rw c.if-not-branch-2.true at c.in_ok-pair_fits.ensures.answer in told.2
+
+pub refused_at-requires-clause-apart : goal.refused_at-requires-clause-apart
+refused_at-requires-clause-apart c = let told = rw c.if-not-branch-2.true at c.in_ok-pair_fits.ensures.answer in told.3

@@ -15,4 +15,5 @@ pub returns-in-Err-Mismatch : goal.returns-in-Err-Mismatch
 returns-in-Err-Mismatch c = (
   (λ q m. absurd (omega (arith, m.1))),
   (subst₂ (λ (a b : Id). ¬ (EntriesFit c.args.self.now.left.now c.args.self.now.right.now (Modules a b))) c.module_at.ensures c.module_at-2.ensures (refuted c.in-Err-Mismatch.field-0 (EntriesFit c.args.self.now.left.now c.args.self.now.right.now (Modules c.module_at.result c.module_at-2.result)) (entries_refuted Covariant c.args.self.now.left.now c.args.self.now.right.now (Modules c.module_at.result c.module_at-2.result) c.in-Err-Mismatch.field-0 (λ k. c.in-Err-Mismatch.ensures k (module_tree c.args.self.now.left.now c.module_at.result) (module_tree c.args.self.now.right.now c.module_at-2.result) c.index-a.ensures.tree c.index-b.ensures.tree)) (λ e. absurd (cc (e, c.in-Err-Mismatch.field-0-is))))),
+  tt,
 )

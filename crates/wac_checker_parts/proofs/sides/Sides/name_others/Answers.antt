@@ -1,10 +1,7 @@
-use Rattle.std.proofs.Common.{inl, refl, sym, ◌∙◌}
+use Rattle.std.proofs.Common.{refl}
 use Rattle.wac_component.specs.Content.{defined_content}
 use Rattle.wac_checker_parts.proofs.ListingLemmas.{resolved_here, values_as}
 use Rattle.wac_checker_parts.proofs.sides.Sides.name_others.Goals as goal
-
-pub returns-then-are_plainly_one-clause-listed : goal.returns-then-are_plainly_one-clause-listed
-returns-then-are_plainly_one-clause-listed c = rw (c.in-Defined-Defined.is-0, c.in-Defined-Defined.is-1) (inl (refl, c.index.ensures.tree ∙ c.are_plainly_one.ensures c.if-are_plainly_one.true c.args.self.now.left.now c.args.self.now.right.now ∙ sym c.index-in-Defined-Defined.ensures.tree))
 
 pub name_resolved-requires-clause-left_resolved : goal.name_resolved-requires-clause-left_resolved
 name_resolved-requires-clause-left_resolved c = rw c.in-Defined-Defined.is-0 (resolved_here c.args.self.now.left.now c.in-Defined-Defined.x (defined_content c.index.result.now) c.index.ensures.entry c.index.ensures.tree (c.if-not-is_alias.ensures.resolved refl) (c.if-not-is_alias.ensures.compound refl c.args.self.now.left.now))
