@@ -13,6 +13,8 @@ mod errors;
 #[cfg(test)]
 mod first_use;
 #[cfg(test)]
+mod growing;
+#[cfg(test)]
 mod limits;
 #[cfg(test)]
 mod merged_sharing;

@@ -4,7 +4,7 @@ use std::alloc::Global;
 use std::collections::HashSet;
 use std::test::Fail;
 use wac_script_entries::built;
-use wac_test_tools::{defined, function, interface};
+use wac_test_tools::{defined, function, interface, world};
 use wac_types::{
     DefinedType, ItemKind, PrimitiveType, SubtypeChecker, SubtypeError, Type, Types, ValueType,
 };
@@ -254,5 +254,127 @@ fn a_tuple_in_the_cache_is_not_compared_again(rt: HostRuntime) -> Result<(), Fai
     let a = ItemKind::Value(ValueType::Defined(defined(&given, 29)?));
     let b = ItemKind::Value(ValueType::Defined(defined(&wanted, 29)?));
     assert!(&rt; compared(rt.alloc(), &mut checker, &a, &given, &b, &wanted)? == 10);
+    Ok(())
+}
+
+// How many pairs a new checker compares where the defined type at an index of one collection fits
+// where that of another at its index is asked for.
+fn values_compared(
+    alloc: Global,
+    at: &Types,
+    left: usize,
+    bt: &Types,
+    right: usize,
+) -> Result<usize, Fail> {
+    let a = ItemKind::Value(ValueType::Defined(defined(at, left)?));
+    let b = ItemKind::Value(ValueType::Defined(defined(bt, right)?));
+    let mut cache = HashSet::new(alloc);
+    let mut checker = SubtypeChecker::new(&mut cache);
+    compared(alloc, &mut checker, &a, at, &b, bt)
+}
+
+#[test]
+fn a_list_and_an_option_of_bytes_are_pairs(rt: HostRuntime) -> Result<(), Fail> {
+    let lines = "def list u8\ndef option u8\ndef list s8\ndef option s8";
+    let (given, wanted) = (built(rt.alloc(), 1, lines)?, built(rt.alloc(), 2, lines)?);
+    assert!(&rt; values_compared(rt.alloc(), &given, 0, &wanted, 0)? == 1);
+    assert!(&rt; values_compared(rt.alloc(), &given, 1, &wanted, 1)? == 1);
+    // what is compared may differ
+    assert!(&rt; values_compared(rt.alloc(), &given, 0, &wanted, 2)? == 1);
+    assert!(&rt; values_compared(rt.alloc(), &given, 1, &wanted, 3)? == 1);
+    Ok(())
+}
+
+#[test]
+fn another_name_of_a_list_of_bytes_is_that_list(rt: HostRuntime) -> Result<(), Fail> {
+    let given = built(rt.alloc(), 1, "def list u8\ndef alias d0")?;
+    let wanted = built(rt.alloc(), 2, "def list u8")?;
+    assert!(&rt; values_compared(rt.alloc(), &given, 1, &wanted, 0)? == 1);
+    Ok(())
+}
+
+#[test]
+fn a_list_of_bytes_in_others_is_compared_once(rt: HostRuntime) -> Result<(), Fail> {
+    let lines = "def list u8\ndef list d0\ndef tuple d0 d0";
+    let (given, wanted) = (built(rt.alloc(), 1, lines)?, built(rt.alloc(), 2, lines)?);
+    assert!(&rt; values_compared(rt.alloc(), &given, 1, &wanted, 1)? == 2);
+    assert!(&rt; values_compared(rt.alloc(), &given, 2, &wanted, 2)? == 2);
+    Ok(())
+}
+
+#[test]
+fn a_list_of_bytes_in_the_cache_is_not_compared_again(rt: HostRuntime) -> Result<(), Fail> {
+    let lines = "def list u8\ndef list d0";
+    let (given, wanted) = (built(rt.alloc(), 1, lines)?, built(rt.alloc(), 2, lines)?);
+    let mut cache = HashSet::new(rt.alloc());
+    let mut checker = SubtypeChecker::new(&mut cache);
+    let a = ItemKind::Value(ValueType::Defined(defined(&given, 0)?));
+    let b = ItemKind::Value(ValueType::Defined(defined(&wanted, 0)?));
+    assert!(&rt; compared(rt.alloc(), &mut checker, &a, &given, &b, &wanted)? == 1);
+    let a = ItemKind::Value(ValueType::Defined(defined(&given, 1)?));
+    let b = ItemKind::Value(ValueType::Defined(defined(&wanted, 1)?));
+    assert!(&rt; compared(rt.alloc(), &mut checker, &a, &given, &b, &wanted)? == 1);
+    Ok(())
+}
+
+#[test]
+fn a_parameter_that_is_a_list_of_bytes_is_a_pair(rt: HostRuntime) -> Result<(), Fail> {
+    let lines = "def list u8\nfunc sync - a=d0\niface - e:f=F:fn0";
+    let (given, wanted) = (built(rt.alloc(), 1, lines)?, built(rt.alloc(), 2, lines)?);
+    let a = ItemKind::Instance(interface(&given, 0)?);
+    let b = ItemKind::Instance(interface(&wanted, 0)?);
+    let mut cache = HashSet::new(rt.alloc());
+    let mut checker = SubtypeChecker::new(&mut cache);
+    assert!(&rt; compared(rt.alloc(), &mut checker, &a, &given, &b, &wanted)? == 3);
+    Ok(())
+}
+
+// How many pairs a new checker compares where the component of the world at an index fits where that
+// of the same collection at another is asked for.
+fn components_compared(
+    alloc: Global,
+    types: &Types,
+    left: usize,
+    right: usize,
+) -> Result<usize, Fail> {
+    let a = ItemKind::Component(world(types, left)?);
+    let b = ItemKind::Component(world(types, right)?);
+    let mut cache = HashSet::new(alloc);
+    let mut checker = SubtypeChecker::new(&mut cache);
+    checker.is_subtype(alloc, a, types, b, types)?;
+    Ok(checker.opened())
+}
+
+// Two instances of one type, each its own entry, and components that import and export them.
+const CROSSED: &str = "func sync -
+iface - e:f=F:fn0
+iface - e:f=F:fn0
+world - m:m=I:i1 e:e=I:i0
+world - m:m=I:i0 e:e=I:i1
+world - m:m=I:i0 e:e=I:i0
+world - m:m=I:i1 e:e=I:i1";
+
+#[test]
+fn what_an_import_and_an_export_ask_alike_is_compared_once(rt: HostRuntime) -> Result<(), Fail> {
+    let types = built(rt.alloc(), 1, CROSSED)?;
+    // both ask whether the first instance fits where the second is asked for
+    assert!(&rt; components_compared(rt.alloc(), &types, 0, 1)? == 2);
+    // the export asks that, and the import the other way round
+    assert!(&rt; components_compared(rt.alloc(), &types, 2, 3)? == 3);
+    Ok(())
+}
+
+#[test]
+fn what_is_imported_of_another_collection_is_another_pair(rt: HostRuntime) -> Result<(), Fail> {
+    let (given, wanted) = (
+        built(rt.alloc(), 1, CROSSED)?,
+        built(rt.alloc(), 2, CROSSED)?,
+    );
+    let a = ItemKind::Component(world(&given, 2)?);
+    let b = ItemKind::Component(world(&wanted, 2)?);
+    let mut cache = HashSet::new(rt.alloc());
+    let mut checker = SubtypeChecker::new(&mut cache);
+    // the components, and the instances and their functions as exports and as imports
+    assert!(&rt; compared(rt.alloc(), &mut checker, &a, &given, &b, &wanted)? == 5);
     Ok(())
 }

@@ -1,0 +1,123 @@
+//! What an id names that an aggregator gave out, after calls that merge more into its import.
+
+ghost use Rattle.std.specs.Prelude.{◌≡◌, ◌≢◌, IfOk};
+ghost use Rattle.wac_types.specs.Aggregator.{state_in};
+ghost use Rattle.wac_types.specs.Class.{class_of};
+ghost use Rattle.wac_types.specs.Remembers.{RemembersTruly};
+
+use std::alloc::Global;
+use std::collections::HashSet;
+use std::test::Fail;
+use wac_script_entries::built;
+use wac_test_tools::interface;
+use wac_types::{InterfaceId, ItemKind, SubtypeChecker, Type, TypeAggregator, Types};
+
+// Four interfaces without identifiers, and four on one track, each of which exports a function.
+const SINGLES: &str = "func sync -
+iface - e:a=F:fn0
+iface - e:b=F:fn0
+iface - e:c=F:fn0
+iface - e:d=F:fn0
+iface x:y/svc@1.0.0 e:a=F:fn0
+iface x:y/svc@1.1.0 e:b=F:fn0
+iface x:y/svc@1.2.0 e:c=F:fn0
+iface x:y/svc@1.3.0 e:d=F:fn0";
+
+// What an aggregator makes of one more call: an instance of the interface at an index of the
+// collection that all its calls are of.
+fn and_one(
+    alloc: Global,
+    before: TypeAggregator,
+    name: &str,
+    types: &Types,
+    index: usize,
+) -> Result<TypeAggregator, Fail>
+    requires apart { types.now.number ≢ before.types.number }
+    requires remembered { RemembersTruly class_of types.now (state_in before) }
+    ensures number { IfOk result (λ a. a.types.number ≡ before.types.number) }
+    ensures remembered { IfOk result (λ a. RemembersTruly class_of types.now (state_in a)) }
+{
+    let kind = ItemKind::Instance(interface(types, index)?);
+    let mut cache = HashSet::new(alloc);
+    let mut checker = SubtypeChecker::new(&mut cache);
+    match before.aggregate(name, types, kind, &mut checker) {
+        Ok(after) => Ok(after),
+        Err(refusal) => Err(Fail::from(refusal)),
+    }
+}
+
+// What an aggregator makes of three calls, from this index on, under one name.
+fn and_three(
+    alloc: Global,
+    before: TypeAggregator,
+    name: &str,
+    types: &Types,
+    first: usize,
+) -> Result<TypeAggregator, Fail>
+    requires apart { types.now.number ≢ before.types.number }
+    requires remembered { RemembersTruly class_of types.now (state_in before) }
+    ensures number { IfOk result (λ a. a.types.number ≡ before.types.number) }
+    ensures remembered { IfOk result (λ a. RemembersTruly class_of types.now (state_in a)) }
+{
+    let merged = and_one(alloc, before, name, types, first)?;
+    let merged = and_one(alloc, merged, name, types, first.saturating_add(1))?;
+    and_one(alloc, merged, name, types, first.saturating_add(2))
+}
+
+// The interface of the only import.
+fn imported(merged: &TypeAggregator) -> Result<InterfaceId, Fail> {
+    let mut imports = merged.imports();
+    let (Some((_, ItemKind::Instance(id))), None) = (imports.next(), imports.next()) else {
+        return Err(Fail::new("there isn't one import, of an instance"));
+    };
+    Ok(id)
+}
+
+// Whether an interface of an aggregator exports functions of these names, in this order.
+fn exports_functions(merged: &TypeAggregator, id: InterfaceId, names: &[&str]) -> bool {
+    let types = merged.types();
+    if !types.contains(Type::Interface(id)) || types[id].exports.len() != names.len() {
+        return false;
+    }
+    let mut at = 0usize;
+    for (name, kind) in &types[id].exports {
+        if at >= names.len() || name.as_str() != names[at] || !matches!(kind, ItemKind::Func(_)) {
+            return false;
+        }
+        at = at.saturating_add(1);
+    }
+    true
+}
+
+#[test]
+fn an_import_without_identifier_becomes_another_entry(rt: HostRuntime) -> Result<(), Fail> {
+    let types = built(rt.alloc(), 1, SINGLES)?;
+    if types.number() == 9 {
+        return Err(Fail::new("two collections have one number"));
+    }
+    let none = TypeAggregator::new(rt.alloc(), 9);
+    let three = and_three(rt.alloc(), none, "svc", &types, 0)?;
+    let given = imported(&three)?;
+    assert!(&rt; exports_functions(&three, given, &["a", "b", "c"]));
+    let four = and_one(rt.alloc(), three, "svc", &types, 3)?;
+    assert!(&rt; exports_functions(&four, given, &["a", "b", "c"]));
+    assert!(&rt; imported(&four)? != given);
+    assert!(&rt; exports_functions(&four, imported(&four)?, &["a", "b", "c", "d"]));
+    Ok(())
+}
+
+#[test]
+fn an_import_with_an_identifier_grows_in_place(rt: HostRuntime) -> Result<(), Fail> {
+    let types = built(rt.alloc(), 1, SINGLES)?;
+    if types.number() == 9 {
+        return Err(Fail::new("two collections have one number"));
+    }
+    let none = TypeAggregator::new(rt.alloc(), 9);
+    let three = and_three(rt.alloc(), none, "x:y/svc@1.0.0", &types, 4)?;
+    let given = imported(&three)?;
+    assert!(&rt; exports_functions(&three, given, &["a", "b", "c"]));
+    let four = and_one(rt.alloc(), three, "x:y/svc@1.0.0", &types, 7)?;
+    assert!(&rt; imported(&four)? == given);
+    assert!(&rt; exports_functions(&four, given, &["a", "b", "c", "d"]));
+    Ok(())
+}
