@@ -10,7 +10,7 @@ use std::collections::HashSet;
 use std::test::Fail;
 use wac_script_entries::built;
 use wac_test_tools::interface;
-use wac_types::{InterfaceId, ItemKind, SubtypeChecker, Type, TypeAggregator, Types};
+use wac_types::{InterfaceId, ItemKind, SubtypeChecker, SubtypeError, Type, TypeAggregator, Types};
 
 // Four interfaces without identifiers, and four on one track, each of which exports a function.
 const SINGLES: &str = "func sync -
@@ -26,11 +26,11 @@ iface x:y/svc@1.3.0 e:d=F:fn0";
 // What an aggregator makes of one more call: an instance of the interface at an index of the
 // collection that all its calls are of.
 fn and_one(
-    alloc: Global,
     before: TypeAggregator,
     name: &str,
     types: &Types,
     index: usize,
+    checker: &mut SubtypeChecker<'_>,
 ) -> Result<TypeAggregator, Fail>
     requires apart { types.now.number ≢ before.types.number }
     requires remembered { RemembersTruly class_of types.now (state_in before) }
@@ -38,9 +38,7 @@ fn and_one(
     ensures remembered { IfOk result (λ a. RemembersTruly class_of types.now (state_in a)) }
 {
     let kind = ItemKind::Instance(interface(types, index)?);
-    let mut cache = HashSet::new(alloc);
-    let mut checker = SubtypeChecker::new(&mut cache);
-    match before.aggregate(name, types, kind, &mut checker) {
+    match before.aggregate(name, types, kind, checker) {
         Ok(after) => Ok(after),
         Err(refusal) => Err(Fail::from(refusal)),
     }
@@ -48,20 +46,20 @@ fn and_one(
 
 // What an aggregator makes of three calls, from this index on, under one name.
 fn and_three(
-    alloc: Global,
     before: TypeAggregator,
     name: &str,
     types: &Types,
     first: usize,
+    checker: &mut SubtypeChecker<'_>,
 ) -> Result<TypeAggregator, Fail>
     requires apart { types.now.number ≢ before.types.number }
     requires remembered { RemembersTruly class_of types.now (state_in before) }
     ensures number { IfOk result (λ a. a.types.number ≡ before.types.number) }
     ensures remembered { IfOk result (λ a. RemembersTruly class_of types.now (state_in a)) }
 {
-    let merged = and_one(alloc, before, name, types, first)?;
-    let merged = and_one(alloc, merged, name, types, first.saturating_add(1))?;
-    and_one(alloc, merged, name, types, first.saturating_add(2))
+    let merged = and_one(before, name, types, first, checker)?;
+    let merged = and_one(merged, name, types, first.saturating_add(1), checker)?;
+    and_one(merged, name, types, first.saturating_add(2), checker)
 }
 
 // The interface of the only import.
@@ -95,11 +93,13 @@ fn an_import_without_identifier_becomes_another_entry(rt: HostRuntime) -> Result
     if types.number() == 9 {
         return Err(Fail::new("two collections have one number"));
     }
+    let mut cache = HashSet::new(rt.alloc());
+    let mut checker = SubtypeChecker::new(&mut cache);
     let none = TypeAggregator::new(rt.alloc(), 9);
-    let three = and_three(rt.alloc(), none, "svc", &types, 0)?;
+    let three = and_three(none, "svc", &types, 0, &mut checker)?;
     let given = imported(&three)?;
     assert!(&rt; exports_functions(&three, given, &["a", "b", "c"]));
-    let four = and_one(rt.alloc(), three, "svc", &types, 3)?;
+    let four = and_one(three, "svc", &types, 3, &mut checker)?;
     assert!(&rt; exports_functions(&four, given, &["a", "b", "c"]));
     assert!(&rt; imported(&four)? != given);
     assert!(&rt; exports_functions(&four, imported(&four)?, &["a", "b", "c", "d"]));
@@ -112,12 +112,60 @@ fn an_import_with_an_identifier_grows_in_place(rt: HostRuntime) -> Result<(), Fa
     if types.number() == 9 {
         return Err(Fail::new("two collections have one number"));
     }
+    let mut cache = HashSet::new(rt.alloc());
+    let mut checker = SubtypeChecker::new(&mut cache);
     let none = TypeAggregator::new(rt.alloc(), 9);
-    let three = and_three(rt.alloc(), none, "x:y/svc@1.0.0", &types, 4)?;
+    let three = and_three(none, "x:y/svc@1.0.0", &types, 4, &mut checker)?;
     let given = imported(&three)?;
     assert!(&rt; exports_functions(&three, given, &["a", "b", "c"]));
-    let four = and_one(rt.alloc(), three, "x:y/svc@1.0.0", &types, 7)?;
+    let four = and_one(three, "x:y/svc@1.0.0", &types, 7, &mut checker)?;
     assert!(&rt; imported(&four)? == given);
     assert!(&rt; exports_functions(&four, given, &["a", "b", "c", "d"]));
+    Ok(())
+}
+
+// Whether an instance of the interface at an index fits where one of an aggregator is asked for.
+fn fits_import(
+    alloc: Global,
+    types: &Types,
+    index: usize,
+    merged: &TypeAggregator,
+    id: InterfaceId,
+    checker: &mut SubtypeChecker<'_>,
+) -> Result<bool, Fail> {
+    let own = merged.types();
+    let (a, b) = (
+        ItemKind::Instance(interface(types, index)?),
+        ItemKind::Instance(id),
+    );
+    if own.number() == types.number() || !own.contains_item(b) {
+        return Err(Fail::new("a checker can't be asked about the two"));
+    }
+    match checker.is_subtype(alloc, a, types, b, own) {
+        Ok(()) => Ok(true),
+        Err(SubtypeError::Memory) => Err(SubtypeError::Memory.into()),
+        Err(_) => Ok(false),
+    }
+}
+
+#[test]
+fn a_pair_of_an_import_that_grew_is_compared_again(rt: HostRuntime) -> Result<(), Fail> {
+    let types = built(rt.alloc(), 1, SINGLES)?;
+    if types.number() == 9 {
+        return Err(Fail::new("two collections have one number"));
+    }
+    let mut cache = HashSet::new(rt.alloc());
+    let mut checker = SubtypeChecker::new(&mut cache);
+    let none = TypeAggregator::new(rt.alloc(), 9);
+    let one = and_one(none, "x:y/svc@1.0.0", &types, 4, &mut checker)?;
+    let given = imported(&one)?;
+    assert!(&rt; fits_import(rt.alloc(), &types, 4, &one, given, &mut checker)?);
+    assert!(&rt; checker.opened() == 2);
+    // the pair is in the cache
+    assert!(&rt; fits_import(rt.alloc(), &types, 4, &one, given, &mut checker)?);
+    assert!(&rt; checker.opened() == 0);
+    let two = and_one(one, "x:y/svc@1.0.0", &types, 5, &mut checker)?;
+    assert!(&rt; imported(&two)? == given);
+    assert!(&rt; !fits_import(rt.alloc(), &types, 4, &two, given, &mut checker)?);
     Ok(())
 }
