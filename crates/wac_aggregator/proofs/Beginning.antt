@@ -12,8 +12,7 @@ use Rattle.wac_component.proofs.Among.{each_among}
 use Rattle.wac_names.specs.Class.{Class}
 use Rattle.wac_aggregator_narrowing.specs.Apart.{IsKeyApart, IsGood}
 use Rattle.wac_aggregator_narrowing.specs.Identified.{IsCovered}
-use Rattle.wac_aggregator_narrowing.specs.Laws.{IsNewState}
-use Rattle.wac_aggregator_narrowing.specs.State.{IsStateKept}
+use Rattle.wac_aggregator_narrowing.specs.State.{IsStateKept, IsNewState}
 use Rattle.wac_aggregator_reasons.proofs.Starting.{new_held}
 use Rattle.wac_aggregator_promises.specs.Holding.{HoldsReached}
 use Rattle.wac_aggregator_memo.specs.Memo.{memo_of}

@@ -6,7 +6,8 @@ use Rattle.wac_component.specs.Id.{Id}
 use Rattle.wac_component.specs.Key.{Key, Sort, defined_sort, resource_sort, func_sort, interface_sort, world_sort, module_sort, defined_key, resource_key, func_key, interface_key, world_key, module_key}
 use Rattle.wac_aggregator_memo.specs.Memo.{Remembered, own_of}
 use Rattle.wac_names.specs.Class.{Class}
-use Rattle.wac_aggregator_promises.specs.Aggregated.{Aggregated}
+use Rattle.wac_aggregator_promises.specs.Aggregated.{Aggregated, track_imports}
+use Rattle.wac_aggregator_promises.specs.Answer.{ImportTrees}
 use Rattle.wac_aggregator_narrowing.specs.State.{State}
 use Rattle.wac_aggregator_memo.specs.declared.memo.Memo.{Memo}
 use Rattle.wac_aggregator_imports.specs.Import.{ImportsContent, canonical, import_at}
@@ -35,6 +36,10 @@ pub record AggregatorContent : Type 0 where
 -- its collection, its imports, and where names lead
 abbrev pub shown : AggregatorContent → Aggregated
 shown a = record { types = a.types; imports = listed_imports a.imports; canonical = canonical a.imports }
+
+-- the tree of the import on each track
+abbrev pub track_trees : AggregatorContent → ImportTrees
+track_trees a = track_imports (shown a)
 
 -- what stands for an id of a sort, if anything does
 abbrev pub own_in : Pairs → Sort → Id → Option Key

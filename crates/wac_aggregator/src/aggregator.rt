@@ -1,13 +1,13 @@
 //! The aggregator.
 
-ghost use Rattle.std.specs.Prelude.{◌≡◌, ◌≢◌, [], Contains, IfErr, IfOk, IsSome, MatchResult};
+ghost use Rattle.std.specs.Prelude.{◌≡◌, ◌≢◌, [], Contains, IfErr, IfOk, IsSome};
 ghost use Rattle.wac_model.specs.Text.{Text};
 ghost use Rattle.wac_component.specs.Collection.{Collection};
 ghost use Rattle.wac_component.specs.Key.{AllStand, item_keys};
 ghost use Rattle.wac_component.specs.declared.items.ItemKind.{ItemKind};
 ghost use Rattle.wac_checker.specs.Cache.{without_number};
 ghost use Rattle.wac_checker.specs.Checker.{direction, depth, remembered};
-ghost use Rattle.wac_aggregator_promises.specs.Aggregated.{IsByTrack, IsCallStep, track_imports};
+ghost use Rattle.wac_aggregator_promises.specs.Aggregated.{IsByTrack, IsCallStep};
 ghost use Rattle.wac_aggregator_promises.specs.Attempt.{single_attempt};
 ghost use Rattle.wac_aggregator_promises.specs.Due.{OwnsOn};
 ghost use Rattle.wac_aggregator_promises.specs.Holding.{HoldsNoOthers};
@@ -21,7 +21,8 @@ ghost use Rattle.wac_aggregator_narrowing.specs.Remembers.{RemembersTruly};
 ghost use Rattle.wac_aggregator_narrowing.specs.State.{IsOneWith};
 ghost use Rattle.wac_aggregator_taking.specs.Refused.{HasReason};
 ghost use Rattle.wac_aggregator_taking.specs.Takes.{OwnersImported};
-ghost use Rattle.wac_aggregator.specs.Content.{shown, state_in};
+ghost use Rattle.wac_aggregator.specs.Content.{shown, state_in, track_trees};
+ghost use Rattle.wac_aggregator.specs.HandedIn.{call_of};
 
 use super::all::Call;
 use super::importing::advance;
@@ -125,13 +126,14 @@ impl TypeAggregator {
         requires source { AllStand types.now (item_keys kind) }
         requires apart { types.now.number ≢ self.types.number }
         requires remembered { RemembersTruly class_of types.now (state_in self) }
-        ensures step { IfOk result (λ a. IsCallStep (shown self) (shown a) (record { name = name.now; types = types.now; kind = kind })) }
-        ensures plain { MatchResult result (λ a. IsPlain types.now kind → IsPlainStep (track_imports (shown self)) (track_imports (shown a)) (record { name = name.now; types = types.now; kind = kind })) (λ e. IsPlain types.now kind → e ≢ Memory → IsPlainRefusal (track_imports (shown self)) (record { name = name.now; types = types.now; kind = kind })) }
-        ensures reason { IfErr result (HasReason (single_attempt self.types (track_imports (shown self) (class_of name.now)) (record { name = name.now; types = types.now; kind = kind }))) }
+        ensures step { IfOk result (λ a. IsCallStep (shown self) (shown a) (call_of name.now types.now kind)) }
+        ensures plain { IfOk result (λ a. IsPlain types.now kind → IsPlainStep (track_trees self) (track_trees a) (call_of name.now types.now kind)) }
+        ensures plain_refusal { IfErr result (λ e. IsPlain types.now kind → e ≢ Memory → IsPlainRefusal (track_trees self) (call_of name.now types.now kind)) }
+        ensures reason { IfErr result (HasReason (single_attempt self.types (track_trees self (class_of name.now)) (call_of name.now types.now kind))) }
         ensures by_track { IfOk result (λ a. IsByTrack (shown a)) }
-        ensures imports { IfOk result (λ a. ImportsAfter (shown self) (shown a) (record { name = name.now; types = types.now; kind = kind })) }
-        ensures held { IfOk result (λ a. HoldsNoOthers self.types a.types (record { name = name.now; types = types.now; kind = kind })) }
-        ensures due { IfOk result (λ a. OwnersImported types.now (state_in self) → (t : Class) → OwnsOn (record { name = name.now; types = types.now; kind = kind }) t → IsSome (track_names (shown a) t)) }
+        ensures imports { IfOk result (λ a. ImportsAfter (shown self) (shown a) (call_of name.now types.now kind)) }
+        ensures held { IfOk result (λ a. HoldsNoOthers self.types a.types (call_of name.now types.now kind)) }
+        ensures due { IfOk result (λ a. OwnersImported types.now (state_in self) → (t : Class) → OwnsOn (call_of name.now types.now kind) t → IsSome (track_names (shown a) t)) }
         ensures owners { IfOk result (λ a. (g : Collection) → IsOneWith types.now g → OwnersImported g (state_in self) → OwnersImported g (state_in a)) }
         ensures truly { IfOk result (λ a. (g : Collection) → IsOneWith types.now g → RemembersTruly class_of g (state_in self) → RemembersTruly class_of g (state_in a)) }
         ensures number { IfOk result (λ a. a.types.number ≡ self.types.number) }

@@ -5,7 +5,7 @@ ghost use Rattle.wac_component.specs.Collection.{Collection};
 ghost use Rattle.wac_component.specs.Key.{AllStand, item_keys};
 ghost use Rattle.wac_checker.specs.Cache.{without_number};
 ghost use Rattle.wac_checker.specs.Checker.{direction, depth, remembered};
-ghost use Rattle.wac_aggregator_promises.specs.Aggregated.{IsAggregated, IsByTrack, track_imports};
+ghost use Rattle.wac_aggregator_promises.specs.Aggregated.{IsAggregated, IsByTrack};
 ghost use Rattle.wac_aggregator_promises.specs.Answer.{accepted, refused, IsPlainAnswer, IsWitAnswer};
 ghost use Rattle.wac_aggregator_promises.specs.PlainList.{IsPlainList};
 ghost use Rattle.wac_aggregator_promises.specs.WitList.{IsWitList};
@@ -16,7 +16,7 @@ ghost use Rattle.wac_aggregator_taking.specs.Takes.{OwnersImported};
 ghost use Rattle.wac_aggregator_promises.specs.Call as listed;
 ghost use Rattle.wac_aggregator.specs.HandedIn.{handed_in, IsOneOf};
 ghost use Rattle.wac_aggregator.specs.After.{HasReasonAfter};
-ghost use Rattle.wac_aggregator.specs.Content.{shown, state_in};
+ghost use Rattle.wac_aggregator.specs.Content.{shown, state_in, track_trees};
 
 use super::aggregator::TypeAggregator;
 use super::importing::advance;
@@ -75,8 +75,8 @@ pub fn aggregate_all(
     requires one { (c d : listed.Call) → Contains (handed_in calls.now) c → Contains (handed_in calls.now) d → c.types.number ≡ d.types.number → c.types ≡ d.types }
     requires apart { (c : listed.Call) → Contains (handed_in calls.now) c → c.types.number ≢ number }
     ensures aggregated { IfOk result (λ a. IsAggregated (handed_in calls.now) (shown a)) }
-    ensures plain { IsPlainList (handed_in calls.now) → MatchResult result (λ a. IsPlainAnswer (handed_in calls.now) (accepted (track_imports (shown a)))) (λ e. e.error ≢ Memory → IsPlainAnswer (handed_in calls.now) (refused e.at)) }
-    ensures wit { IsWitList (handed_in calls.now) → MatchResult result (λ a. IsWitAnswer (handed_in calls.now) (accepted (track_imports (shown a)))) (λ e. e.error ≢ Memory → IsWitAnswer (handed_in calls.now) (refused e.at)) }
+    ensures plain { let cs = handed_in calls.now in IsPlainList cs → MatchResult result (λ a. IsPlainAnswer cs (accepted (track_trees a))) (λ e. e.error ≢ Memory → IsPlainAnswer cs (refused e.at)) }
+    ensures wit { let cs = handed_in calls.now in IsWitList cs → MatchResult result (λ a. IsWitAnswer cs (accepted (track_trees a))) (λ e. e.error ≢ Memory → IsWitAnswer cs (refused e.at)) }
     ensures reason { IfErr result (λ e. (c : listed.Call) → slice_get (handed_in calls.now) e.at ≡ Some c → HasReasonAfter number (take e.at (handed_in calls.now)) c e.error) }
     ensures by_track { IfOk result (λ a. IsByTrack (shown a)) }
     ensures owners { IfOk result (λ a. (g : Collection) → IsOneOf (handed_in calls.now) g → OwnersImported g (state_in a)) }

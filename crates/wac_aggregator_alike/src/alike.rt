@@ -1,19 +1,15 @@
 //! Whether types of two collections are alike.
 
-ghost use Rattle.std.specs.Prelude.{◌≡◌, ◌↔◌, IfOk, IsTrue};
-ghost use Rattle.wac_model.specs.Order.{Fits};
-ghost use Rattle.wac_component.specs.Key.{Stands, AllStand, item_keys, resource_key, defined_key};
-ghost use Rattle.wac_component.specs.Tree.{item_tree};
+ghost use Rattle.std.specs.Prelude.{◌≡◌, IfOk};
+ghost use Rattle.wac_component.specs.Key.{Stands, resource_key, defined_key};
 ghost use Rattle.wac_aggregator_alike.specs.Alike.{AreOfOneTree, IsAlikeAnswer};
 ghost use Rattle.wac_component.specs.Naming.{key_of};
 
 use super::owners::{owned_among, owner_tracks};
 use super::walk::resources_of;
 use std::alloc::{AllocError, Global};
-use std::collections::HashSet;
-use wac_checker::SubtypeChecker;
+use wac_checker::Compared;
 use wac_component::{DefinedTypeId, EntryId, ItemKind, ResourceId, Type, Types, ValueType};
-use wac_mismatch::SubtypeError;
 
 /// Whether a resource of a collection and a resource of another one are alike: their names at the
 /// roots of their aliases are equal, each owner of a resource that either is made of has an
@@ -35,7 +31,7 @@ pub fn alike_resources(
 {
     let ours = ItemKind::Type(Type::Resource(a));
     let theirs = ItemKind::Type(Type::Resource(b));
-    if !fits(alloc, own, ours, types, theirs)? {
+    if !Compared::new(alloc).fits(alloc, ours, own, theirs, types)? {
         return Ok(None);
     }
     alike_owners(
@@ -66,32 +62,10 @@ pub fn alike_values(
 {
     let ours = ItemKind::Type(Type::Value(ValueType::Defined(a)));
     let theirs = ItemKind::Type(Type::Value(ValueType::Defined(b)));
-    if !fits(alloc, own, ours, types, theirs)? {
+    if !Compared::new(alloc).fits(alloc, ours, own, theirs, types)? {
         return Ok(None);
     }
     alike_owners(alloc, own, EntryId::Defined(a), types, EntryId::Defined(b))
-}
-
-// Whether an item of a collection fits where an item of another one is asked for.
-fn fits(
-    alloc: Global,
-    own: &Types,
-    a: ItemKind,
-    types: &Types,
-    b: ItemKind,
-) -> Result<bool, AllocError>
-    requires ours { AllStand own.now (item_keys a) }
-    requires theirs { AllStand types.now (item_keys b) }
-    requires one { own.now.number ≡ types.now.number → own.now ≡ types.now }
-    ensures { IfOk result (λ r. IsTrue r ↔ Fits (item_tree own.now a) (item_tree types.now b)) }
-{
-    let mut pairs = HashSet::new(alloc);
-    let mut checker = SubtypeChecker::new(&mut pairs);
-    match checker.is_subtype(alloc, a, own, b, types) {
-        Ok(()) => Ok(true),
-        Err(SubtypeError::Memory) => Err(AllocError),
-        Err(_) => Ok(false),
-    }
 }
 
 // Whether types of two collections that have equal trees are alike.

@@ -8,3 +8,4 @@ mod parts;
 mod walk;
 
 pub use alike::{alike_resources, alike_values};
+pub use owners::owner_of;

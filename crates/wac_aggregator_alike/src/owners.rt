@@ -12,8 +12,8 @@ use std::alloc::{AllocError, Global};
 use wac_component::{InterfaceId, ResourceId, Types};
 use wac_names::NameClass;
 
-// The owner of a resource, if its entry names one.
-fn owner_of(types: &Types, id: ResourceId) -> Option<InterfaceId>
+/// The owner of a resource, if its entry names one.
+pub fn owner_of(types: &Types, id: ResourceId) -> Option<InterfaceId>
     requires { Stands types.now (resource_key id) }
     ensures owner { result ≡ owner_at types.now id }
     ensures stands { IfSome result (λ o. Stands types.now (interface_key o)) }

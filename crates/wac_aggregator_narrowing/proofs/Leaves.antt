@@ -5,15 +5,12 @@ use Rattle.wac_model.specs.ItemTree.{item, core_module, resource, func, value}
 use Rattle.wac_model.specs.CoreTree.{ModuleTree}
 use Rattle.wac_model.specs.Text.{Text}
 use Rattle.wac_model.specs.ValueTree.{ValueTree, FuncTree}
-use Rattle.wac_model.proofs.ItemOrder.{leaf_fits}
 use Rattle.wac_component.specs.Id.{Id}
 use Rattle.wac_component.specs.Collection.{Collection}
 use Rattle.wac_component.specs.Key.{Key, module_entry, entry_keys, optional_keys, next, module_key, Stands}
-use Rattle.wac_component.specs.Laws.{KeepsLeaves}
 use Rattle.wac_component.specs.Reach.{IsAmong, Reaches, stay, step}
-use Rattle.wac_component.specs.Tree.{root_name, value_tree, func_tree, module_tree}
-use Rattle.wac_component.specs.declared.items.ItemKind.TheVariants.{«Type» as OfType, Func, Module, Value}
-use Rattle.wac_component.specs.declared.items.Type.TheVariants.{Resource as TypeResource}
+use Rattle.wac_component.specs.Tree.{module_tree}
+use Rattle.wac_component.specs.declared.items.ItemKind.TheVariants.{Module}
 use Rattle.wac_component.specs.Entries.{entry_identifier}
 use Rattle.wac_component.proofs.Lists.{slice_get-map}
 use Rattle.wac_aggregator_narrowing.specs.Apart.{IsKeyApart, IsGood}
@@ -27,13 +24,6 @@ value_same a b q = cc
 
 func_same : (a b : FuncTree) → func a ≡ func b → b ≡ a
 func_same a b q = cc
-
-pub leaves_stay : (c d : Collection) (ss ts : List Key) → Narrows c ss d ts → KeepsLeaves c d
-leaves_stay c d ss ts n = record {
-  names = λ r st. resource_same (root_name d r) (root_name c r) (leaf_fits (n.fits (OfType (TypeResource r)) (st, tt)));
-  values = λ v st. value_same (value_tree d v) (value_tree c v) (leaf_fits (n.fits (Value v) st));
-  funcs = λ p st. func_same (func_tree d p) (func_tree c p) (leaf_fits (n.fits (Func p) (st, tt)));
-}
 
 module_entry_keys : (o : Option ModuleTree) → optional_keys entry_keys (option_map module_entry o) ≡ []
 module_entry_keys None = refl

@@ -13,6 +13,5 @@ pub mod Taking
 pub mod Tracing
 pub mod Leaves
 pub mod Entering
-pub mod New
 pub mod Values
 pub mod EnteringLeaves

@@ -22,7 +22,7 @@ use Rattle.wac_checker_parts.specs.Externs.{AreServed}
 use Rattle.wac_merge.specs.Items.{entry_item}
 use Rattle.wac_aggregator_narrowing.specs.Identified.{use_names, use_names_at, IsUnstopped, IsQuiet}
 use Rattle.wac_aggregator_narrowing.specs.Narrows.{Narrows}
-use Rattle.wac_aggregator_narrowing.specs.Remembers.{IsRememberedAs, RemembersTruly}
+use Rattle.wac_aggregator_narrowing.specs.Remembers.{IsRememberedAs}
 use Rattle.wac_aggregator_narrowing.specs.Standing.{StandsFor}
 use Rattle.wac_aggregator_narrowing.specs.State.{State, IsStateKept, RunsTaking}
 use Rattle.wac_aggregator_narrowing.specs.Taking.{IsClosedIn, IsTakenKey, IsCopiedKey, AreKeysPaired, AreTakenKeys, AreCopiedKeys, no_keys, one_key, IsTakenItem, IsCopiedItem, AreMapped, none, one}
@@ -151,15 +151,6 @@ closed_by_parts f now theirs self parts t n stay is = self n is
 closed_by_parts f now theirs self parts t n (step {j = j} m w) is = parts j m t n w is
 
 module _ {T : Type 0} (track : Text → T) (f : Collection) (s : State) where
-  -- what a memo answers may be believed
-  pub memo_hit : IsStateKept s → RemembersTruly track f s → (theirs own : Key) → s.taken theirs ≡ Some own → theirs.id.number ≡ f.number → IsTakenKey track f s theirs own
-  memo_hit kept truly theirs own is number = record {
-    remembered = truly.taken theirs own is number;
-    noted = is;
-    covered = (kept.taken theirs own is).1;
-    closed = λ t n w q. truly.closed theirs own t n is number w q;
-  }
-
   -- the ids of the one list, one by one with those of the other
   pub taken_at : (is js : List Key) (j : Key) → AreTakenKeys track f s is js → IsAmong j js → (i : Key) × IsAmong i is × IsTakenKey track f s i j
   taken_at = paired_at (IsTakenKey track f s)

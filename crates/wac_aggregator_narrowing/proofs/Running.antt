@@ -17,7 +17,7 @@ use Rattle.wac_aggregator_narrowing.specs.Identified.{use_names, IsCovered}
 use Rattle.wac_aggregator_narrowing.specs.Imports.{NamedImports, ImportsStand, ImportsCovered, IsImportFor, ImportsFit, IsServed}
 use Rattle.wac_aggregator_narrowing.specs.Narrows.{Narrows, KeepsStops, IsGoodStep}
 use Rattle.wac_aggregator_narrowing.specs.Standing.{StandsFor, IsCopy}
-use Rattle.wac_aggregator_narrowing.specs.State.{State, IsStateKept, IsStateTrueOf, IsOneWith, RunsTaking}
+use Rattle.wac_aggregator_narrowing.specs.State.{State, IsStateKept, IsOneWith, RunsTaking}
 use Rattle.wac_aggregator_narrowing.proofs.Adding.{Narrows-refl, Narrows-trans, Narrows-all_stand}
 use Rattle.wac_aggregator_narrowing.proofs.Stopping.{KeepsStops-refl, KeepsStops-trans}
 
@@ -82,18 +82,11 @@ IsStateKept-step s d ts step h = record {
   copies = λ theirs own p. let r = h.copies theirs own p in (step.narrows.standing own r.0, step.narrows.apart own r.0 r.1);
 }
 
--- a fact of a state in which one part changed, by one of the same with the other parts as they were
-pub changed_own : (P : State → Type 0) (s t : State) → t.imports ≡ s.imports → t.taken ≡ s.taken → t.copies ≡ s.copies → P (record s { own = t.own; shared = t.shared }) → P t
-changed_own P s t p q r = subst P (λ i. record { own = t.own; shared = t.shared; imports = sym p i; taken = sym q i; copies = sym r i })
-
 pub changed_taken : (P : State → Type 0) (s t : State) → t.own ≡ s.own → t.shared ≡ s.shared → t.imports ≡ s.imports → t.copies ≡ s.copies → P (record s { taken = t.taken }) → P t
 changed_taken P s t o h p r = subst P (λ i. record { own = sym o i; shared = sym h i; imports = sym p i; taken = t.taken; copies = sym r i })
 
 pub changed_copies : (P : State → Type 0) (s t : State) → t.own ≡ s.own → t.shared ≡ s.shared → t.imports ≡ s.imports → t.taken ≡ s.taken → P (record s { copies = t.copies }) → P t
 changed_copies P s t o h p q = subst P (λ i. record { own = sym o i; shared = sym h i; imports = sym p i; taken = sym q i; copies = t.copies })
-
-pub changed_imports : (P : State → Type 0) (s t : State) → t.own ≡ s.own → t.shared ≡ s.shared → t.taken ≡ s.taken → t.copies ≡ s.copies → P (record s { imports = t.imports }) → P t
-changed_imports P s t o h q r = subst P (λ i. record { own = sym o i; shared = sym h i; imports = t.imports; taken = sym q i; copies = sym r i })
 
 module _ (IsTrue : Collection → State → Type 0) (f : Collection) where
   pub RunsTaking-refl : (s : State) → RunsTaking IsTrue f s s
@@ -184,24 +177,3 @@ module _ (IsTrue : Collection → State → Type 0) (f : Collection) where
   -- what was served is so still
   pub served_still : (g : Collection) (s t : State) (n : Text) (x : ItemKind) → IsStateKept s → RunsTaking IsTrue f s t → IsServed s.own s.imports n g x → IsServed t.own t.imports n g x
   served_still g s t n x h r served = IsImportFor-trans g s.own t.own s.imports t.imports n x (r.imports h) served
-
--- that each pair stands for its id is kept
-pub IsStateTrueOf-step : (g : Collection) (s : State) (d : Collection) (ts : List Key) → IsGoodStep s.own s.shared d ts → IsStateTrueOf g s → IsStateTrueOf g (record s { own = d; shared = ts })
-IsStateTrueOf-step g s d ts step t = record {
-  taken = λ theirs own p q. StandsFor-Narrows g s.own d s.shared ts theirs own step.narrows (t.taken theirs own p q);
-  copies = λ theirs own p q. IsCopy-step g s.own d s.shared ts theirs own step.narrows step.stops (t.copies theirs own p q);
-}
-
-pub IsStateTrueOf-take : (f g : Collection) (s : State) (now : Remembered) (a b : Key) → IsOneWith f g → a.id.number ≡ f.number → AddsPair s.taken now a b → StandsFor f s.own a b → IsStateTrueOf g s → IsStateTrueOf g (record s { taken = now })
-IsStateTrueOf-take f g s now a b one number adds new t = record {
-  taken = pair_or_before (λ x y. x.id.number ≡ g.number → StandsFor g s.own x y) s.taken now a b adds
-      (λ q. subst (λ (e : Collection). StandsFor e s.own a b) (sym (one (sym q ∙ number))) new) t.taken;
-  copies = t.copies;
-}
-
-pub IsStateTrueOf-copy : (f g : Collection) (s : State) (now : Remembered) (a b : Key) → IsOneWith f g → a.id.number ≡ f.number → AddsPair s.copies now a b → IsCopy f s.own s.shared a b → IsStateTrueOf g s → IsStateTrueOf g (record s { copies = now })
-IsStateTrueOf-copy f g s now a b one number adds new t = record {
-  taken = t.taken;
-  copies = pair_or_before (λ x y. x.id.number ≡ g.number → IsCopy g s.own s.shared x y) s.copies now a b adds
-      (λ q. subst (λ (e : Collection). IsCopy e s.own s.shared a b) (sym (one (sym q ∙ number))) new) t.copies;
-}

@@ -1,5 +1,5 @@
 -- Values, functions and resources that were taken in, or copied.
-use Rattle.std.proofs.Common.{◌≡◌, List, Option, Some, map, refl, ap, sym, ◌∙◌}
+use Rattle.std.proofs.Common.{◌≡◌, List, Option, Some, map, refl, ap}
 use Rattle.std.specs.List.{flat_map}
 use Rattle.std.specs.Option.{option_map, option_map_or}
 use Rattle.wac_model.specs.Text.{Text}
@@ -9,30 +9,10 @@ use Rattle.wac_component.specs.Key.{Key, func_keys, defined_keys, value_keys, na
 use Rattle.wac_component.specs.Tree.{value_tree, func_content_tree, content_tree, content_name, root_name}
 use Rattle.wac_component.specs.declared.items.ValueType.{ValueType}
 use Rattle.wac_component.proofs.Keys.{Each-append}
-use Rattle.wac_aggregator_narrowing.specs.State.{State, IsStateKept, RunsTaking}
 use Rattle.wac_aggregator_narrowing.specs.Taking.{AreKeysPaired, no_keys, AreMapped}
 use Rattle.wac_aggregator_narrowing.specs.Taking as mapped
-use Rattle.wac_aggregator_narrowing.specs.Values.{IsTakenValue, IsCopiedValue, SameValue, AreValuesPaired, none, one, IfAny, neither, both, AreFuncs, AreDefined, AreSameResources}
-use Rattle.wac_aggregator_narrowing.proofs.Adding.{Narrows-all_stand, Narrows-all_apart}
-use Rattle.wac_aggregator_narrowing.proofs.Leaves.{leaves_stay}
-use Rattle.wac_aggregator_narrowing.proofs.Mapped.{mapped_more, mapped_keys, paired_append, paired_named, taken_keys_still, copied_keys_still}
-
--- in every run
-module _ {T : Type 0} (track : Text → T) (f : Collection) (s t : State) (kept : IsStateKept s) (IsTrue : Collection → State → Type 0) (e : Collection) (run : RunsTaking IsTrue e s t) where
-  pub taken_value_still : (v w : ValueType) → IsTakenValue track f s v w → IsTakenValue track f t v w
-  taken_value_still v w h = record {
-    stands = Narrows-all_stand s.own t.own s.shared t.shared (run.narrows kept) (value_keys w) h.stands;
-    same = sym ((leaves_stay s.own t.own s.shared t.shared (run.narrows kept)).values w h.stands) ∙ h.same;
-    keys = taken_keys_still track f s t kept IsTrue e run (value_keys v) (value_keys w) h.keys;
-  }
-
-  pub copied_value_still : (v w : ValueType) → IsCopiedValue f s v w → IsCopiedValue f t v w
-  copied_value_still v w h = record {
-    stands = Narrows-all_stand s.own t.own s.shared t.shared (run.narrows kept) (value_keys w) h.stands;
-    apart = Narrows-all_apart s.own t.own s.shared t.shared (run.narrows kept) (value_keys w) h.stands h.apart;
-    keys = copied_keys_still track f s t kept IsTrue e run (value_keys v) (value_keys w) h.keys;
-    same = sym ((leaves_stay s.own t.own s.shared t.shared (run.narrows kept)).values w h.stands) ∙ h.same;
-  }
+use Rattle.wac_aggregator_narrowing.specs.Values.{SameValue, AreValuesPaired, none, one, IfAny, neither, both, AreFuncs, AreDefined, AreSameResources}
+use Rattle.wac_aggregator_narrowing.proofs.Mapped.{mapped_more, mapped_keys, paired_append, paired_named}
 
 module _ {V W : Type 0} (R Q : V → W → Type 0) (h : (x : V) (y : W) → R x y → Q x y) where
   pub listed_more : (xs : List V) (ys : List W) → AreValuesPaired R xs ys → AreValuesPaired Q xs ys

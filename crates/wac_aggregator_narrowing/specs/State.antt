@@ -1,7 +1,9 @@
 -- The state of merging, and what its steps may do to it.
-use Rattle.std.specs.Prelude.{◌≡◌, List, Some}
+use Rattle.std.specs.Prelude.{◌≡◌, List, [], None, Some}
+use Rattle.wac_model.specs.Text.{Text}
 use Rattle.wac_component.specs.Collection.{Collection}
 use Rattle.wac_component.specs.Key.{Key, Stands}
+use Rattle.wac_component.specs.Sound.{IsSound}
 use Rattle.wac_aggregator_memo.specs.Memo.{Remembered}
 use Rattle.wac_aggregator_narrowing.specs.Apart.{IsKeyApart, IsGood}
 use Rattle.wac_aggregator_narrowing.specs.Identified.{IsCovered}
@@ -17,6 +19,14 @@ pub record State : Type 0 where
   pub imports : NamedImports
   pub taken : Remembered
   pub copies : Remembered
+
+-- a state that remembers nothing, with no imports and no shared entry
+pub record IsNewState (s : State) : Type 0 where
+  pub sound : IsSound s.own
+  pub shared : s.shared ≡ []
+  pub imports : (n : Text) → s.imports n ≡ None
+  pub taken : (k : Key) → s.taken k ≡ None
+  pub copies : (k : Key) → s.copies k ≡ None
 
 -- the shared entries are in order; imports and what was taken in stand, and openly lead only to
 -- shared ones; copies stand, apart

@@ -6,6 +6,7 @@ use Rattle.wac_component.specs.Key.{Key}
 use Rattle.wac_component.specs.Reach.{IsAmong}
 use Rattle.wac_component.specs.Entries.{identifier_at}
 use Rattle.wac_component.specs.Open.{open_next, OpenReaches}
+use Rattle.wac_names.specs.Class.{Class, class_of}
 use Rattle.wac_aggregator_narrowing.specs.Identified.{OpenlyOn}
 
 -- an open walk of a step or more
@@ -63,3 +64,10 @@ pub record LeadsOnto {T : Type 0} (track : Text → T) (f : Collection) (k : Key
   pub by : T
   pub openly : OpenlyOn track f k by
   pub onward : (by ≡ to) ⊎ Leads by to
+
+-- walks between shared entries, or from an id to these, follow the arrows from some roots
+abbrev pub IsArrowed : Collection → List Key → List Root → Type 0
+IsArrowed c ss rs = IsTraced class_of c ss (Arrows class_of rs)
+
+abbrev pub LeadsAlongArrows : Collection → List Key → List Root → Class → Key → Type 0
+LeadsAlongArrows c ss rs = LeadsAlong class_of c ss (Arrows class_of rs)

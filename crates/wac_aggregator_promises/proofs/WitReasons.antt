@@ -25,7 +25,7 @@ use Rattle.wac_aggregator_promises.specs.Clash.{ExportsClash, TwoUses, Interface
 use Rattle.wac_aggregator_promises.specs.Compatible.{AreUsesAlike, TrackUses, LeadsOver, IsCompatibleWitList}
 use Rattle.wac_aggregator_promises.specs.Entries.{Uses}
 use Rattle.wac_aggregator_promises.specs.Leaves.{export_at}
-use Rattle.wac_aggregator_promises.specs.Laws.{CompatibleListsAreAccepted, ClashingExportsHaveNoBound, WitReasonsAreReasons}
+use Rattle.wac_aggregator_promises.specs.Laws.{CompatibleListsHaveNoWitReason, ClashingExportsHaveNoBound, WitReasonsAreReasons}
 use Rattle.wac_aggregator_promises.specs.OpenReach.{ItemReaches}
 use Rattle.wac_aggregator_promises.specs.Reason.{CallRefusal, kinds, mismatch, unexplained, used_interface, used_name, no_identifier, owner_without_identifier, taken, cycle, KindsDiffer, ImportClashes, UsesUnidentified, OwnerUnidentified, IsTaken, ClosesCycle}
 use Rattle.wac_aggregator_promises.specs.TreeSets.{IsBelowEach, HaveLowerBound}
@@ -203,7 +203,7 @@ module _ (front : List Call) (call : Call) (imports : ImportTrees) (wit : IsWitL
   no_reason (taken n) r = not_taken n r
   no_reason (cycle n) r = no_cycle n r
 
-pub compatible_accepted : CompatibleListsAreAccepted
+pub compatible_accepted : CompatibleListsHaveNoWitReason
 compatible_accepted front call imports why wit sound compatible meets r = no_reason front call imports wit sound compatible meets why r
 
 pub clashing_exports : ClashingExportsHaveNoBound

@@ -72,8 +72,8 @@ abbrev pub MeetsAreUnions : Type 0
 MeetsAreUnions = (t : ItemTree) (ts : List ItemTree) (m : ItemTree) → All IsLeafMap (t ∷ ts) → IsMeet m (t ∷ ts) ↔ IsUnionOf m (t ∷ ts)
 
 -- at a call of a compatible WIT list there is no reason on one track
-abbrev pub CompatibleListsAreAccepted : Type 0
-CompatibleListsAreAccepted = (front : List Call) (call : Call) (imports : ImportTrees) (why : CallRefusal)
+abbrev pub CompatibleListsHaveNoWitReason : Type 0
+CompatibleListsHaveNoWitReason = (front : List Call) (call : Call) (imports : ImportTrees) (why : CallRefusal)
     → IsWitList (front ++ call ∷ []) → AreSoundCalls (front ++ call ∷ []) → IsCompatibleWitList (front ++ call ∷ [])
     → AreMeets (IsTreeOn front) front imports → ¬ IsWitReason (later_attempt front (imports (call_track call)) call) why
 

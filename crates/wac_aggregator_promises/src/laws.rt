@@ -1,6 +1,6 @@
 //! Laws of call lists. Each is the contract of a function that does nothing.
 
-ghost use Rattle.wac_aggregator_promises.specs.Laws.{AnswersAreExact, ClashingExportsHaveNoBound, CompatibleListsAreAccepted, GrowthTakesIn, ImportsAreGreatestBounds, LeafInstancesFollowLeaves, MeetsAreUnions, MembersAreLeafMaps, MembersOfMore, NamedImportsAreDue, NamesLeadToTracks, PlainAnswersInAnyOrder, PlainListsAreWitLists, PlainRunsAnswer, PlainRunsExist, RefusedMembersAreIncompatible, SharingGoesOn, SourcesGrow, StepsServeAll, WitAnswersInAnyOrder, WitImportsAreMeets, WitReasonsAreReasons, WitRunsAnswer};
+ghost use Rattle.wac_aggregator_promises.specs.Laws.{AnswersAreExact, ClashingExportsHaveNoBound, CompatibleListsHaveNoWitReason, GrowthTakesIn, ImportsAreGreatestBounds, LeafInstancesFollowLeaves, MeetsAreUnions, MembersAreLeafMaps, MembersOfMore, NamedImportsAreDue, NamesLeadToTracks, PlainAnswersInAnyOrder, PlainListsAreWitLists, PlainRunsAnswer, PlainRunsExist, RefusedMembersAreIncompatible, SharingGoesOn, SourcesGrow, StepsServeAll, WitAnswersInAnyOrder, WitImportsAreMeets, WitReasonsAreReasons, WitRunsAnswer};
 
 /// After every accepted list the import at the canonical name of each name that was handed in is a
 /// subtype of every item that was handed in on that name's track. A list of plain items, or of WIT
@@ -50,8 +50,8 @@ pub fn meets_are_unions()
 
 /// Where a WIT list is compatible, no reason on one track stands at its last call. Of other rows of
 /// the table of reasons this says nothing: that the list is accepted is `wit_runs_answer`.
-pub fn compatible_lists_are_accepted()
-    ensures { CompatibleListsAreAccepted }
+pub fn compatible_lists_have_no_wit_reason()
+    ensures { CompatibleListsHaveNoWitReason }
 {}
 
 /// Where a shared entry can't take in a member of a WIT list, the list isn't compatible.

@@ -23,11 +23,10 @@ use Rattle.wac_aggregator_promises.specs.Attempt.{Attempt, IsSource, IsBelowImpo
 use Rattle.wac_aggregator_narrowing.specs.Entering.{AddsEntry}
 use Rattle.wac_aggregator_narrowing.specs.Imports.{NamedImports}
 use Rattle.wac_aggregator_narrowing.specs.Last.{last_key}
-use Rattle.wac_aggregator_narrowing.specs.Laws.{IsArrowed, LeadsAlongArrows}
 use Rattle.wac_aggregator_narrowing.specs.Narrows.{AddsShared, CanGrow, grown}
 use Rattle.wac_aggregator_narrowing.specs.State.{State, IsStateKept}
 use Rattle.wac_aggregator_narrowing.specs.Taking.{SameTree}
-use Rattle.wac_aggregator_narrowing.specs.Traced.{Arrows}
+use Rattle.wac_aggregator_narrowing.specs.Traced.{Arrows, IsArrowed, LeadsAlongArrows}
 use Rattle.wac_aggregator_narrowing.proofs.Adding.{last_at}
 use Rattle.wac_aggregator_narrowing.proofs.Tracing.{traced_added, traced_shared, traced_grown}
 use Rattle.wac_aggregator_reasons.specs.Entering.{IsFromSources}

@@ -1,7 +1,6 @@
 -- Each change keeps what comes from sources.
 use Rattle.std.specs.Option.{option_map_or}
-use Rattle.std.specs.declared.alloc.AllocError.{AllocError}
-use Rattle.std.proofs.Common.{◌≡◌, inr, Option, Some, None, Result, refl, sym, ap, subst, ◌∙◌, IsSome}
+use Rattle.std.proofs.Common.{◌≡◌, inr, Option, Some, None, refl, sym, ap, subst, ◌∙◌, IsSome}
 use Rattle.wac_model.specs.Text.{Text}
 use Rattle.wac_component.specs.Id.{Id}
 use Rattle.wac_component.specs.Collection.{Collection, InterfaceContent}
@@ -15,15 +14,14 @@ use Rattle.wac_component.specs.declared.items.ItemKind.{ItemKind}
 use Rattle.wac_component.proofs.Adding.{Extends-with_entry}
 use Rattle.wac_names.specs.Class.{class_of}
 use Rattle.wac_aggregator_promises.specs.Attempt.{Sources, IsSource}
-use Rattle.wac_merge.specs.Built.{Builds}
-use Rattle.wac_aggregator_narrowing.specs.Entering.{AddsEntry, AddsCopy}
+use Rattle.wac_aggregator_narrowing.specs.Entering.{AddsEntry}
 use Rattle.wac_aggregator_narrowing.specs.Last.{last_key}
 use Rattle.wac_aggregator_narrowing.specs.Narrows.{AddsShared, CanGrow, grown}
-use Rattle.wac_aggregator_narrowing.specs.State.{State, IsStateKept, RunsTaking}
+use Rattle.wac_aggregator_narrowing.specs.State.{State, IsStateKept}
 use Rattle.wac_aggregator_narrowing.proofs.Adding.{identifier_kept, last_at}
 use Rattle.wac_aggregator_narrowing.proofs.Growing.{identifier_grown}
 use Rattle.wac_aggregator_reasons.specs.Entering.{IsFromSources}
-use Rattle.wac_aggregator_reasons.specs.Keeping.{StaySourced, KeepsSourced}
+use Rattle.wac_aggregator_reasons.specs.Keeping.{KeepsSourced}
 use Rattle.wac_aggregator_reasons.specs.Sharing.{of_shared, IsSharer, AreSourced}
 use Rattle.wac_aggregator_reasons.specs.Sourced.{IsSourced}
 use Rattle.wac_aggregator_reasons.proofs.Cycles.{identified_interface, identified_on}
@@ -33,28 +31,11 @@ use Rattle.wac_aggregator_reasons.proofs.Moving.{sourced_kept}
 use Rattle.wac_aggregator_reasons.proofs.States.{moved, taken_in, shared_in, imports_in}
 
 module _ (sources : Sources) where
-  pub none_keeps : (s t : State) → t ≡ s → KeepsSourced sources s t
-  none_keeps s t same kept h = subst (λ (u : State). StaySourced sources s u) (sym same) (record { all = h; keys = λ k st g. g })
-
-  pub keeps_follow : (IsTrue : Collection → State → Type 0) (f : Collection) (s t u : State) → RunsTaking IsTrue f s t → KeepsSourced sources s t → KeepsSourced sources t u → KeepsSourced sources s u
-  keeps_follow IsTrue f s t u run first second kept h =
-      let a = first kept h in
-      let b = second (run.kept kept) a.all in
-      record { all = b.all; keys = λ k st g. b.keys k ((run.narrows kept).standing k st) (a.keys k st g) }
-
   -- the own collection is added to
   pub grows_keep : (s t : State) → Extends s.own t.own → t.shared ≡ s.shared → t.imports ≡ s.imports → t.taken ≡ s.taken → KeepsSourced sources s t
   grows_keep s t x same_shared same_imports same_taken kept h =
       let keys : (k : Key) → Stands s.own k → IsSourced (IsSource sources) s.own k → IsSourced (IsSource sources) t.own k = sourced_kept (IsSource sources) s.own t.own kept.good.sound x in
       record { all = moved sources s t kept same_shared same_imports same_taken (identifier_kept s.own t.own kept.good.sound x) keys h; keys = keys }
-
-  -- a copy is added, of which nothing is asked
-  pub copies_keep : (f : Collection) (s t : State) (theirs : Key) (z : Entry) → AddsCopy f s t theirs z → KeepsSourced sources s t
-  copies_keep f s t theirs z adds kept h = grows_keep s t (subst (λ (c : Collection). Extends s.own c) (sym adds.own) (Extends-with_entry s.own z kept.good.sound)) adds.shared adds.imports adds.taken kept h
-
-  -- items are met or joined
-  pub builds_keep : (s t : State) (a b : ItemKind) (r : Result (Option ItemKind) AllocError) → Builds s.own t.own a b r → t.shared ≡ s.shared → t.imports ≡ s.imports → t.taken ≡ s.taken → KeepsSourced sources s t
-  builds_keep s t a b r builds = grows_keep s t builds.only.extends
 
   -- an entry is added for a foreign one
   pub entries_keep : (f : Collection) (s t : State) (theirs : Key) (z : Entry) → AddsEntry f s t theirs z → t.shared ≡ s.shared → AllStand s.own (entry_keys z) → (AreSourced sources s → IsFromSources (IsSource sources) s.own z) → KeepsSourced sources s t

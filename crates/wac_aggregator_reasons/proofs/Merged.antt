@@ -1,13 +1,12 @@
 -- What is so where an import and an item are to be merged, and where the start
 -- and the call's collection differ.
-use Rattle.std.proofs.Common.{◌≡◌, ◌≢◌, ◌⊎◌, inl, inr, List, ◌∷◌, Some, sym, ap, subst, arith}
+use Rattle.std.proofs.Common.{◌≡◌, ◌⊎◌, inl, inr, List, ◌∷◌, Some}
 use Rattle.wac_component.specs.Collection.{Collection}
-use Rattle.wac_component.specs.Id.{Id}
-use Rattle.wac_component.specs.Key.{Key, interface_key, item_keys, Stands, AllStand}
+use Rattle.wac_component.specs.Key.{Key, item_keys, AllStand}
 use Rattle.wac_component.specs.Tree.{item_tree}
 use Rattle.wac_component.specs.declared.items.ItemKind.{ItemKind}
 use Rattle.wac_names.specs.Class.{class_of}
-use Rattle.wac_aggregator_promises.specs.Attempt.{Attempt, Sources, Touches, nothing}
+use Rattle.wac_aggregator_promises.specs.Attempt.{Attempt, Sources, Touches}
 use Rattle.wac_aggregator_narrowing.specs.Narrows.{Narrows}
 use Rattle.wac_aggregator_narrowing.specs.State.{State, IsStateKept}
 use Rattle.wac_aggregator_narrowing.specs.Taking.{IsTakenItem}
@@ -26,15 +25,6 @@ merges a s t x y kept narrows st stood taken h = record {
   item_bare = taken_bare a.call.types t a.call.kind y taken;
   same = elim h [ inl touches ↦ inl touches | inr u ↦ inr (u.extends.trees x st, u.same) ];
 }
-
-pub nothing_apart : (c : Collection) (i : Id) → Stands c (interface_key i) → nothing ≢ c
-nothing_apart c i st e = none (subst (λ (d : Collection). Stands d (interface_key i)) (sym e) st)
-  where
-    none : Stands nothing (interface_key i) → ⊥
-    none s = omega (arith, s.1)
-
-pub numbers_apart : (c d : Collection) → c.number ≢ d.number → c ≢ d
-numbers_apart c d ne e = ne (ap (λ (x : Collection). x.number) e)
 
 -- roots one by one
 pub more_roots : (sources : Sources) (c : Collection) (k : Key) (rs : List Root) → IsSourceRoot sources c k → RootsAreSources sources rs → RootsAreSources sources (record { of = c; at = k } ∷ rs)

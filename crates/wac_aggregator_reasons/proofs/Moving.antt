@@ -85,21 +85,3 @@ module _ (P : Collection → Key → Type 0) where
 
 -- for more sources
 module _ (P Q : Collection → Key → Type 0) (more : (c : Collection) (k : Key) → P c k → Q c k) where
-  export_more : (n : Text) (t : ItemTree) → IsExportFrom P n t → IsExportFrom Q n t
-  export_more n t h other u = let e = h other u in record { types = e.types; key = e.key; export = e.export; of_these = more e.types e.key e.of_these; exported = e.exported; apart = e.apart }
-
-  use_more : (c : Collection) (n : Text) (u : UseContent) → IsUseFrom P c n u → IsUseFrom Q c n u
-  use_more c n u h = record {
-    types = h.types;
-    key = h.key;
-    content = h.content;
-    of_these = more h.types h.key h.of_these;
-    has = h.has;
-    same_name = h.same_name;
-    track = h.track;
-    source_on = h.source_on;
-    is_on = h.is_on;
-  }
-
-  pub sourced_more : (c : Collection) (k : Key) → IsSourced P c k → IsSourced Q c k
-  sourced_more c k h = record { exports = λ t n x w is. export_more n (item_tree c x) (h.exports t n x w is); uses = λ t n u w has. use_more c n u (h.uses t n u w has) }

@@ -26,11 +26,10 @@ use Rattle.wac_aggregator_promises.specs.TreeSets.{HaveNoLowerBound}
 use Rattle.wac_aggregator_promises.proofs.Read.{use_opens}
 use Rattle.wac_merge.specs.Built.{Builds, IsBuilt}
 use Rattle.wac_merge.specs.Items.{entry_item}
-use Rattle.wac_aggregator_narrowing.specs.Laws.{LeadsAlongArrows}
 use Rattle.wac_aggregator_narrowing.specs.Narrows.{Narrows, KeepsStops}
 use Rattle.wac_aggregator_narrowing.specs.State.{State, IsStateKept}
 use Rattle.wac_aggregator_narrowing.specs.Taking.{SameTree, IsTakenKey, AreTakenKeys, one_key, no_keys, IsTakenItem}
-use Rattle.wac_aggregator_narrowing.specs.Traced.{IsAmongRoots, Arrows}
+use Rattle.wac_aggregator_narrowing.specs.Traced.{IsAmongRoots, Arrows, LeadsAlongArrows}
 use Rattle.wac_aggregator_narrowing.proofs.Adding.{Narrows-all_stand}
 use Rattle.wac_aggregator_narrowing.proofs.Tracing.{cycle_reason, taken_along}
 use Rattle.wac_aggregator_reasons.specs.Sourced.{IsSourced}

@@ -1,11 +1,8 @@
 -- What the items of calls openly reach, and what is openly reached at the start, are sources.
 use Rattle.std.proofs.Common.{◌≡◌, refl, Contains}
-use Rattle.wac_component.specs.Collection.{Collection}
 use Rattle.wac_component.specs.Key.{Key, item_keys, Stands}
 use Rattle.wac_component.specs.Reach.{IsAmong}
-use Rattle.wac_component.specs.Open.{open_next, step}
 use Rattle.wac_component.proofs.Among.{among_each}
-use Rattle.wac_component.proofs.OpenWalks.{open_stands}
 use Rattle.wac_aggregator_promises.specs.Attempt.{Sources, held, reached}
 use Rattle.wac_aggregator_promises.specs.Call.{Call, IsSoundCall}
 use Rattle.wac_aggregator_narrowing.specs.State.{State, IsStateKept}
@@ -25,12 +22,4 @@ start_root sources s k start kept h r = record {
   sound = kept.good.sound;
   stands = root_stands s kept k r;
   leads_to = λ t w. held start (h.held k t r w);
-}
-
--- so is what it openly leads to
-pub next_root : (sources : Sources) (c : Collection) (k j : Key) → IsSourceRoot sources c k → IsAmong j (open_next c k) → IsSourceRoot sources c j
-next_root sources c k j r m = record {
-  sound = r.sound;
-  stands = open_stands c r.sound k j r.stands m;
-  leads_to = λ t w. r.leads_to t (step m w);
 }

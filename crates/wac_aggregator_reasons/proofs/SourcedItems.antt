@@ -2,12 +2,11 @@
 -- in, met, and after each change.
 use Rattle.std.specs.Str.{bytes_eq}
 use Rattle.std.specs.declared.alloc.AllocError.{AllocError}
-use Rattle.std.proofs.Common.{◌≡◌, inl, inr, List, Option, Some, Result, Contains}
+use Rattle.std.proofs.Common.{◌≡◌, List, Option, Some, Result, Contains}
 use Rattle.std.proofs.lemmas.List.Elements.{All-weaker, All-contains_itself}
 use Rattle.wac_model.specs.Text.{Text, lookup}
-use Rattle.wac_core_merge.proofs.NameLemmas.{Contains-with_new}
-use Rattle.wac_component.specs.Collection.{Collection, UseContent, InterfaceContent, WorldContent}
-use Rattle.wac_component.specs.Key.{Key, interface_entry, world_entry, interface_key, item_keys, named_keys, use_keys, Each, Stands, AllStand}
+use Rattle.wac_component.specs.Collection.{Collection, UseContent, InterfaceContent}
+use Rattle.wac_component.specs.Key.{Key, interface_entry, interface_key, item_keys, named_keys, use_keys, Each, Stands, AllStand}
 use Rattle.wac_component.specs.Sound.{IsSound}
 use Rattle.wac_component.specs.Tree.{item_tree}
 use Rattle.wac_component.specs.Entries.{exports_at, uses_at}
@@ -16,18 +15,18 @@ use Rattle.wac_component.specs.declared.items.ItemKind.{ItemKind}
 use Rattle.wac_component.proofs.Keys.{Each-append}
 use Rattle.wac_component.proofs.Among.{among_each, each_among, each_named}
 use Rattle.wac_aggregator_promises.proofs.Read.{use_opens}
-use Rattle.wac_merge.specs.Built.{Builds, IsBuilt, uses_of_both}
+use Rattle.wac_merge.specs.Built.{Builds, IsBuilt}
 use Rattle.wac_merge.specs.Items.{AreUnhidden}
 use Rattle.wac_aggregator_narrowing.specs.Apart.{IsGood}
-use Rattle.wac_aggregator_narrowing.specs.Narrows.{Narrows, KeepsStops}
+use Rattle.wac_aggregator_narrowing.specs.Narrows.{Narrows}
 use Rattle.wac_aggregator_narrowing.proofs.Adding.{Narrows-all_stand}
 use Rattle.wac_aggregator_reasons.specs.Entering.{IsFromSources}
-use Rattle.wac_aggregator_reasons.specs.Items.{IsSourcedItem, AreSourcedItems, IsSourcedUse, AreSourcedUses}
+use Rattle.wac_aggregator_reasons.specs.Items.{IsSourcedItem, AreSourcedItems, AreSourcedUses}
 use Rattle.wac_aggregator_reasons.specs.Sourced.{IsSourced}
 use Rattle.wac_aggregator_reasons.proofs.Built.{built_export, built_sourced}
 use Rattle.wac_aggregator_reasons.proofs.Clashing.{sourced_next}
 use Rattle.wac_aggregator_reasons.proofs.Exported.{export_each}
-use Rattle.wac_aggregator_reasons.proofs.Moving.{export_bare, use_moves, export_stands, use_stands}
+use Rattle.wac_aggregator_reasons.proofs.Moving.{export_bare, export_stands, use_stands}
 use Rattle.wac_aggregator_reasons.proofs.Narrowed.{narrowed_bare}
 
 module _ (P : Collection → Key → Type 0) where
@@ -46,10 +45,6 @@ module _ (P : Collection → Key → Type 0) where
     key = sourced_next P c k (interface_key u.interface) h (use_opens c k n u has);
   }
 
-  -- of both
-  pub both_uses : (c : Collection) (us vs : List (Text × UseContent)) → AreSourcedUses P c us → AreSourcedUses P c vs → AreSourcedUses P c (uses_of_both us vs)
-  both_uses c us vs hu hv n u m = elim (Contains-with_new bytes_eq us vs (n, u) m) [ inl v ↦ hu n u v | inr v ↦ hv n u v ]
-
   -- what is met or joined
   pub built_item : (c d : Collection) (n : Text) (a b y : ItemKind) (r : Result (Option ItemKind) AllocError) → IsSound c → IsSound d → (h : Builds c d a b r) → IsBuilt c d h.origins a b y → AllStand d (item_keys y)
       → IsSourcedItem P c n a → IsSourcedItem P c n b → IsSourcedItem P d n y
@@ -67,13 +62,6 @@ module _ (P : Collection → Key → Type 0) where
     keys = each_among (IsSourced P d) (item_keys x) (λ k m. keys k (among_each (Stands c) k (item_keys x) m h.stands) (among_each (IsSourced P c) k (item_keys x) m h.keys));
   }
 
-  pub use_stays : (c d : Collection) (ss ts : List Key) (n : Text) (u : UseContent) → Narrows c ss d ts → KeepsStops c ss d ts → ((k : Key) → Stands c k → IsSourced P c k → IsSourced P d k) → IsSourcedUse P c n u → IsSourcedUse P d n u
-  use_stays c d ss ts n u narrows stops keys h = record {
-    stands = narrows.standing (interface_key u.interface) h.stands;
-    use_from = use_moves P c d n u (stops.identifiers (interface_key u.interface) h.stands) h.use_from;
-    key = keys (interface_key u.interface) h.stands h.key;
-  }
-
   -- an interface, or a world, of such exports and uses
   items_each : (c : Collection) (es : List (Text × ItemKind)) → AreUnhidden es → AreSourcedItems P c es → Each (IsSourced P c) (named_keys item_keys es)
   items_each c es found h =
@@ -86,13 +74,6 @@ module _ (P : Collection → Key → Type 0) where
   pub interface_from : (c : Collection) (i : InterfaceContent) → AreUnhidden i.exports → AreSourcedItems P c i.exports → AreSourcedUses P c i.uses → IsFromSources P c (interface_entry i)
   interface_from c i found hx hu = record {
     parts = Each-append (IsSourced P c) (named_keys use_keys i.uses) (named_keys item_keys i.exports) (uses_each c i.uses hu) (items_each c i.exports found hx);
-    exports = λ n x is. (hx n x is).export;
-    uses = λ n u m. (hu n u m).use_from;
-  }
-
-  pub world_from : (c : Collection) (w : WorldContent) → AreUnhidden w.exports → AreSourcedItems P c w.exports → AreSourcedUses P c w.uses → IsFromSources P c (world_entry w)
-  world_from c w found hx hu = record {
-    parts = Each-append (IsSourced P c) (named_keys use_keys w.uses) (named_keys item_keys w.exports) (uses_each c w.uses hu) (items_each c w.exports found hx);
     exports = λ n x is. (hx n x is).export;
     uses = λ n u m. (hu n u m).use_from;
   }

@@ -24,7 +24,6 @@ use Rattle.wac_component.proofs.Among.{among_each, each_among}
 use Rattle.wac_component.proofs.OpenWalks.{imports_stand, opens_stand}
 use Rattle.wac_aggregator_promises.specs.Attempt.{Sources, IsHeld}
 use Rattle.wac_merge.specs.Built.{Origins, OnlyBuilds, IsBuilt}
-use Rattle.wac_aggregator_narrowing.specs.Laws.{IsNewState}
 use Rattle.wac_aggregator_narrowing.specs.Last.{last_key}
 use Rattle.wac_aggregator_narrowing.specs.Narrows.{CanGrow, grown}
 use Rattle.wac_aggregator_narrowing.specs.State.{State, IsStateKept}
@@ -35,7 +34,7 @@ use Rattle.wac_aggregator_narrowing.proofs.Growing as growing
 use Rattle.wac_aggregator_narrowing.proofs.Steps.{growing_steps}
 use Rattle.wac_aggregator_reasons.specs.Sharing.{IsOpenRoot, AreSourced, AreHeld}
 use Rattle.wac_aggregator_reasons.specs.Split.{IsLow, of_copy, of_import, IsOpenKey, AreSplit, StaySplit}
-use Rattle.wac_aggregator_reasons.proofs.States.{root_stands, no_root}
+use Rattle.wac_aggregator_reasons.proofs.States.{root_stands}
 
 -- where the two are apart, what is openly reached is held
 split_held : (s : State) → IsStateKept s → AreSplit s → (k t : Key) → IsOpenRoot s k → OpenReaches s.own k t → IsHeld s.own t
@@ -253,9 +252,6 @@ module _ (s t : State) (o : Origins) (kept : IsStateKept s) (only : OnlyBuilds s
 -- after a change whose new roots are open
 pub split_on : (s t : State) → IsStateKept s → ((k : Key) → IsOpenRoot t k → IsOpenRoot s k ⊎ IsOpenKey t k) → StaySplit s t → AreSplit s → AreSplit t
 split_on s t kept new h split k r = elim (new k r) [ inl was ↦ h.opens k (root_stands s kept k was) (split k was) | inr is ↦ is ]
-
-pub new_split : (s : State) → IsNewState s → AreSplit s
-new_split s new k r = absurd (no_root s new k r)
 
 -- where all comes from sources, each use is of an interface with an identifier
 pub held_again : (sources : Sources) (s : State) → IsStateKept s → AreSplit s → AreSourced sources s → AreHeld s

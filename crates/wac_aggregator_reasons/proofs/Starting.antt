@@ -18,9 +18,8 @@ use Rattle.wac_names.proofs.Classes.{classes_decided}
 use Rattle.wac_aggregator_promises.specs.Attempt.{Attempt, Sources, single_attempt, Touches}
 use Rattle.wac_aggregator_promises.specs.Call.{Call, IsSoundCall}
 use Rattle.wac_aggregator_narrowing.specs.Identified.{IsQuiet}
-use Rattle.wac_aggregator_narrowing.specs.Laws.{IsNewState}
 use Rattle.wac_aggregator_narrowing.specs.Remembers.{RemembersTruly}
-use Rattle.wac_aggregator_narrowing.specs.State.{State, IsStateKept}
+use Rattle.wac_aggregator_narrowing.specs.State.{State, IsStateKept, IsNewState}
 use Rattle.wac_aggregator_narrowing.specs.Traced.{Root, IsAmongRoots}
 use Rattle.wac_aggregator_narrowing.specs.Traced as root
 use Rattle.wac_aggregator_narrowing.proofs.Tracing.{shared_arrowed}

@@ -13,13 +13,11 @@ use Rattle.wac_component.proofs.Among.{among_each}
 use Rattle.wac_names.specs.Class.{class_of}
 use Rattle.wac_aggregator_promises.specs.Attempt.{Sources, IsSource, held}
 use Rattle.wac_aggregator_narrowing.specs.Imports.{NamedImports}
-use Rattle.wac_aggregator_narrowing.specs.Laws.{IsNewState}
 use Rattle.wac_aggregator_narrowing.specs.Narrows.{AddsShared}
-use Rattle.wac_aggregator_narrowing.specs.State.{State, IsStateKept}
+use Rattle.wac_aggregator_narrowing.specs.State.{State, IsStateKept, IsNewState}
 use Rattle.wac_aggregator_reasons.specs.Sharing.{IsOpenRoot, of_shared, of_import, of_taken, IsSharer, AreSourced, AreHeld}
 use Rattle.wac_aggregator_reasons.specs.Sourced.{IsUseFrom, IsSourced}
 use Rattle.wac_aggregator_reasons.proofs.Cycles.{identified_interface, identified_on}
-use Rattle.wac_aggregator_reasons.proofs.Moving.{sourced_more}
 use Rattle.wac_aggregator_reasons.proofs.TakenParts.{own_export}
 
 pub root_stands : (s : State) → IsStateKept s → (k : Key) → IsOpenRoot s k → Stands s.own k
@@ -141,19 +139,6 @@ start_sourced sources s start h = record {
           is_on = record { name = name; identified = is; on_track = refl };
         }
 
--- for more sources, from the same start
-pub states_more : (sources others : Sources) (s : State) → others.start ≡ sources.start → ((c : Collection) (k : Key) → IsSource sources c k → IsSource others c k) → AreSourced sources s → AreSourced others s
-states_more sources others s start more h = record {
-  roots = λ k r. sourced_more (IsSource sources) (IsSource others) more s.own k (h.roots k r);
-  sharers = λ k n m is. let e = h.sharers k n m is in record {
-    types = e.types;
-    id = e.id;
-    source = more e.types (interface_key e.id) e.source;
-    is_on = e.is_on;
-    stood = elim e.stood [ inl p ↦ inl (p ∙ sym start) | inr there ↦ inr there ];
-  };
-}
-
 -- where nothing stands yet
 nowhere : (k : Key) → IsAmong k [] → ⊥
 nowhere k m = elim m [ ]
@@ -162,6 +147,3 @@ pub no_root : (s : State) → IsNewState s → (k : Key) → IsOpenRoot s k → 
 no_root s new k (of_shared m) = nowhere k (subst (λ (ks : List Key). IsAmong k ks) new.shared m)
 no_root s new k (of_import {n = n} is m) = cc (new.imports n, is)
 no_root s new k (of_taken {theirs = j} is) = cc (new.taken j, is)
-
-pub new_sourced : (sources : Sources) (s : State) → IsNewState s → AreSourced sources s
-new_sourced sources s new = record { roots = λ k r. absurd (no_root s new k r); sharers = λ k n m is. absurd (nowhere k (subst (λ (ks : List Key). IsAmong k ks) new.shared m)) }

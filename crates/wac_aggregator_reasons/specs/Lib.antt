@@ -8,4 +8,3 @@ pub mod Roots
 pub mod Split
 pub mod Standing
 pub mod Trial
-pub mod Laws

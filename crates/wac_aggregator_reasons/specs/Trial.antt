@@ -9,10 +9,9 @@ use Rattle.wac_component.specs.Reach.{IsAmong}
 use Rattle.wac_component.specs.declared.items.ItemKind.{ItemKind}
 use Rattle.wac_aggregator_promises.specs.Attempt.{Attempt, IsSource, OpenlyReached, Touches}
 use Rattle.wac_aggregator_promises.specs.Call.{IsSoundCall}
-use Rattle.wac_aggregator_narrowing.specs.Laws.{IsArrowed}
 use Rattle.wac_aggregator_narrowing.specs.State.{State}
 use Rattle.wac_aggregator_narrowing.specs.Taking.{SameTree}
-use Rattle.wac_aggregator_narrowing.specs.Traced.{Root, IsAmongRoots}
+use Rattle.wac_aggregator_narrowing.specs.Traced.{Root, IsAmongRoots, IsArrowed}
 use Rattle.wac_aggregator_reasons.specs.Items.{IsSourcedItem, IsSourcedUse}
 use Rattle.wac_aggregator_reasons.specs.Roots.{RootsAreSources}
 use Rattle.wac_aggregator_reasons.specs.Sharing.{AreSourced}

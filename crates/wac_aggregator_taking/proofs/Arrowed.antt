@@ -14,10 +14,9 @@ use Rattle.wac_component.proofs.Reading.{interface_at}
 use Rattle.wac_names.specs.Class.{Class, class_of}
 use Rattle.wac_aggregator_narrowing.specs.Entering.{InterfaceIsTaken}
 use Rattle.wac_aggregator_narrowing.specs.Last.{last_key}
-use Rattle.wac_aggregator_narrowing.specs.Laws.{IsArrowed, LeadsAlongArrows}
 use Rattle.wac_aggregator_narrowing.specs.Narrows.{AddsShared}
 use Rattle.wac_aggregator_narrowing.specs.State.{State, IsStateKept}
-use Rattle.wac_aggregator_narrowing.specs.Traced.{Root, IsAmongRoots, there, Arrow, Arrows, one, on}
+use Rattle.wac_aggregator_narrowing.specs.Traced.{Root, IsAmongRoots, there, Arrow, Arrows, one, on, IsArrowed, LeadsAlongArrows}
 use Rattle.wac_aggregator_narrowing.proofs.Adding.{last_at}
 use Rattle.wac_aggregator_narrowing.proofs.Entering.{interface_parts, interface_named}
 use Rattle.wac_aggregator_narrowing.proofs.Mapped.{taken_at}

@@ -21,7 +21,7 @@ use Rattle.wac_aggregator_promises.specs.Attempt.{Attempt, IsSource, Touches}
 use Rattle.wac_names.specs.Class.{class_of}
 use Rattle.wac_aggregator_narrowing.specs.Entering.{AddsEntry, InterfaceIsTaken}
 use Rattle.wac_aggregator_narrowing.specs.Last.{last_key}
-use Rattle.wac_aggregator_narrowing.specs.Laws.{LeadsAlongArrows}
+use Rattle.wac_aggregator_narrowing.specs.Traced.{LeadsAlongArrows}
 use Rattle.wac_aggregator_narrowing.specs.Narrows.{AddsShared, CanGrow, grown}
 use Rattle.wac_component.specs.Replacing.{NamesReach}
 use Rattle.wac_aggregator_promises.specs.Reason.{IsReason, cycle}

@@ -49,10 +49,9 @@ use Rattle.wac_aggregator_narrowing.proofs.Steps.{IsGoodStep-refl, IsGoodStep-tr
 use Rattle.wac_names.specs.Class.{Class, class_of}
 use Rattle.wac_aggregator_promises.specs.Attempt.{Attempt}
 use Rattle.wac_aggregator_promises.specs.WitList.{IsLeafItem}
-use Rattle.wac_aggregator_narrowing.specs.Laws.{LeadsAlongArrows}
 use Rattle.wac_aggregator_narrowing.specs.Remembers.{RemembersTruly}
 use Rattle.wac_aggregator_narrowing.specs.State.{State, IsStateKept}
-use Rattle.wac_aggregator_narrowing.specs.Traced.{Root, Arrows}
+use Rattle.wac_aggregator_narrowing.specs.Traced.{Root, Arrows, LeadsAlongArrows}
 use Rattle.wac_aggregator_narrowing.proofs.Remembered.{RemembersTruly-step}
 use Rattle.wac_aggregator_narrowing.proofs.Running.{RunsTaking-step}
 use Rattle.wac_aggregator_narrowing.proofs.Tracing.{along_added}

@@ -12,9 +12,8 @@ use Rattle.wac_merge.specs.Items.{ExternKinds}
 use Rattle.wac_names.specs.Class.{class_of}
 use Rattle.wac_aggregator_promises.specs.Shared.{TakenIds}
 use Rattle.wac_aggregator_narrowing.specs.Apart.{IsGood}
-use Rattle.wac_aggregator_narrowing.specs.Laws.{IsArrowed, LeadsAlongArrows}
 use Rattle.wac_aggregator_narrowing.specs.Narrows.{grown}
-use Rattle.wac_aggregator_narrowing.specs.Traced.{Root, Arrows, here}
+use Rattle.wac_aggregator_narrowing.specs.Traced.{Root, Arrows, here, IsArrowed, LeadsAlongArrows}
 use Rattle.wac_aggregator_narrowing.proofs.Entering.{interface_named}
 use Rattle.wac_aggregator_narrowing.proofs.Tracing.{traced_added, traced_grown, cycle_reason}
 use Rattle.wac_aggregator_taking.specs.Growing.{AreMetWith}

@@ -41,7 +41,7 @@ use Rattle.wac_aggregator_promises.proofs.Read.{exports_of_entry, lookup_contain
 use Rattle.wac_aggregator_promises.proofs.TakenIn.{sharing_goes_on}
 use Rattle.wac_aggregator_promises.proofs.WitReasons.{clashing_exports}
 use Rattle.wac_aggregator_memo.specs.declared.memo.Memo.{Memo}
-use Rattle.wac_aggregator_narrowing.specs.Laws.{IsArrowed}
+use Rattle.wac_aggregator_narrowing.specs.Traced.{IsArrowed}
 use Rattle.wac_aggregator_narrowing.specs.Narrows.{grown}
 use Rattle.wac_aggregator_errors.specs.declared.error.AggregateError.{AggregateError}
 use Rattle.wac_aggregator_errors.specs.declared.error.AggregateError.TheVariants.{Memory}

@@ -22,7 +22,7 @@ use Rattle.wac_names.specs.Class.{Class, class_of}
 use Rattle.wac_aggregator_promises.specs.Entries.{ReachesByUses, stay}
 use Rattle.wac_aggregator_promises.specs.Shared.{TakenIds, AreShared, IsUseOf}
 use Rattle.wac_aggregator_promises.specs.WitList.{IsLeafItem}
-use Rattle.wac_aggregator_narrowing.specs.Laws.{IsArrowed}
+use Rattle.wac_aggregator_narrowing.specs.Traced.{IsArrowed}
 use Rattle.wac_aggregator_narrowing.specs.State.{State, IsOneWith}
 use Rattle.wac_aggregator_narrowing.specs.Taking.{AreMapped, none, one, IsTakenItem}
 use Rattle.wac_aggregator_taking.specs.Members.{HasTakenIn, HasAllOf, AreMore, TakesMembers, roots_of}

@@ -36,9 +36,8 @@ use Rattle.wac_aggregator_promises.proofs.Members.{not_without}
 use Rattle.wac_aggregator_promises.proofs.Read.{exports_of_entry, lookup_contains}
 use Rattle.wac_aggregator_promises.proofs.TakenIn.{sharing_goes_on}
 use Rattle.wac_aggregator_narrowing.specs.Last.{last_key}
-use Rattle.wac_aggregator_narrowing.specs.Laws.{IsArrowed}
 use Rattle.wac_aggregator_narrowing.specs.Narrows.{AddsShared}
-use Rattle.wac_aggregator_narrowing.specs.Traced.{here}
+use Rattle.wac_aggregator_narrowing.specs.Traced.{here, IsArrowed}
 use Rattle.wac_aggregator_narrowing.proofs.Adding.{last_at}
 use Rattle.wac_aggregator_narrowing.proofs.Entering.{interface_named}
 use Rattle.wac_aggregator_reasons.proofs.Moving.{identifier_is}

@@ -19,8 +19,7 @@ use Rattle.wac_aggregator_promises.proofs.TakenIn.{sharing_goes_on}
 use Rattle.wac_aggregator_memo.specs.Memo.{memo_of}
 use Rattle.wac_aggregator_narrowing.specs.State.{IsOneWith, IsStateKept, RunsTaking}
 use Rattle.wac_aggregator_narrowing.specs.Remembers.{RemembersTruly}
-use Rattle.wac_aggregator_narrowing.specs.Laws.{IsArrowed}
-use Rattle.wac_aggregator_narrowing.specs.Traced.{Arrows}
+use Rattle.wac_aggregator_narrowing.specs.Traced.{Arrows, IsArrowed}
 use Rattle.wac_aggregator_narrowing.proofs.Tracing.{traced_added}
 use Rattle.wac_aggregator_reasons.proofs.Moving.{identifier_is}
 use Rattle.wac_aggregator_errors.specs.declared.error.AggregateError.{AggregateError}

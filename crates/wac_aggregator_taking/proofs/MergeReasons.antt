@@ -10,9 +10,8 @@ use Rattle.wac_aggregator_promises.specs.Attempt.{Attempt, IsSource, Touches}
 use Rattle.wac_aggregator_promises.specs.Reason.{CallRefusal, IsImportedOrTouches, IsReason, mismatch, used_interface, used_name}
 use Rattle.wac_names.specs.Class.{Class, class_of}
 use Rattle.wac_aggregator_narrowing.specs.Apart.{IsGood}
-use Rattle.wac_aggregator_narrowing.specs.Laws.{LeadsAlongArrows}
 use Rattle.wac_aggregator_narrowing.specs.State.{State, IsStateKept}
-use Rattle.wac_aggregator_narrowing.specs.Traced.{Root, Arrows}
+use Rattle.wac_aggregator_narrowing.specs.Traced.{Root, Arrows, LeadsAlongArrows}
 use Rattle.wac_aggregator_narrowing.proofs.Tracing.{built_along}
 use Rattle.wac_aggregator_reasons.specs.Sourced.{IsSourced}
 use Rattle.wac_aggregator_reasons.specs.Split.{IsOpenKey}

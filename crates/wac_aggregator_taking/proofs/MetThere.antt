@@ -13,7 +13,7 @@ use Rattle.wac_component.proofs.Among.{Contains-first, each_found}
 use Rattle.wac_merge.specs.Reads.{exports_at}
 use Rattle.wac_aggregator_errors.specs.declared.error.AggregateError.{AggregateError}
 use Rattle.wac_aggregator_narrowing.specs.Identified.{IsCovered}
-use Rattle.wac_aggregator_narrowing.specs.Laws.{LeadsAlongArrows}
+use Rattle.wac_aggregator_narrowing.specs.Traced.{LeadsAlongArrows}
 use Rattle.wac_aggregator_taking.specs.Growing.{IsMetThere, IsOwnMeet}
 use Rattle.wac_aggregator_taking.specs.Refused.{IsMergeRefusal, IsRefusedThere}
 use Rattle.wac_aggregator_taking.proofs.GrowLemmas.{met_put}

@@ -23,7 +23,7 @@ use Rattle.wac_component.proofs.Walks.{no_walk_returns}
 use Rattle.wac_core_merge.specs.Names.{is_new, with_new}
 use Rattle.wac_merge.specs.Items.{ExternKinds, extern_keys}
 use Rattle.wac_aggregator_narrowing.specs.Identified.{IsCovered}
-use Rattle.wac_aggregator_narrowing.specs.Laws.{LeadsAlongArrows}
+use Rattle.wac_aggregator_narrowing.specs.Traced.{LeadsAlongArrows}
 use Rattle.wac_aggregator_narrowing.specs.Narrows.{grown}
 use Rattle.wac_aggregator_reasons.proofs.Accounts.{accounted_none, none_roots}
 use Rattle.wac_aggregator_taking.specs.Growing.{AreMetWith, with_own}

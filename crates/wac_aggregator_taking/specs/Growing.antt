@@ -26,9 +26,8 @@ use Rattle.wac_merge.specs.Reads.{exports_at}
 use Rattle.wac_names.specs.Class.{Class}
 use Rattle.wac_aggregator_promises.specs.Attempt.{Attempt}
 use Rattle.wac_aggregator_narrowing.specs.Apart.{IsGood}
-use Rattle.wac_aggregator_narrowing.specs.Laws.{LeadsAlongArrows}
 use Rattle.wac_aggregator_narrowing.specs.State.{State, IsStateKept}
-use Rattle.wac_aggregator_narrowing.specs.Traced.{Root}
+use Rattle.wac_aggregator_narrowing.specs.Traced.{Root, LeadsAlongArrows}
 use Rattle.wac_aggregator_reasons.specs.Trial.{IsAccounted, IsOpenItem, AreOpenItems, StaysAccounted}
 use Rattle.wac_aggregator_narrowing.specs.Identified.{IsCovered}
 use Rattle.wac_aggregator_narrowing.specs.Narrows.{IsGoodStep, grown}

@@ -11,9 +11,8 @@ use Rattle.wac_aggregator_promises.specs.Reason.{CallRefusal, mismatch, used_int
 use Rattle.wac_aggregator_promises.specs.Shared.{TakenIds, SharedEntries, AreShared, CannotTake}
 use Rattle.wac_aggregator_promises.specs.WitList.{AreWit}
 use Rattle.wac_aggregator_memo.specs.Memo.{memo_of}
-use Rattle.wac_aggregator_narrowing.specs.Laws.{IsArrowed}
 use Rattle.wac_aggregator_narrowing.specs.State.{IsOneWith}
-use Rattle.wac_aggregator_narrowing.specs.Traced.{Root, Arrows}
+use Rattle.wac_aggregator_narrowing.specs.Traced.{Root, Arrows, IsArrowed}
 use Rattle.wac_aggregator_errors.specs.declared.error.AggregateError.{AggregateError}
 use Rattle.wac_aggregator_errors.specs.Said.{said}
 use Rattle.wac_aggregator_taking.specs.Takes.{shared_in, shared_keys}

@@ -15,6 +15,7 @@ ghost use Rattle.wac_aggregator_taking.specs.Takes.{TakesOwners, TakesBelow, Imp
 use super::state::Merging;
 use super::steps::{TakeStep, push_before, push_step};
 use std::alloc::AllocError;
+use wac_aggregator_alike::owner_of;
 use wac_aggregator_errors::AggregateError;
 use wac_component::{InterfaceId, ItemKind, ResourceAlias, ResourceId, Types};
 use wac_names::NameClass;
@@ -25,15 +26,6 @@ pub(crate) fn alias_of(types: &Types, id: ResourceId) -> Option<ResourceAlias>
     ensures { option_map alias_content result ≡ alias_at types.now id }
 {
     types[id].alias
-}
-
-// The owner of a resource, if it has one.
-pub(crate) fn owner_of(types: &Types, id: ResourceId) -> Option<InterfaceId>
-    requires { Stands types.now (resource_key id) }
-    ensures owner { result ≡ owner_at types.now id }
-    ensures stands { IfSome result (λ o. Stands types.now (interface_key o)) }
-{
-    types[id].alias?.owner
 }
 
 // The resource at an index of a list.

@@ -1,5 +1,5 @@
 use Rattle.wac_aggregator_promises.proofs.WitReasons.{compatible_accepted}
-use Rattle.wac_aggregator_promises.proofs.laws.compatible_lists_are_accepted.Goals as goal
+use Rattle.wac_aggregator_promises.proofs.laws.compatible_lists_have_no_wit_reason.Goals as goal
 
 pub returns : goal.returns
 returns c = compatible_accepted
