@@ -44,7 +44,7 @@ world_exports : (P : Key → Type 0) (w : WorldContent) → Each P (entry_keys (
 world_exports P w = Each-right P (named_keys use_keys w.uses ++ named_keys item_keys w.imports) (named_keys item_keys w.exports)
 
 module _ (c d : Collection) (o : Origins) (s : IsSound c) (only : OnlyBuilds c d o) where
-  -- an added entry has no entry_identifier
+  -- an added entry has no identifier
   from_unidentified : (a b e : Entry) → IsEntryFrom c d o a b e → entry_identifier e ≡ None
   from_unidentified _ _ _ (of_interfaces h) = h.no_identifier
   from_unidentified _ _ _ (of_worlds h) = refl

@@ -56,7 +56,7 @@ module _ {T : Type 0} (track : Text → T) (f : Collection) (s : State) (kept : 
       then : RunsTaking (RemembersTruly track) f u (record u { taken = t.taken })
       then = RunsTaking-take (RemembersTruly track) f u t.taken theirs own adds (λ h. (remembered.stands_for.own_stands, covered)) (λ h g one k. RemembersTruly-take track f g u t.taken theirs own one number adds remembered closed k)
 
-  -- an entry without entry_identifier
+  -- an entry without identifier
   pub plain_enters : (t : State) (theirs : Key) (z : Entry) → MayEnter track f s theirs z → AddsEntry f s t theirs z → t.shared ≡ s.shared → IsEntered track f s t theirs (last_key s.own z)
   plain_enters t theirs z may adds same_shared =
       entered (with_entry s.own z) s.shared t theirs (last_key s.own z) (adding_steps s.own s.shared z kept.good may.named may.apart) adds.own same_shared adds.imports adds.copies adds.number adds.remembers
@@ -64,7 +64,7 @@ module _ {T : Type 0} (track : Text → T) (f : Collection) (s : State) (kept : 
       (added_covered s.own s.shared z (last_key s.own z) (last_at s.own z) kept.good may.named may.plain (taken_each track f s (IsCovered s.own s.shared) (λ i j k. k.covered) (open_next f theirs) (other_keys z) may.parts))
       (λ u n w is. let r = closed_by_taken track f s theirs (other_keys z) may.theirs_plain may.parts u n w is in (r.0, adds.remembers.kept u r.0 r.1))
 
-  -- an interface with an entry_identifier, of parts that were taken in,
+  -- an interface with an identifier, of parts that were taken in,
   -- is closed once it is remembered
   closed_shared : (now : Remembered) (theirs own : Key) (js : List Key) → AddsPair s.taken now theirs own → AreTakenKeys track f s (open_next f theirs) js → IsClosedIn f now theirs
   closed_shared now theirs own js adds parts = closed_by_parts f now theirs (λ n is. (own, adds.is))

@@ -44,7 +44,7 @@ says_same f c sf sc theirs z st named (says.same_module {p = p} {x = x} at) =
     same_module f (with_entry c (module_entry x)) p (record { number = c.number; index = length c.modules })
     (module_tree-with_module c x (length c.modules) (record { number = c.number; index = length c.modules }) refl refl ∙ sym (module_tree-entry f p x at))
 
--- such entries import nothing, have no entry_identifier, and use nothing
+-- such entries import nothing, have no identifier, and use nothing
 record IsLeafAdded (f c : Collection) (theirs : Key) (z : Entry) : Type 0 where
   pub sort : (last_key c z).sort ≡ theirs.sort
   pub plain : entry_identifier z ≡ None

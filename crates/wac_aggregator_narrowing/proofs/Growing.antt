@@ -90,7 +90,7 @@ module _ (c : Collection) (ss : List Key) (e : Id) (old new : InterfaceContent) 
           let sk = stood k st in
           subst (λ (ks : List Key). AreKeysApart (grown c e new) ss ks) (sym (ap (optional_keys import_keys) (entry_other k sk ne))) (all_apart_on (import_next c k) (imports_stand c g.sound k sk) (g.isolated k sk))
 
-  -- each entry keeps its entry_identifier
+  -- each entry keeps its identifier
   pub identifier_grown : (k : Key) → Stands c k → identifier_at (grown c e new) k ≡ identifier_at c k
   identifier_grown k st = by_key (Key-discrete k (interface_key e))
     where

@@ -172,7 +172,7 @@ module _ {T : Type 0} (track : Text → T) (f : Collection) (s : State) where
   closed_by_taken theirs js plain parts =
       closed_by_parts f s.taken theirs (λ n is. let both : None ≡ Some n = sym plain ∙ is in absurd (cc)) (λ i m. (taken_of (open_next f theirs) js i parts m).2.closed)
 
-  -- a new entry without entry_identifier, whose ids are those of the
+  -- a new entry without identifier, whose ids are those of the
   -- foreign entry, taken in one by one
   pub plain_taken : (d : Collection) (theirs own : Key) (z : Entry) → IsSound s.own → Extends s.own d → entry_at d own ≡ Some z → StandsFor f d theirs own
       → (IsQuiet f theirs → (k : Kind) → item_tree d (entry_item k own) ≡ item_tree f (entry_item k theirs))

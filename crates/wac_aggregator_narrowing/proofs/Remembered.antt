@@ -169,7 +169,7 @@ module _ {T : Type 0} (track : Text → T) where
   pub openly_step : (f : Collection) (k j : Key) (on : T) → IsAmong j (open_next f k) → OpenlyOn track f j on → OpenlyOn track f k on
   openly_step f k j on m h = record { at = h.at; name = h.name; walk = step m h.walk; identified = h.identified; on_track = h.on_track }
 
-  -- an entry of its own, without an entry_identifier, whose parts stand for parts of the id
+  -- an entry of its own, without an identifier, whose parts stand for parts of the id
   pub plain_remembered : (f c d : Collection) (ss ts : List Key) (theirs own : Key) (z : Entry) → IsSound c → Extends c d → entry_at d own ≡ Some z
       → StandsFor f d theirs own → (IsQuiet f theirs → (k : Kind) → item_tree d (entry_item k own) ≡ item_tree f (entry_item k theirs))
       → identifier_at f theirs ≡ None → entry_identifier z ≡ None → use_names z ≡ use_names_at f theirs

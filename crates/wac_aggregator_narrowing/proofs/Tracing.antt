@@ -83,7 +83,7 @@ module _ {T : Type 0} (track : Text → T) (Leads : T → T → Type 0) where
     own_name n is = sym (ap (λ o. option_map_or entry_identifier o None) last.at) ∙ is
 
     module _ (ts : List Key) (adds : AddsShared ss ts k) (name : Text) (own_is : e.id ≡ Some name) (h : IsTraced track c ss Leads) (parts : (j : Key) → IsAmong j (interface_keys e) → LeadsAlong track c ss Leads (track name) j) where
-      -- a shared entry of d is the new one, or one of c with its entry_identifier
+      -- a shared entry of d is the new one, or one of c with its identifier
       known : (t : Key) (n : Text) → IsSharedAs d ts t n → ((t ≡ k) × (n ≡ name)) ⊎ IsSharedAs c ss t n
       known t n h = elim (adds.only t h.0) [
         | inl same ↦ inl (same, let both : Some n ≡ Some name = sym (own_name n (subst (λ (x : Key). identifier_at d x ≡ Some n) same h.1)) ∙ own_is in cc)

@@ -44,7 +44,7 @@ pub record AddsCopy (f : Collection) (s t : State) (theirs : Key) (z : Entry) : 
   pub number : theirs.id.number ≡ f.number
   pub remembers : AddsPair s.copies t.copies theirs (last_key s.own z)
 
--- an entry without entry_identifier may enter for a foreign one: it uses the same names, and
+-- an entry without identifier may enter for a foreign one: it uses the same names, and
 -- all that it names was taken in
 pub record MayEnter {T : Type 0} (track : Text → T) (f : Collection) (s : State) (theirs : Key) (z : Entry) : Type 0 where
   pub plain : entry_identifier z ≡ None
