@@ -203,8 +203,8 @@ module _ (front : List Call) (call : Call) (imports : ImportTrees) (wit : IsWitL
   no_reason (taken n) r = not_taken n r
   no_reason (cycle n) r = no_cycle n r
 
-pub compatible_accepted : CompatibleListsHaveNoWitReason
-compatible_accepted front call imports why wit sound compatible meets r = no_reason front call imports wit sound compatible meets why r
+pub compatible_no_reason : CompatibleListsHaveNoWitReason
+compatible_no_reason front call imports why wit sound compatible meets r = no_reason front call imports wit sound compatible meets why r
 
 pub clashing_exports : ClashingExportsHaveNoBound
 clashing_exports c d i j n x y s r st tt' e f none b p q =
