@@ -1,6 +1,6 @@
 //! What an id names that an aggregator gave out, after calls that merge more into its import.
 
-ghost use Rattle.std.specs.Prelude.{◌≡◌, ◌≢◌, IfOk};
+ghost use Rattle.std.specs.Prelude.{◌≢◌, IfOk};
 ghost use Rattle.wac_types.specs.Aggregator.{state_in};
 ghost use Rattle.wac_types.specs.Class.{class_of};
 ghost use Rattle.wac_types.specs.Remembers.{RemembersTruly};
@@ -23,8 +23,18 @@ iface x:y/svc@1.1.0 e:b=F:fn0
 iface x:y/svc@1.2.0 e:c=F:fn0
 iface x:y/svc@1.3.0 e:d=F:fn0";
 
-// What an aggregator makes of one more call: an instance of the interface at an index of the
-// collection that all its calls are of.
+// An aggregator without imports, for calls of items of this collection.
+fn nothing(alloc: Global, types: &Types) -> Result<TypeAggregator, Fail>
+    ensures apart { IfOk result (λ a. types.now.number ≢ a.types.number) }
+    ensures remembered { IfOk result (λ a. RemembersTruly class_of types.now (state_in a)) }
+{
+    if types.number() == 9 {
+        return Err(Fail::new("two collections have one number"));
+    }
+    Ok(TypeAggregator::new(alloc, 9))
+}
+
+// What an aggregator makes of one more call: an instance of the interface at an index.
 fn and_one(
     before: TypeAggregator,
     name: &str,
@@ -34,7 +44,7 @@ fn and_one(
 ) -> Result<TypeAggregator, Fail>
     requires apart { types.now.number ≢ before.types.number }
     requires remembered { RemembersTruly class_of types.now (state_in before) }
-    ensures number { IfOk result (λ a. a.types.number ≡ before.types.number) }
+    ensures apart { IfOk result (λ a. types.now.number ≢ a.types.number) }
     ensures remembered { IfOk result (λ a. RemembersTruly class_of types.now (state_in a)) }
 {
     let kind = ItemKind::Instance(interface(types, index)?);
@@ -54,7 +64,7 @@ fn and_three(
 ) -> Result<TypeAggregator, Fail>
     requires apart { types.now.number ≢ before.types.number }
     requires remembered { RemembersTruly class_of types.now (state_in before) }
-    ensures number { IfOk result (λ a. a.types.number ≡ before.types.number) }
+    ensures apart { IfOk result (λ a. types.now.number ≢ a.types.number) }
     ensures remembered { IfOk result (λ a. RemembersTruly class_of types.now (state_in a)) }
 {
     let merged = and_one(before, name, types, first, checker)?;
@@ -90,12 +100,9 @@ fn exports_functions(merged: &TypeAggregator, id: InterfaceId, names: &[&str]) -
 #[test]
 fn an_import_without_identifier_becomes_another_entry(rt: HostRuntime) -> Result<(), Fail> {
     let types = built(rt.alloc(), 1, SINGLES)?;
-    if types.number() == 9 {
-        return Err(Fail::new("two collections have one number"));
-    }
     let mut cache = HashSet::new(rt.alloc());
     let mut checker = SubtypeChecker::new(&mut cache);
-    let none = TypeAggregator::new(rt.alloc(), 9);
+    let none = nothing(rt.alloc(), &types)?;
     let three = and_three(none, "svc", &types, 0, &mut checker)?;
     let given = imported(&three)?;
     assert!(&rt; exports_functions(&three, given, &["a", "b", "c"]));
@@ -109,12 +116,9 @@ fn an_import_without_identifier_becomes_another_entry(rt: HostRuntime) -> Result
 #[test]
 fn an_import_with_an_identifier_grows_in_place(rt: HostRuntime) -> Result<(), Fail> {
     let types = built(rt.alloc(), 1, SINGLES)?;
-    if types.number() == 9 {
-        return Err(Fail::new("two collections have one number"));
-    }
     let mut cache = HashSet::new(rt.alloc());
     let mut checker = SubtypeChecker::new(&mut cache);
-    let none = TypeAggregator::new(rt.alloc(), 9);
+    let none = nothing(rt.alloc(), &types)?;
     let three = and_three(none, "x:y/svc@1.0.0", &types, 4, &mut checker)?;
     let given = imported(&three)?;
     assert!(&rt; exports_functions(&three, given, &["a", "b", "c"]));
@@ -151,12 +155,9 @@ fn fits_import(
 #[test]
 fn a_pair_of_an_import_that_grew_is_compared_again(rt: HostRuntime) -> Result<(), Fail> {
     let types = built(rt.alloc(), 1, SINGLES)?;
-    if types.number() == 9 {
-        return Err(Fail::new("two collections have one number"));
-    }
     let mut cache = HashSet::new(rt.alloc());
     let mut checker = SubtypeChecker::new(&mut cache);
-    let none = TypeAggregator::new(rt.alloc(), 9);
+    let none = nothing(rt.alloc(), &types)?;
     let one = and_one(none, "x:y/svc@1.0.0", &types, 4, &mut checker)?;
     let given = imported(&one)?;
     assert!(&rt; fits_import(rt.alloc(), &types, 4, &one, given, &mut checker)?);
