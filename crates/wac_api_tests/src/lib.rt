@@ -5,6 +5,8 @@
 #[cfg(test)]
 mod aggregated;
 #[cfg(test)]
+mod callers;
+#[cfg(test)]
 mod collections;
 #[cfg(test)]
 mod endings;

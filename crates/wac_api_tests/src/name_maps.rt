@@ -5,8 +5,7 @@ use std::alloc::Global;
 use std::cmp::Ordering;
 use std::process::Abort;
 use std::test::Fail;
-use wac_script_session::{Countdown, Numbers};
-use wac_types::{NameError, NameMap, NameMapIntern, version_cmp};
+use wac_types::{Countdown, NameError, NameMap, NameMapIntern, Numbers, version_cmp};
 
 type Map = NameMap<usize, u32>;
 

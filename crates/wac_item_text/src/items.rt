@@ -65,18 +65,32 @@ fn push_item(rest: &mut Rest<'_>, types: &Types, item: ItemKind) -> Result<(), A
 {
     rest.push_text(")")?;
     rest.push_type(types, item.ty())?;
-    rest.push_text(sort_word(item))
+    rest.push_text(sort_word(types, item))
 }
 
-// The word of an item's sort, and a parenthesis.
-fn sort_word(item: ItemKind) -> &'static str {
+// The word of an item's sort, and a parenthesis; of the type of a core module that is empty, which
+// would else be written as that of a world is, what it is too.
+fn sort_word(types: &Types, item: ItemKind) -> &'static str
+    requires { AllStand types.now (item_keys item) }
+{
     match item {
+        ItemKind::Type(ty) if is_empty_module(types, ty) => "Type(module ",
         ItemKind::Type(_) => "Type(",
         ItemKind::Func(_) => "Func(",
         ItemKind::Instance(_) => "Instance(",
         ItemKind::Component(_) => "Component(",
         ItemKind::Module(_) => "Module(",
         ItemKind::Value(_) => "Value(",
+    }
+}
+
+// Whether a type is that of a core module which imports and exports nothing.
+fn is_empty_module(types: &Types, ty: Type) -> bool
+    requires { AllStand types.now (type_keys ty) }
+{
+    match ty {
+        Type::Module(id) => types[id].imports.is_empty() && types[id].exports.is_empty(),
+        _ => false,
     }
 }
 

@@ -11,7 +11,7 @@
 //! | a function | `func(NAME=VALUE,..)` or `async(..)`, then `->VALUE` if there is a result |
 //! | an interface | `{NAME=ITEM;..}`, in the order of the names' bytes |
 //! | a world | `imports{NAME=ITEM;..}exports{NAME=ITEM;..}`, each in this order |
-//! | a core module | `imports{MODULE,NAME=EXTERN;..}exports{NAME=EXTERN;..}`, each in this order |
+//! | a core module | `imports{MODULE,NAME=EXTERN;..}exports{NAME=EXTERN;..}`, each in this order; as a type, where both are empty, `module imports{}exports{}`, apart from a world |
 //! | a value type | the name of a primitive type, `own<NAME>`, `borrow<NAME>`, `tuple<VALUE,..>`, `list<VALUE>`, `list<VALUE;SIZE>`, `map<VALUE,VALUE>`, `option<VALUE>`, `result<VALUE\|_,VALUE\|_>`, `variant{NAME=VALUE\|NAME,..}`, `record{NAME=VALUE,..}`, `flags{NAME,..}`, `enum{NAME,..}`, `stream<VALUE\|_>`, `future<VALUE\|_>` |
 //! | a core extern | the word that writes it in a script |
 #![tactic(auto)]

@@ -1,7 +1,6 @@
 //! What a script has built so far, and the answers to its queries.
 //!
 //! A [`Session`] carries out one command after the other, as they are read by `wac_script_syntax`.
-//! [`Numbers`] and [`Countdown`] number texts, for maps of names.
 //!
 //! | Query | Answer |
 //! |---|---|
@@ -40,7 +39,6 @@ mod comparisons;
 mod core_externs;
 mod growth;
 mod imports;
-mod interners;
 mod kinds;
 mod lines;
 mod name_maps;
@@ -52,5 +50,4 @@ mod targets;
 mod visits;
 
 pub use aggregates::HandedCalls;
-pub use interners::{Countdown, Numbers};
 pub use session::Session;

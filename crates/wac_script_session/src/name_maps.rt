@@ -2,10 +2,10 @@
 
 ghost use Rattle.std.specs.Prelude.{◌≡◌, true};
 
-use super::interners::Numbers;
 use std::alloc::{AllocError, Global};
 use std::hash::Hash;
 use std::mem;
+use wac_interners::Numbers;
 use wac_names::{NameError, NameMap, NameMapIntern, NameMapNoIntern};
 use wac_script_syntax::{ScriptError, push_name, read_name, read_number, split_named, unexpected};
 

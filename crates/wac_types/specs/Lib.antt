@@ -76,6 +76,8 @@ pub use Rattle.wac_names.specs.Pairs
 pub use Rattle.wac_names.specs.Placing
 pub use Rattle.wac_names.specs.Lends
 pub use Rattle.wac_names.specs.NameErrorText
+pub use Rattle.wac_interners.specs.Places as InternedPlaces
+pub use Rattle.wac_interners.specs.PlaceLaws as InternedPlaceLaws
 -- lists of calls
 pub use Rattle.wac_aggregator_promises.specs.Call
 pub use Rattle.wac_aggregator_promises.specs.Entries as CalledEntries

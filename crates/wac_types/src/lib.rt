@@ -18,6 +18,7 @@ pub use wac_core::{
     CoreExtern, CoreFuncType, CoreRefType, CoreType, HeapType, ModuleType, has_valid_limits,
 };
 pub use wac_core_merge::{join_externs, join_modules, meet_externs, meet_modules};
+pub use wac_interners::{Countdown, Numbers};
 pub use wac_merge::{join, meet};
 pub use wac_mismatch::{
     CoreField, CountOf, Fault, Frame, NameOf, Path, ResultPart, SubtypeCheck, SubtypeError,

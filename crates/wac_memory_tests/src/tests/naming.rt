@@ -4,8 +4,7 @@
 use super::cases::{Case, Tried, try_each};
 use super::cloning::clone;
 use super::trial::Trial;
-use wac_script_session::Numbers;
-use wac_types::{NameError, NameMap, NameMapIntern};
+use wac_types::{NameError, NameMap, NameMapIntern, Numbers};
 
 type Map = NameMap<usize, u32>;
 

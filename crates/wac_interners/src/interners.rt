@@ -4,8 +4,8 @@ ghost use Rattle.std.specs.Prelude.{◌≡◌, ℕ, false, [], Some, IfOk, is_so
 ghost use Rattle.std.specs.List.{list_any};
 ghost use Rattle.std.specs.Str.{bytes_eq};
 ghost use Rattle.wac_model.specs.Text.{Text};
-ghost use Rattle.wac_script_session.specs.Places.{AddsAt, counts_down_to, is_place, text_place};
-ghost use Rattle.wac_script_session.specs.PlaceLaws.{countdown_lawful, numbers_lawful};
+ghost use Rattle.wac_interners.specs.Places.{AddsAt, counts_down_to, is_place, text_place};
+ghost use Rattle.wac_interners.specs.PlaceLaws.{countdown_lawful, numbers_lawful};
 
 use indexmap::IndexSet;
 use std::alloc::{AllocError, Global};

@@ -6,7 +6,7 @@ use Rattle.std.specs.Cmp.Lexicographic.{bytes_decides}
 use Rattle.std.specs.Str.{bytes_eq}
 use Rattle.std.specs.String.{string_bytes}
 use Rattle.wac_names.specs.Interner.{IsLawful}
-use Rattle.wac_script_session.specs.Places.{counts_down_to, is_place, text_place}
+use Rattle.wac_interners.specs.Places.{counts_down_to, is_place, text_place}
 
 place_is : (o : Option ℕ) (key : ℕ) → is_place o key ≡ true → o ≡ Some key
 place_is None key e = cc e

@@ -1,6 +1,6 @@
 use Rattle.std.proofs.Common.{◌≡◌, sym, ◌∙◌, ap, is_some, Some, length, rules}
-use Rattle.wac_script_session.proofs.Adding.{adds_new, place_new, put_last}
-use Rattle.wac_script_session.proofs.interners.Texts.place_or_add.Goals as goal
+use Rattle.wac_interners.proofs.Adding.{adds_new, place_new, put_last}
+use Rattle.wac_interners.proofs.interners.Texts.place_or_add.Goals as goal
 
 pub returns-clause-place : goal.returns-clause-place
 returns-clause-place c =

@@ -8,7 +8,7 @@ use Rattle.std.specs.List.{list_any, position, position_or_len}
 use Rattle.std.specs.String.{string_eq}
 use Rattle.std.specs.Prelude.{nat_lt, not, string_bytes}
 use Rattle.std.specs.Str.{bytes_eq}
-use Rattle.wac_script_session.specs.Places.{AddsAt, text_place}
+use Rattle.wac_interners.specs.Places.{AddsAt, text_place}
 
 module _ {X : Type 0} (p : X → Bool) (xs : List X) (x : X) where
   longer : length (xs ++ x ∷ []) ≡ length xs + 1

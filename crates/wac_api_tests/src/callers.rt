@@ -1,0 +1,125 @@
+//! The callers that CALLING.md of `wac_types` quotes.
+
+use std::alloc::{AllocError, Global};
+use std::test::Fail;
+use wac_callers::building::{
+    EditError, add_client, add_getter, add_memory, add_service, change_client, change_getter,
+    change_memory, change_service,
+};
+use wac_callers::naming::{Bounded, find, offer};
+use wac_callers::registering::definition;
+use wac_callers::visiting::before_stream;
+use wac_types::{
+    DefinedType, Interface, ItemKind, ModuleError, NameError, NameMap, PrimitiveType, Type, Types,
+    ValueType, World,
+};
+
+// Whether an edit was done, unless an allocation failed.
+fn is_done(answer: Result<(), EditError>) -> Result<bool, AllocError> {
+    match answer {
+        Ok(()) => Ok(true),
+        Err(EditError::Memory) => Err(AllocError),
+        Err(_) => Ok(false),
+    }
+}
+
+// Whether a function, an interface and a world are replaced.
+fn replaces(alloc: Global, types: &mut Types) -> Result<bool, AllocError> {
+    let byte = ValueType::Primitive(PrimitiveType::U8);
+    let text = ValueType::Primitive(PrimitiveType::String);
+    let get = add_getter(alloc, types, byte)?;
+    let service = add_service(alloc, types, "get", get)?;
+    let client = add_client(alloc, types, "acme:lamp/light", service)?;
+    Ok(
+        is_done(change_getter(alloc, types, get, text))?
+            && is_done(change_service(alloc, types, service, "text", get))?
+            && is_done(change_client(alloc, types, client, "light", service))?
+            && types[service].exports.contains_key("text")
+            && types[client].imports.contains_key("light"),
+    )
+}
+
+#[test]
+fn entries_are_added_and_replaced(rt: HostRuntime) -> Result<(), Fail> {
+    let mut types = Types::new(rt.alloc(), 1);
+    assert!(&rt; replaces(rt.alloc(), &mut types)?);
+    Ok(())
+}
+
+// Whether a memory is refused that starts above its maximum, when it is added and when it replaces.
+fn keeps_limits(alloc: Global, types: &mut Types) -> Result<bool, AllocError> {
+    let is_refused = match add_memory(alloc, types, "memory", 2, 1) {
+        Ok(_) => false,
+        Err(ModuleError::Limits) => true,
+        Err(ModuleError::Memory) => return Err(AllocError),
+    };
+    let Ok(memory) = add_memory(alloc, types, "memory", 1, 2) else {
+        return Err(AllocError);
+    };
+    Ok(
+        is_refused
+            && !is_done(change_memory(alloc, types, memory, "memory", 3, 2))?
+            && is_done(change_memory(alloc, types, memory, "more", 1, 4))?
+            && types[memory].exports.contains_key("more"),
+    )
+}
+
+#[test]
+fn a_memory_starts_within_its_maximum(rt: HostRuntime) -> Result<(), Fail> {
+    let mut types = Types::new(rt.alloc(), 1);
+    assert!(&rt; keeps_limits(rt.alloc(), &mut types)?);
+    Ok(())
+}
+
+#[test]
+fn offers_are_found_by_track(rt: HostRuntime) -> Result<(), Fail> {
+    let mut offers = NameMap::new(rt.alloc());
+    let mut names = Bounded::new(4);
+    offer(&mut offers, &mut names, "acme:lamp/light@1.0.0", 10)?;
+    offer(&mut offers, &mut names, "acme:lamp/light@1.2.0", 12)?;
+    assert_eq!(&rt; find(&offers, &names, "acme:lamp/light@1.1.0")?, Some(12));
+    let refused = offer(&mut offers, &mut names, "acme:lamp/more", 1);
+    assert!(&rt; matches!(refused, Err(NameError::Memory)));
+    Ok(())
+}
+
+#[test]
+fn a_visitor_ends_a_visit(rt: HostRuntime) -> Result<(), Fail> {
+    let mut types = Types::new(rt.alloc(), 1);
+    let stream = types.add_defined_type(DefinedType::Stream(None))?;
+    let list = types.add_defined_type(DefinedType::List(ValueType::Defined(stream)))?;
+    let ty = Type::Value(ValueType::Defined(list));
+    assert_eq!(&rt; before_stream(&types, ty), Some(1));
+    Ok(())
+}
+
+// A world that exports one item.
+fn exporting(alloc: Global, name: &str, item: ItemKind) -> Result<World, AllocError> {
+    let mut world = World::new(alloc);
+    world.exports.insert(String::from_str(alloc, name)?, item)?;
+    Ok(world)
+}
+
+// What a package defines under `light`, which exports an empty interface there.
+fn light(alloc: Global, types: &mut Types) -> Result<Option<ItemKind>, AllocError> {
+    let service = types.add_interface(Interface::new(alloc))?;
+    let light = exporting(alloc, "acme:lamp/light@1.0.0", ItemKind::Instance(service))?;
+    if !types.can_add_world(&light) {
+        return Ok(None);
+    }
+    let light = types.add_world(light)?;
+    let lamp = exporting(alloc, "light", ItemKind::Type(Type::World(light)))?;
+    if !types.can_add_world(&lamp) {
+        return Ok(None);
+    }
+    let lamp = types.add_world(lamp)?;
+    definition(alloc, types, "acme:lamp", lamp, "light")
+}
+
+#[test]
+fn a_package_defines_an_interface(rt: HostRuntime) -> Result<(), Fail> {
+    let mut types = Types::new(rt.alloc(), 1);
+    let defined = light(rt.alloc(), &mut types)?;
+    assert!(&rt; matches!(defined, Some(ItemKind::Type(Type::Interface(_)))));
+    Ok(())
+}
