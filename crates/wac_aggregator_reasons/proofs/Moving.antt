@@ -82,6 +82,3 @@ module _ (P : Collection → Key → Type 0) where
       exports = λ t n y w is. let v = opens_was c d s x k t st w in old_export t n y (opens_stand c s k t st v) is (λ z g. h.exports t n z v g);
       uses = λ t n u w has. let v = opens_was c d s x k t st w in old_use t n u (opens_stand c s k t st v) has (λ z g. h.uses t n z v g);
     }
-
--- for more sources
-module _ (P Q : Collection → Key → Type 0) (more : (c : Collection) (k : Key) → P c k → Q c k) where
