@@ -1,9 +1,8 @@
 //! The owners of resources.
 
-ghost use Rattle.std.specs.Prelude.{◌≡◌, ◌<◌, [], ◌∷◌, None, Some, IfOk, IfErr, OnOk, IfSome, MatchResult, length, map, slice_get};
+ghost use Rattle.std.specs.Prelude.{◌≡◌, ◌<◌, [], ◌∷◌, None, Some, IfOk, IfErr, OnOk, MatchResult, length, map, slice_get};
 ghost use Rattle.std.specs.Option.{option_map};
 ghost use Rattle.wac_component.specs.Content.{alias_content};
-ghost use Rattle.wac_component.specs.Entries.{owner_at};
 ghost use Rattle.wac_component.specs.Key.{AllStand, Stands, interface_key, resource_key};
 ghost use Rattle.wac_component.specs.Reach.{IsAmong};
 ghost use Rattle.wac_aggregator_narrowing.specs.State.{IsStateKept};
