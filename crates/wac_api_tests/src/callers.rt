@@ -7,7 +7,7 @@ use wac_callers::building::{
     change_memory, change_service,
 };
 use wac_callers::naming::{Bounded, find, offer};
-use wac_callers::registering::definition;
+use wac_callers::registering::{definition, first_version};
 use wac_callers::visiting::before_stream;
 use wac_types::{
     DefinedType, Interface, ItemKind, ModuleError, NameError, NameMap, PrimitiveType, Type, Types,
@@ -113,7 +113,8 @@ fn light(alloc: Global, types: &mut Types) -> Result<Option<ItemKind>, AllocErro
         return Ok(None);
     }
     let lamp = types.add_world(lamp)?;
-    definition(alloc, types, "acme:lamp", lamp, "light")
+    let package = first_version(alloc, types, "acme:lamp", lamp)?;
+    Ok(definition(&package, "light"))
 }
 
 #[test]

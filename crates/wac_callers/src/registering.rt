@@ -1,32 +1,32 @@
 //! A caller of `Package::from_world`, and of its definitions.
 
-ghost use Rattle.std.specs.Prelude.{◌≡◌, List, IfOk, OnErr};
-ghost use Rattle.std.specs.Str.{bytes_eq};
+ghost use Rattle.std.specs.Prelude.{◌≡◌, IfOk, OnErr};
 ghost use Rattle.wac_types.specs.Definitions.{AreDefinitions};
 ghost use Rattle.wac_types.specs.Key.{Stands, world_key};
 ghost use Rattle.wac_types.specs.Package.{world_exports};
-ghost use Rattle.wac_types.specs.Text.{Text, lookup};
-ghost use Rattle.wac_types.specs.declared.ItemKind.{ItemKind};
 
 use semver::Version;
 use std::alloc::{AllocError, Global};
 use wac_types::{ItemKind, Package, Types, WorldId};
 
-/// What the first version of a package defines under a name: an interface or a world, as a type.
-/// The package's instances are added to the collection, as an interface.
-pub fn definition(
+/// The first version of a package, whose component has the type `world`. Its definitions are those
+/// among the world's exports, and the type of its instances is added to the collection.
+pub fn first_version(
     alloc: Global,
     types: &mut Types,
-    package: &str,
-    world: WorldId,
     name: &str,
-) -> Result<Option<ItemKind>, AllocError>
+    world: WorldId,
+) -> Result<Package, AllocError>
     requires { Stands types.old (world_key world) }
-    ensures defined { IfOk result (λ d. (ds : List (Text × ItemKind)) × AreDefinitions types.old (world_exports types.old world) ds × (d ≡ lookup bytes_eq ds name.now)) }
+    ensures definitions { IfOk result (λ p. AreDefinitions types.old (world_exports types.old world) p.definitions) }
     ensures err { OnErr result (types.new ≡ types.old) }
 {
     let version = Version::new(1, 0, 0);
     let bytes = Vec::new(alloc);
-    let package = Package::from_world(alloc, package, Some(&version), bytes, types, world)?;
-    Ok(package.definitions().get(name).copied())
+    Package::from_world(alloc, name, Some(&version), bytes, types, world)
+}
+
+/// What a package defines under a name: an interface or a world, as a type.
+pub fn definition(package: &Package, name: &str) -> Option<ItemKind> {
+    package.definitions().get(name).copied()
 }
