@@ -72,13 +72,24 @@ fn and_three(
     and_one(merged, name, types, first.saturating_add(2), checker)
 }
 
+// The interface of an instance.
+fn interface_of(kind: &ItemKind) -> Result<InterfaceId, Fail> {
+    match kind {
+        ItemKind::Instance(id) => Ok(*id),
+        _ => Err(Fail::new("the import isn't an instance")),
+    }
+}
+
 // The interface of the only import.
 fn imported(merged: &TypeAggregator) -> Result<InterfaceId, Fail> {
     let mut imports = merged.imports();
-    let (Some((_, ItemKind::Instance(id))), None) = (imports.next(), imports.next()) else {
-        return Err(Fail::new("there isn't one import, of an instance"));
+    let Some((_, kind)) = imports.next() else {
+        return Err(Fail::new("there is no import"));
     };
-    Ok(id)
+    if imports.next().is_some() {
+        return Err(Fail::new("there is more than one import"));
+    }
+    interface_of(&kind)
 }
 
 // Whether an interface of an aggregator exports functions of these names, in this order.
