@@ -23,51 +23,93 @@ fn is_done(answer: Result<(), EditError>) -> Result<bool, AllocError> {
     }
 }
 
-// Whether a function, an interface and a world are replaced.
-fn replaces(alloc: Global, types: &mut Types) -> Result<bool, AllocError> {
+// Whether a function is replaced.
+fn replaces_a_function(alloc: Global, types: &mut Types) -> Result<bool, AllocError> {
     let byte = ValueType::Primitive(PrimitiveType::U8);
     let text = ValueType::Primitive(PrimitiveType::String);
     let get = add_getter(alloc, types, byte)?;
+    if !is_done(change_getter(alloc, types, get, text))? || !types.contains(Type::Func(get)) {
+        return Ok(false);
+    }
+    Ok(types[get].result == Some(text))
+}
+
+// Whether an interface is replaced.
+fn replaces_an_interface(alloc: Global, types: &mut Types) -> Result<bool, AllocError> {
+    let get = add_getter(alloc, types, ValueType::Primitive(PrimitiveType::U8))?;
     let service = add_service(alloc, types, "get", get)?;
+    if !types.contains(Type::Func(get)) {
+        return Ok(false);
+    }
+    if !is_done(change_service(alloc, types, service, "text", get))? {
+        return Ok(false);
+    }
+    if !types.contains(Type::Interface(service)) {
+        return Ok(false);
+    }
+    Ok(types[service].exports.contains_key("text"))
+}
+
+// Whether a world is replaced.
+fn replaces_a_world(alloc: Global, types: &mut Types) -> Result<bool, AllocError> {
+    let service = types.add_interface(Interface::new(alloc))?;
     let client = add_client(alloc, types, "acme:lamp/light", service)?;
-    Ok(
-        is_done(change_getter(alloc, types, get, text))?
-            && is_done(change_service(alloc, types, service, "text", get))?
-            && is_done(change_client(alloc, types, client, "light", service))?
-            && types[service].exports.contains_key("text")
-            && types[client].imports.contains_key("light"),
-    )
+    if !types.contains(Type::Interface(service)) {
+        return Ok(false);
+    }
+    if !is_done(change_client(alloc, types, client, "light", service))? {
+        return Ok(false);
+    }
+    if !types.contains(Type::World(client)) {
+        return Ok(false);
+    }
+    Ok(types[client].imports.contains_key("light"))
 }
 
 #[test]
 fn entries_are_added_and_replaced(rt: HostRuntime) -> Result<(), Fail> {
     let mut types = Types::new(rt.alloc(), 1);
-    assert!(&rt; replaces(rt.alloc(), &mut types)?);
+    assert!(&rt; replaces_a_function(rt.alloc(), &mut types)?);
+    assert!(&rt; replaces_an_interface(rt.alloc(), &mut types)?);
+    assert!(&rt; replaces_a_world(rt.alloc(), &mut types)?);
     Ok(())
 }
 
-// Whether a memory is refused that starts above its maximum, when it is added and when it replaces.
+// Whether no memory is added that starts above its maximum.
 fn keeps_limits(alloc: Global, types: &mut Types) -> Result<bool, AllocError> {
-    let is_refused = match add_memory(alloc, types, "memory", 2, 1) {
-        Ok(_) => false,
-        Err(ModuleError::Limits) => true,
-        Err(ModuleError::Memory) => return Err(AllocError),
-    };
+    match add_memory(alloc, types, "memory", 2, 1) {
+        Ok(_) => Ok(false),
+        Err(ModuleError::Limits) => Ok(true),
+        Err(ModuleError::Memory) => Err(AllocError),
+    }
+}
+
+// Whether a memory is replaced by one that may grow further, and by none that starts above its
+// maximum.
+fn replaces_a_memory(alloc: Global, types: &mut Types) -> Result<bool, AllocError> {
     let Ok(memory) = add_memory(alloc, types, "memory", 1, 2) else {
         return Err(AllocError);
     };
-    Ok(
-        is_refused
-            && !is_done(change_memory(alloc, types, memory, "memory", 3, 2))?
-            && is_done(change_memory(alloc, types, memory, "more", 1, 4))?
-            && types[memory].exports.contains_key("more"),
-    )
+    if is_done(change_memory(alloc, types, memory, "memory", 3, 2))? {
+        return Ok(false);
+    }
+    if !types.contains(Type::Module(memory)) {
+        return Ok(false);
+    }
+    if !is_done(change_memory(alloc, types, memory, "more", 1, 4))? {
+        return Ok(false);
+    }
+    if !types.contains(Type::Module(memory)) {
+        return Ok(false);
+    }
+    Ok(types[memory].exports.contains_key("more"))
 }
 
 #[test]
 fn a_memory_starts_within_its_maximum(rt: HostRuntime) -> Result<(), Fail> {
     let mut types = Types::new(rt.alloc(), 1);
     assert!(&rt; keeps_limits(rt.alloc(), &mut types)?);
+    assert!(&rt; replaces_a_memory(rt.alloc(), &mut types)?);
     Ok(())
 }
 
