@@ -41,6 +41,10 @@ pub record IsComparing (ps : List Pair) (c d : Collection) (k : Compared) (w : W
   pub listed : w.parts.items ≡ []
   pub halt : IsHaltNoted c d w.halt (s ∷ reverse w.open.items)
 
+-- what is known is true once the pairs of a path are noted not to fit
+abbrev pub IsTrueOnceNoted : Collection → Collection → Compared → Compared → List WalkStep → Type 0
+IsTrueOnceNoted c d k k' ss = (r : EntryPair) → KnowsBut [] c d k ss → IsPathTo c d r ss → KnowsTruly c d k'
+
 -- it has come to an end: the pair that was asked about fits, or the open steps lead to one that
 -- doesn't, of which it is noted why, if no pair was known not to fit
 abbrev pub IsAnswered : List Pair → Collection → Collection → Compared → Walk → Bool → Type 0

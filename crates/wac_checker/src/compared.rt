@@ -6,11 +6,10 @@ ghost use Rattle.wac_component.specs.Collection.{Collection};
 ghost use Rattle.wac_component.specs.Key.{AllStand, item_keys};
 ghost use Rattle.wac_component.specs.Tree.{item_tree};
 ghost use Rattle.wac_checker.specs.Believed.{told};
-ghost use Rattle.wac_checker.specs.Compared.{IsAnswered, IsGoingOn, IsComparing, KnowsTruly, KnowsBut};
+ghost use Rattle.wac_checker.specs.Compared.{IsAnswered, IsGoingOn, IsComparing, IsTrueOnceNoted, KnowsTruly};
 ghost use Rattle.wac_checker.specs.Known.{pairs_of};
 ghost use Rattle.wac_checker_parts.specs.Pairs.{ArePairsOf, IsFitting, IsStanding};
-ghost use Rattle.wac_checker.specs.Walk.{IsPathTo, kept_pair};
-ghost use Rattle.wac_checker_parts.specs.declared.parts.EntryPair.{EntryPair};
+ghost use Rattle.wac_checker.specs.Walk.{kept_pair};
 
 use super::cache::{Believed, Kinds, is_believed};
 use super::known::Known;
@@ -117,7 +116,7 @@ impl Compared {
 
     // The pairs of steps don't fit.
     fn note(&mut self, sides: &Sides<'_>, steps: &[WalkStep]) -> Result<(), AllocError>
-        ensures { let c = sides.now.left.now in let d = sides.now.right.now in (r : EntryPair) → KnowsBut [] c d self.old (reverse steps.now) → IsPathTo c d r (reverse steps.now) → KnowsTruly c d self.new }
+        ensures { IsTrueOnceNoted sides.now.left.now sides.now.right.now self.old self.new (reverse steps.now) }
     {
         for i in 0..steps.len() {
             let step = steps[i];
